@@ -1,0 +1,32 @@
+-- Refusal 10: lent numbers that no build gives.
+use mathlib.Core.Bool.{Bool, not, _&&_, _||_}
+use mathlib.Core.List.{List}
+use Prim.Native.Nat.{ℕ, _+_, _^_}
+use lib.Dec.{leb}
+use lib.IntN.{ℤ, pos, natAbs}
+use lib.Signed.{leZ}
+use Rattle.whole.specs.Sums.{sumN, any}
+use Rattle.whole.specs.Packed.{tri, cell, entry}
+use Rattle.paper.specs.Factor.{small}
+use Rattle.paper.specs.Building.{Slices}
+
+-- the magnitudes of the full row i, both sides of the diagonal
+unfoldable pub rowSize : ℕ → List ℤ → ℕ → ℕ
+rowSize n xs i = sumN n (λ j. natAbs (entry xs i j))
+
+unfoldable pub heavy : ℕ → List ℤ → Bool
+heavy n xs = any n (λ i. not (leb (rowSize n xs i) (2 ^ 33)))
+
+-- d within 16..2^38
+abbrev pub pivot : ℤ → Bool
+pivot d = leZ (pos 16) d && small 38 d
+
+-- row i of a factor: an l or the d out of bounds
+unfoldable pub badRow : List ℤ → ℕ → Bool
+badRow xs i = any i (λ j. not (small 24 (cell xs (tri i + j)))) || not (pivot (cell xs (tri i + i)))
+
+unfoldable pub noFactor : ℕ → List ℤ → Bool
+noFactor n xs = any n (badRow xs)
+
+unfoldable pub foreign : ℕ → Slices → Bool
+foreign n s = heavy n (s .p) || heavy n (s .a) || noFactor n (s .factor)

@@ -1,0 +1,78 @@
+-- "The deck": a card's 42 bytes (a letter, five fields of 8 columns, a newline), read and written.
+use mathlib.Core.Bool.{Bool, true, false, not, cond, _&&_, _||_}
+use mathlib.Core.List.{List, [], _∷_, _++_}
+use Prim.Native.Nat.{ℕ, zero, suc, _+_, _-_, _*_, _/_, _%_}
+use lib.Dec.{ltb, leb, eqb}
+use lib.ListN.{length, getD, take, drop, set, replicate}
+use Rattle.paper.specs.Cards.{kindOf, letterOf, used}
+use Rattle.paper.specs.declared.Field.{Field}
+use Rattle.paper.specs.declared.Field.the-variants.{Number, Malformed}
+
+-- digits, read on from v
+unfoldable pub digits : ℕ → List ℕ → Field
+digits v [] = Number v
+digits v (b ∷ s) = cond (leb 48 b && leb b 57) (digits (v * 10 + (b - 48)) s) Malformed
+
+-- "0" for zero: nothing after it
+unfoldable pub alone : List ℕ → Field
+alone [] = Number 0
+alone (b ∷ s) = Malformed
+
+-- a used field: blanks, then a decimal number with no leading zero
+unfoldable pub number : List ℕ → Field
+number [] = Malformed
+number (b ∷ s) = cond (eqb b 32) (number s) (cond (eqb b 48) (alone s) (digits 0 (b ∷ s)))
+
+-- an unused field: blanks; its number in the table is 0
+unfoldable pub blank : List ℕ → Field
+blank [] = Number 0
+blank (b ∷ s) = cond (eqb b 32) (blank s) Malformed
+
+-- the column of a number's last digit; blank where no number is left
+abbrev pub column : ℕ → ℕ
+column n = cond (eqb n 0) 32 (48 + n % 10)
+
+-- w columns for the digits of n, blank where n has none, and then s
+unfoldable pub columns : ℕ → ℕ → List ℕ → List ℕ
+columns zero n s = s
+columns (suc w) n s = columns w (n / 10) (column n ∷ s)
+
+-- a number in 8 columns
+unfoldable pub printed : ℕ → List ℕ
+printed n = columns 7 (n / 10) ((48 + n % 10) ∷ [])
+
+-- field k of a card's bytes, counted from 0; u fields are used
+unfoldable pub fieldOf : ℕ → List ℕ → ℕ → Field
+fieldOf u b k = cond (ltb k u) (number (take 8 (drop (1 + k * 8) b))) (blank (take 8 (drop (1 + k * 8) b)))
+
+-- what a malformed card reads as: its letter is none
+abbrev pub noCard : List ℕ
+noCard = 0 ∷ 0 ∷ 0 ∷ 0 ∷ 0 ∷ 0 ∷ []
+
+-- n fields from field k on, put into the card
+abbrev pub putField : List ℕ → ℕ → Field → (List ℕ → List ℕ) → List ℕ
+putField card k (Number v) rest = rest (set card (suc k) v)
+putField card k Malformed rest = noCard
+
+unfoldable pub fieldsFrom : ℕ → List ℕ → ℕ → ℕ → List ℕ → List ℕ
+fieldsFrom u b zero k card = card
+fieldsFrom u b (suc n) k card = putField card k (fieldOf u b k) (fieldsFrom u b n (suc k))
+
+-- a card's bytes as its six numbers
+unfoldable pub cardOf : List ℕ → List ℕ
+cardOf b =
+    cond (eqb (used (kindOf (getD b 0 0))) 0 || not (eqb (getD b 41 0) 10)) noCard
+    (fieldsFrom (used (kindOf (getD b 0 0))) b 5 0 (getD b 0 0 ∷ 0 ∷ 0 ∷ 0 ∷ 0 ∷ 0 ∷ []))
+
+-- field k with the number n, as bytes
+unfoldable pub textField : ℕ → ℕ → ℕ → List ℕ
+textField u k n = cond (ltb k u) (printed n) (replicate 8 32)
+
+-- n fields from field k on, as bytes
+unfoldable pub textFrom : ℕ → List ℕ → ℕ → ℕ → List ℕ
+textFrom u card zero k = []
+textFrom u card (suc n) k = textField u k (getD card (suc k) 0) ++ textFrom u card n (suc k)
+
+-- a card's six numbers as its bytes
+unfoldable pub textOf : List ℕ → List ℕ
+textOf card = letterOf (kindOf (getD card 0 0)) ∷ textFrom (used (kindOf (getD card 0 0))) card 5 0 ++ (10 ∷ [])

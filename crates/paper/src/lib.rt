@@ -1,0 +1,95 @@
+// The types that document 01 names.
+ghost use mathlib.Core.Path.{_≡_};
+ghost use Prim.Native.Nat.{_*_, _≤_};
+ghost use Rattle.paper.specs.Ticks.{kelvin, onScale};
+
+// Three kinds of count, as on the cards. None is taken for another.
+pub struct Node(pub u8);
+
+pub struct Element(pub u8);
+
+pub struct Material(pub u8);
+
+// A temperature.
+pub struct Ticks(pub u32);
+
+impl Ticks {
+    pub const KELVIN: u32 = 65_536;
+
+    pub const TOP: u32 = 33_554_432;
+
+    pub fn on_scale(x: i64) -> bool
+        ensures { λ r. ⌜ r ≡ onScale x ⌝ }
+    {
+        0 <= x && x <= Ticks::TOP as i64
+    }
+
+    pub fn kelvins(k: u32) -> Ticks
+        requires { ⌜ k ≤ 512 ⌝ }
+        ensures { λ r. ⌜ r .0 ≡ k * kelvin ⌝ }
+    {
+        Ticks(k * Ticks::KELVIN)
+    }
+}
+
+// A card's letter.
+pub enum Kind {
+    D,
+    N,
+    M,
+    E,
+    H,
+    F,
+    T,
+    Z,
+    Other,
+}
+
+// What Z counts.
+pub struct Counts {
+    pub nodes: u32,
+    pub materials: u32,
+    pub elements: u32,
+    pub loads: u32,
+}
+
+// What a field of 8 columns reads as.
+pub enum Field {
+    Number(u32),
+    Malformed,
+}
+
+// A row of the paper's table of refusals, with its place where it has one.
+pub enum Refusal {
+    Length,
+    Trailer,
+    Form(u32),
+    Range(u32),
+    Flat(u32),
+    Stiff(u32),
+    Pivot(u32),
+    Bound(u32),
+    Short,
+    Foreign,
+    OffScale(u32),
+    Unsettled(u32),
+    Replacement(u32),
+}
+
+// What read, write, build and replace answer.
+pub enum Answer {
+    Done,
+    Refused(Refusal),
+}
+
+// What a step answers: the count of corrections, or a refusal.
+pub enum Stepped {
+    Settled(u32),
+    Refused(Refusal),
+}
+
+// What a run answers: the steps done, or the refusal that ended it.
+pub enum Ran {
+    Finished(u32),
+    Refused(Refusal),
+}

@@ -1,0 +1,10 @@
+-- The laws that every other crate cites.
+pub mod Signs
+pub mod Linear
+pub mod Calc
+pub mod Ring
+pub mod Nearest
+pub mod Close
+pub mod Fill
+pub mod Sums
+pub mod Packed

@@ -1,0 +1,82 @@
+-- Laws of nearestN and nearest.
+-- Assumes nothing.
+use mathlib.Core.Path.{_≡_, refl, sym, ap, subst, _∙_}
+use Prim.Native.Nat.{ℕ, zero, suc, _+_, _*_, _-_, _/_, _%_, _^_, _≤_, _<_}
+use native.Mathlib.Nat.{mul-le-mul, mul-left-comm, div-add-mod, mul-add, zero-mul, mul-zero, le-mul-of-pos-right, div-lt-iff-lt-mul, div-zero, suc-mul, le-of-suc-le-suc}
+use native.Mathlib.Omega.{arith}
+use lib.IntN.{ℤ, pos, negsuc, negℤ, natAbs, _*ℤ_, negℤ-negℤ}
+use lib.Signed.{_<ℤ_, ltZ}
+use lib.Dec.{T, ltb→lt}
+use mathlib.Core.Bool.{true, false}
+use borrow.Author.Tests.{ltb-true}
+use mir.Syntax.{w64}
+use mir.Val.{SFits}
+use Rattle.whole.specs.Nearest.{signed, nearestN, nearest}
+use Rattle.whole.proofs.Signs.{signed-size, natAbs-times}
+
+-- the nearest is no larger than the dividend
+pub nearestN-le : (a b : ℕ) → 0 < b → nearestN a b ≤ a
+unfolding nearestN
+nearestN-le a b h =
+    let k : 0 < 2 * b = omega arith in
+    let small : 2 * a + b < suc a * (2 * b) = omega (arith, suc-mul a (2 * b), mul-left-comm a 2 b, le-mul-of-pos-right a h) in
+    le-of-suc-le-suc (div-lt-iff-lt-mul k .1 small)
+
+pub nearest-size : (a : ℤ) (q : ℕ) → natAbs (nearest a q) ≡ nearestN (natAbs a) q
+unfolding nearest
+nearest-size a q = signed-size a (nearestN (natAbs a) q)
+
+pub above-zero : {b : ℤ} → pos 0 <ℤ b → 0 < natAbs b
+above-zero {b = pos n} h = ltb→lt 0 n (h .lt)
+above-zero {b = negsuc n} h = absurd (h .lt)
+
+pub above-zero-size : {b : ℤ} → pos 0 <ℤ b → SFits w64 b → natAbs b < 2 ^ 63
+above-zero-size {b = pos n} h f = f .sfits
+above-zero-size {b = negsuc n} h f = absurd (h .lt)
+
+-- a * b / 2^20, by the high and the low part of b, none of which passes the product of a and b's high part
+pub nearest-split : (a b : ℕ) → a * (b / 1048576) + (a * (b % 1048576) + 524288) / 1048576 ≡ nearestN (a * b) (2 ^ 20)
+unfolding nearestN
+nearest-split a b =
+    let e : a * b ≡ 1048576 * (a * (b / 1048576)) + a * (b % 1048576) =
+    ap (λ (x : ℕ). a * x) (sym (div-add-mod b 1048576)) ∙ mul-add a _ _ ∙ ap (λ (x : ℕ). x + a * (b % 1048576)) (mul-left-comm a 1048576 _) in
+    omega (arith, e)
+
+-- 0 / b is 0
+pub nearest-zero : (a b : ℕ) → 0 < b → a ≡ 0 → nearestN a b ≡ 0
+nearest-zero a b h e = omega (arith, nearestN-le a b h)
+
+-- y's sign put on signed l n
+abbrev pub flipBy : ℤ → ℤ → ℤ
+flipBy (pos b) z = z
+flipBy (negsuc b) z = negℤ z
+
+signed-zero : (z : ℤ) → signed z 0 ≡ pos 0
+signed-zero (pos n) = refl
+signed-zero (negsuc n) = refl
+
+signed-neg-pos : (p n : ℕ) → (p ≡ 0 → n ≡ 0) → negℤ (pos n) ≡ signed (negℤ (pos p)) n
+signed-neg-pos zero n h = ap (λ (k : ℕ). negℤ (pos k)) (h refl) ∙ ap pos (sym (h refl))
+signed-neg-pos (suc p) n h = refl
+
+pub signed-times : (l y : ℤ) (n : ℕ) → (natAbs l * natAbs y ≡ 0 → n ≡ 0) → flipBy y (signed l n) ≡ signed (l *ℤ y) n
+signed-times (pos a) (pos b) n h = refl
+signed-times (pos a) (negsuc b) n h = signed-neg-pos (a * suc b) n h
+signed-times (negsuc a) (pos b) n h = signed-neg-pos (suc a * b) n h
+signed-times (negsuc a) (negsuc b) n h = negℤ-negℤ (pos n)
+
+pub flip-neg : (y z : ℤ) → ltZ y (pos 0) ≡ true → negℤ z ≡ flipBy y z
+flip-neg (pos b) z e = let h = ltb-true b 0 e in absurd (omega arith)
+flip-neg (negsuc b) z e = refl
+
+pub flip-pos : (y z : ℤ) → ltZ y (pos 0) ≡ false → z ≡ flipBy y z
+flip-pos (pos b) z e = refl
+flip-pos (negsuc b) z e = absurd (subst T e tt)
+
+-- the size of a scaled product, from those of the factors
+product-size : (a b : ℕ) → a ≤ 2 ^ 24 → b ≤ 2 ^ 38 → nearestN (a * b) (2 ^ 20) ≤ 2 ^ 42
+unfolding nearestN
+product-size a b h k = let p : a * b ≤ 2 ^ 62 = mul-le-mul {n₂ = 2 ^ 24} {m₂ = 2 ^ 38} h k in omega arith
+
+pub scaled-size : (l y : ℤ) → natAbs l ≤ 2 ^ 24 → natAbs y ≤ 2 ^ 38 → natAbs (nearest (l *ℤ y) (2 ^ 20)) ≤ 2 ^ 42
+scaled-size l y h k = rw (nearest-size, natAbs-times) (product-size (natAbs l) (natAbs y) h k)

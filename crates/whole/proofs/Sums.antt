@@ -1,0 +1,234 @@
+-- Laws of sums, of tests over 0, .., n - 1, and of tables.
+use mathlib.Core.Path.{_≡_, refl, sym, ap, subst, _∙_}
+use mathlib.Core.Bool.{Bool, true, false, cond, _||_, true≢false}
+use mathlib.Core.Logic.{⊎-elim}
+use mathlib.Core.List.{List, [], _∷_, _++_, append-assoc, append-nil}
+use Prim.Native.Nat.{ℕ, zero, suc, _+_, _-_, _*_, _≤_, _<_}
+use native.Mathlib.Nat.{eq-or-lt-of-le, le-of-suc-le-suc, add-mul, suc-mul}
+use native.Mathlib.Decide.{ℕ-discrete}
+use native.Mathlib.Numerals.{add-one}
+use native.Mathlib.Omega.{arith}
+use lib.Dec.{eqb}
+use lib.IntN.{ℤ, pos, natAbs, _+ℤ_, _-ℤ_, +ℤ-idl, +ℤ-idr}
+use lib.ListN.{length, getD, set, drop, length-append, List·getD-append, drop-of-length-le}
+use lib.Seq.{getD-at, set-at, drop-cons}
+use borrow.Author.Tests.{eq-eqb, ne-eqb}
+use Rattle.whole.specs.Sums.{sum, sumN, any, firstFrom, table}
+use Rattle.whole.specs.Packed.{cell}
+use Rattle.whole.proofs.Signs.{natAbs-plus}
+use Rattle.whole.proofs.Linear.{zarith, plusL, minusL}
+
+-- ---- sums
+
+pub sum-ext : (n : ℕ) (f g : ℕ → ℤ) → ((k : ℕ) → k < n → f k ≡ g k) → sum n f ≡ sum n g
+unfolding sum
+sum-ext zero f g h = refl
+sum-ext (suc n) f g h = λ i. sum-ext n f g (λ k l. h k (omega arith)) i +ℤ h n (omega arith) i
+
+-- one more term, as a loop has it
+pub sum-more : (n : ℕ) (f : ℕ → ℤ) → sum (n + 1) f ≡ sum n f +ℤ f n
+unfolding sum
+sum-more n f = rw add-one
+
+pub sum-plus : (n : ℕ) (f g : ℕ → ℤ) → sum n (λ k. f k +ℤ g k) ≡ sum n f +ℤ sum n g
+unfolding sum
+sum-plus zero f g = refl
+sum-plus (suc n) f g = ap (λ (z : ℤ). z +ℤ (f n +ℤ g n)) (sum-plus n f g) ∙ four (sum n f) (sum n g) (f n) (g n)
+  where
+    four : (a b x y : ℤ) → a +ℤ b +ℤ (x +ℤ y) ≡ a +ℤ x +ℤ (b +ℤ y)
+    four a b x y = omega (zarith, plusL a b, plusL x y, plusL (a +ℤ b) (x +ℤ y), plusL a x, plusL b y, plusL (a +ℤ x) (b +ℤ y))
+
+pub sum-minus : (n : ℕ) (f g : ℕ → ℤ) → sum n (λ k. f k -ℤ g k) ≡ sum n f -ℤ sum n g
+unfolding sum
+sum-minus zero f g = refl
+sum-minus (suc n) f g = ap (λ (z : ℤ). z +ℤ (f n -ℤ g n)) (sum-minus n f g) ∙ four (sum n f) (sum n g) (f n) (g n)
+  where
+    four : (a b x y : ℤ) → a -ℤ b +ℤ (x -ℤ y) ≡ a +ℤ x -ℤ (b +ℤ y)
+    four a b x y = omega (zarith, minusL a b, minusL x y, plusL (a -ℤ b) (x -ℤ y), plusL a x, plusL b y, minusL (a +ℤ x) (b +ℤ y))
+
+pub sum-none : (n : ℕ) (f : ℕ → ℤ) → ((k : ℕ) → k < n → f k ≡ pos 0) → sum n f ≡ pos 0
+unfolding sum
+sum-none zero f h = refl
+sum-none (suc n) f h = λ i. sum-none n f (λ k l. h k (omega arith)) i +ℤ h n (omega arith) i
+
+pub sum-zero : (n : ℕ) → sum n (λ k. pos 0) ≡ pos 0
+sum-zero n = sum-none n (λ k. pos 0) (λ k l. refl)
+
+-- all terms but one are 0
+pub sum-single : (n i : ℕ) (f : ℕ → ℤ) → i < n → ((k : ℕ) → k < n → (k ≡ i → ⊥) → f k ≡ pos 0) → sum n f ≡ f i
+unfolding sum
+sum-single zero i f h z = absurd (omega arith)
+sum-single (suc n) i f h z =
+    ⊎-elim
+    (λ e. (λ k. sum-none n f (λ j l. z j (omega arith) (λ q. omega arith)) k +ℤ f n) ∙ +ℤ-idl (f n) ∙ ap f (sym e))
+    (λ l. (λ k. sum-single n i f l (λ j m q. z j (omega arith) q) k +ℤ z n (omega arith) (λ q. omega arith) k) ∙ +ℤ-idr (f i))
+    (eq-or-lt-of-le (le-of-suc-le-suc h))
+
+pub sum-swap : (n m : ℕ) (f : ℕ → ℕ → ℤ) → sum n (λ a. sum m (λ b. f a b)) ≡ sum m (λ b. sum n (λ a. f a b))
+unfolding sum
+sum-swap zero m f = sym (sum-zero m)
+sum-swap (suc n) m f = ap (λ (z : ℤ). z +ℤ sum m (λ b. f n b)) (sum-swap n m f) ∙ sym (sum-plus m (λ b. sum n (λ a. f a b)) (λ b. f n b))
+
+last-changed : (a f g : ℤ) → a +ℤ g ≡ a +ℤ f +ℤ (g -ℤ f)
+last-changed a f g = omega (zarith, plusL a g, plusL a f, minusL g f, plusL (a +ℤ f) (g -ℤ f))
+
+past : (a d f : ℤ) → a +ℤ d +ℤ f ≡ a +ℤ f +ℤ d
+past a d f = omega (zarith, plusL a d, plusL (a +ℤ d) f, plusL a f, plusL (a +ℤ f) d)
+
+-- one term changed: new minus old
+pub sum-change : (n e : ℕ) (f g : ℕ → ℤ) → e < n → ((k : ℕ) → k < n → (k ≡ e → ⊥) → g k ≡ f k) → sum n g ≡ sum n f +ℤ (g e -ℤ f e)
+unfolding sum
+sum-change zero e f g l h = absurd (omega arith)
+sum-change (suc n) e f g l h = go (ℕ-discrete e n) (λ q. sum-change n e f g q (λ k r. h k (omega arith)))
+  where
+    go : Dec (e ≡ n) → (e < n → sum n g ≡ sum n f +ℤ (g e -ℤ f e)) → sum n g +ℤ g n ≡ sum n f +ℤ f n +ℤ (g e -ℤ f e)
+    go (yes q) ih =
+        let same : sum n g ≡ sum n f = sum-ext n g f (λ k r. h k (omega arith) (λ z. omega arith)) in
+        rw (q, same) (last-changed (sum n f) (f n) (g n))
+    go (no q) ih =
+        let q′ : e ≡ n → ⊥ = q in
+        let new : g n ≡ f n = h n (omega arith) (λ z. q (sym z)) in
+        rw (ih (omega arith), new) (past (sum n f) (g e -ℤ f e) (f n))
+
+-- ---- sums of sizes
+
+pub sumN-ext : (n : ℕ) (f g : ℕ → ℕ) → ((k : ℕ) → k < n → f k ≡ g k) → sumN n f ≡ sumN n g
+unfolding sumN
+sumN-ext zero f g h = refl
+sumN-ext (suc n) f g h = λ i. sumN-ext n f g (λ k l. h k (omega arith)) i + h n (omega arith) i
+
+pub sumN-more : (n : ℕ) (f : ℕ → ℕ) → sumN (n + 1) f ≡ sumN n f + f n
+unfolding sumN
+sumN-more n f = rw add-one
+
+pub sumN-mono : (n : ℕ) (f g : ℕ → ℕ) → ((k : ℕ) → k < n → f k ≤ g k) → sumN n f ≤ sumN n g
+unfolding sumN
+sumN-mono zero f g h = omega arith
+sumN-mono (suc n) f g h = omega (arith, sumN-mono n f g (λ k l. h k (omega arith)), h n (omega arith))
+
+pub sumN-plus : (n : ℕ) (f g : ℕ → ℕ) → sumN n (λ k. f k + g k) ≡ sumN n f + sumN n g
+unfolding sumN
+sumN-plus zero f g = refl
+sumN-plus (suc n) f g = omega (arith, sumN-plus n f g)
+
+pub sumN-none : (n : ℕ) (f : ℕ → ℕ) → ((k : ℕ) → k < n → f k ≡ 0) → sumN n f ≡ 0
+unfolding sumN
+sumN-none zero f h = refl
+sumN-none (suc n) f h = omega (arith, sumN-none n f (λ k l. h k (omega arith)), h n (omega arith))
+
+pub sumN-zero : (n : ℕ) → sumN n (λ k. 0) ≡ 0
+sumN-zero n = sumN-none n (λ k. 0) (λ k l. refl)
+
+pub sumN-single : (n i : ℕ) (f : ℕ → ℕ) → i < n → ((k : ℕ) → k < n → (k ≡ i → ⊥) → f k ≡ 0) → sumN n f ≡ f i
+unfolding sumN
+sumN-single zero i f h z = absurd (omega arith)
+sumN-single (suc n) i f h z =
+    ⊎-elim
+    (λ e. omega (arith, sumN-none n f (λ j l. z j (omega arith) (λ q. omega arith)), ap f e))
+    (λ l. omega (arith, sumN-single n i f l (λ j m q. z j (omega arith) q), z n (omega arith) (λ q. omega arith)))
+    (eq-or-lt-of-le (le-of-suc-le-suc h))
+
+pub sumN-swap : (n m : ℕ) (f : ℕ → ℕ → ℕ) → sumN n (λ a. sumN m (λ b. f a b)) ≡ sumN m (λ b. sumN n (λ a. f a b))
+unfolding sumN
+sumN-swap zero m f = sym (sumN-zero m)
+sumN-swap (suc n) m f = ap (λ (z : ℕ). z + sumN m (λ b. f n b)) (sumN-swap n m f) ∙ sym (sumN-plus m (λ b. sumN n (λ a. f a b)) (λ b. f n b))
+
+-- the first k of n, and one of them
+pub sumN-upto : (f : ℕ → ℕ) (k n : ℕ) → k ≤ n → sumN k f ≤ sumN n f
+unfolding sumN
+sumN-upto f k zero h = let e : k ≡ 0 = omega arith in rw e (omega arith)
+sumN-upto f k (suc n) h =
+    ⊎-elim (λ e. rw e (omega arith)) (λ l. omega (arith, sumN-upto f k n (le-of-suc-le-suc l))) (eq-or-lt-of-le h)
+
+pub sumN-one : (f : ℕ → ℕ) (k n : ℕ) → k < n → f k ≤ sumN n f
+unfolding sumN
+sumN-one f k n h = omega (arith, sumN-upto f (suc k) n h)
+
+-- ---- the size of a sum
+
+pub abs-sum : (n : ℕ) (f : ℕ → ℤ) → natAbs (sum n f) ≤ sumN n (λ k. natAbs (f k))
+unfolding sum sumN
+abs-sum zero f = omega arith
+abs-sum (suc n) f = omega (arith, abs-sum n f, natAbs-plus (sum n f) (f n))
+
+-- each term at most c times a size, or at most c
+pub sum-size : (n : ℕ) (f : ℕ → ℤ) (g : ℕ → ℕ) (c : ℕ) → ((k : ℕ) → k < n → natAbs (f k) ≤ g k * c) → natAbs (sum n f) ≤ sumN n g * c
+unfolding sum sumN
+sum-size zero f g c h = omega arith
+sum-size (suc n) f g c h =
+    omega (arith, natAbs-plus (sum n f) (f n), sum-size n f g c (λ k l. h k (omega arith)), h n (omega arith), add-mul (sumN n g) (g n) c)
+
+pub sum-size-each : (n : ℕ) (f : ℕ → ℤ) (c : ℕ) → ((k : ℕ) → k < n → natAbs (f k) ≤ c) → natAbs (sum n f) ≤ n * c
+unfolding sum
+sum-size-each zero f c h = omega arith
+sum-size-each (suc n) f c h =
+    omega (arith, natAbs-plus (sum n f) (f n), sum-size-each n f c (λ k l. h k (omega arith)), h n (omega arith), suc-mul n c)
+
+-- ---- tests
+
+pub any-ext : (n : ℕ) (f g : ℕ → Bool) → ((k : ℕ) → k < n → f k ≡ g k) → any n f ≡ any n g
+unfolding any
+any-ext zero f g h = refl
+any-ext (suc n) f g h = λ i. any-ext n f g (λ k l. h k (omega arith)) i || h n (omega arith) i
+
+pub any-none : (n : ℕ) (f : ℕ → Bool) → ((k : ℕ) → k < n → f k ≡ false) → any n f ≡ false
+unfolding any
+any-none zero f h = refl
+any-none (suc n) f h = rw (any-none n f (λ k l. h k (omega arith)), h n (omega arith))
+
+pub any-one : (n : ℕ) (f : ℕ → Bool) (k : ℕ) → k < n → f k ≡ true → any n f ≡ true
+unfolding any
+any-one zero f k l e = absurd (omega arith)
+any-one (suc n) f k l e =
+    ⊎-elim (λ q. last (any n f) (f n) (ap f (sym q) ∙ e)) (λ m. ap (λ (b : Bool). b || f n) (any-one n f k m e)) (eq-or-lt-of-le (le-of-suc-le-suc l))
+  where
+    last : (x y : Bool) → y ≡ true → x || y ≡ true
+    last true y e = refl
+    last false y e = e
+
+pub any-each : (n : ℕ) (f : ℕ → Bool) → any n f ≡ false → (k : ℕ) → k < n → f k ≡ false
+any-each n f e k l = go (f k) refl
+  where
+    go : (b : Bool) → f k ≡ b → f k ≡ false
+    go false q = q
+    go true q = absurd (true≢false (sym (any-one n f k l q) ∙ e))
+
+-- ---- tables
+
+pub table-length : (n : ℕ) (f : ℕ → ℤ) → length (table n f) ≡ n
+unfolding table
+table-length zero f = refl
+table-length (suc n) f = length-append (table n f) (f n ∷ []) ∙ omega (arith, table-length n f)
+
+pub table-at : (n i : ℕ) (f : ℕ → ℤ) → i < n → cell (table n f) i ≡ f i
+unfolding table
+table-at zero i f h = absurd (omega arith)
+table-at (suc n) i f h =
+    ⊎-elim
+    (λ e. ap (cell (table n f ++ f n ∷ [])) e ∙ getD-at (table n f) (f n) [] (pos 0) n (table-length n f) ∙ ap f (sym e))
+    (λ l. List·getD-append (table n f) (f n ∷ []) (pos 0) i (omega (arith, table-length n f)) ∙ table-at n i f l)
+    (eq-or-lt-of-le (le-of-suc-le-suc h))
+
+pub table-ext : (n : ℕ) (f g : ℕ → ℤ) → ((k : ℕ) → k < n → f k ≡ g k) → table n f ≡ table n g
+unfolding table
+table-ext zero f g h = refl
+table-ext (suc n) f g h = λ i. table-ext n f g (λ k l. h k (omega arith)) i ++ h n (omega arith) i ∷ []
+
+-- a list that is filled from the front
+abbrev pub filled : (ℕ → ℤ) → List ℤ → ℕ → List ℤ
+filled f s i = table i f ++ drop i s
+
+pub filled-none : (f : ℕ → ℤ) (s : List ℤ) → s ≡ filled f s 0
+unfolding table
+filled-none f s = refl
+
+pub filled-more : (f : ℕ → ℤ) (s : List ℤ) (i : ℕ) → i < length s → set (filled f s i) i (f i) ≡ filled f s (i + 1)
+unfolding table
+filled-more f s i h =
+    ap (λ (d : List ℤ). set (table i f ++ d) i (f i)) (drop-cons s i (pos 0) h)
+    ∙ set-at (table i f) (cell s i) (drop (suc i) s) (f i) i (table-length i f)
+    ∙ sym (append-assoc (table i f) (f i ∷ []) (drop (suc i) s))
+    ∙ ap (λ (k : ℕ). filled f s k) (sym (add-one i))
+
+pub filled-end : (f : ℕ → ℤ) (s : List ℤ) (n : ℕ) → length s ≡ n → filled f s n ≡ table n f
+filled-end f s n e = ap (λ (d : List ℤ). table n f ++ d) (drop-of-length-le s {i = n} (omega arith)) ∙ append-nil (table n f)
