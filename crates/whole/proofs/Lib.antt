@@ -6,5 +6,6 @@ pub mod Ring
 pub mod Nearest
 pub mod Close
 pub mod Fill
+pub mod Tests
 pub mod Sums
 pub mod Packed
