@@ -5,3 +5,5 @@ pub mod Decks
 pub mod Letters
 pub mod Tables
 pub mod Judged
+pub mod Square
+pub mod Assembled
