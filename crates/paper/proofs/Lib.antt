@@ -7,3 +7,5 @@ pub mod Tables
 pub mod Judged
 pub mod Square
 pub mod Assembled
+pub mod Update
+pub mod Finished
