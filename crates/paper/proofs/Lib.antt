@@ -9,3 +9,5 @@ pub mod Square
 pub mod Assembled
 pub mod Update
 pub mod Finished
+pub mod Sizes
+pub mod Elements
