@@ -11,3 +11,6 @@ pub mod Update
 pub mod Finished
 pub mod Sizes
 pub mod Elements
+pub mod Weights
+pub mod Built
+pub mod Lent
