@@ -14,3 +14,4 @@ pub mod Elements
 pub mod Weights
 pub mod Built
 pub mod Lent
+pub mod Changed
