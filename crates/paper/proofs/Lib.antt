@@ -15,3 +15,5 @@ pub mod Weights
 pub mod Built
 pub mod Lent
 pub mod Changed
+pub mod NewCard
+pub mod Replaced
