@@ -17,3 +17,5 @@ pub mod Lent
 pub mod Changed
 pub mod NewCard
 pub mod Replaced
+pub mod Demand3
+pub mod Calls
