@@ -8,7 +8,7 @@ use native.Mathlib.Omega.{arith}
 use borrow.Author.Tests.{leb-true, le-leb}
 use lib.Dec.{eqb, leb}
 use lib.IntN.{ℤ, pos}
-use lib.ListN.{length, take, drop, replicate, length-append, length-replicate}
+use lib.ListN.{length, take, drop, replicate, length-append, length-replicate, take-append-drop}
 use lib.Seq.{take-at, drop-at, take-append-le}
 use Rattle.whole.specs.Packed.{tri}
 use Rattle.whole.proofs.Tests.{and-told}
@@ -32,7 +32,7 @@ use Rattle.paper.proofs.Changed.{nodes-same}
 use Rattle.paper.proofs.Built.{Own, own, Sized, sized}
 use Rattle.paper.proofs.Lent.{own-pass}
 use Rattle.paper.proofs.Replaced.{least}
-use Rattle.paper.proofs.Demand3.{replacing-is-building, own-rows-stay}
+use Rattle.paper.proofs.Demand3.{replacing-is-building, own-rows-stay, least-low}
 
 -- ---- what is written over the slices, and read of them again
 
@@ -65,6 +65,11 @@ enough-told t z e = and-told (roomy t (z .p) && roomy t (z .a) && roomy t (z .fa
 enough-other : (t : List ℕ) (z : Lent) (w : List ℤ) → enough t z ≡ true → roomy t w ≡ true → enough t (record { p = z .p; a = z .a; factor = z .factor; work = w }) ≡ true
 unfolding enough
 enough-other t z w e k = rw (enough-told t z e .0, k)
+
+-- what of the factor is read through its front
+front-take : (t : List ℕ) (z : Lent) (k : ℕ) → k ≤ length (cut t z .factor) → take k (cut t z .factor) ≡ take k (z .factor)
+unfolding cut
+front-take t z k h = sym (take-append-le k (front t (z .factor)) (drop (long t) (z .factor)) h) ∙ ap (take k) (take-append-drop (long t) (z .factor))
 
 answer-is : (t new : List ℕ) (b : Bool) (z : Lent) (o : Outcome Slices) → leaves t new b z o .answer ≡ answerOf o
 unfolding leaves
@@ -184,3 +189,99 @@ module _ (t : List ℕ) (z : Lent) (card : ℕ) (new : List ℕ) (six : length n
       subst (λ (o : Outcome Slices). Holds (put t c new) (leaves t (put t c new) b z o .lent)) (sym (m .outcome))
       (laid-holds (put t c new) (m .s) z (worked t b (z .work)) (stays t card new six (h .judge) (m .fit)) (m .built)
       (worked-enough t (long (put t c new)) b (z .work) n (rw n at work-room)))
+
+  -- THEOREM. An accepted E or F leaves the factor's rows above the least corner's as they were.
+  pub rows-untouched : replaceCall t z card new .answer ≡ Done → stirs t (card - 1) ≡ true
+      → take (tri (least t (card - 1) new)) (replaceCall t z card new .lent .factor) ≡ take (tri (least t (card - 1) new)) (z .factor)
+  unfolding replaceCall leaves
+  rows-untouched ok st =
+      let m = accepted ok in
+      let c = card - 1 in
+      let d = deck t (h .judge) in
+      let g = change t card new six (h .judge) (m .fit) in
+      let k = tri (least t c new) in
+      let own′ = sized t (cut t z) (own t (cut t z) (h .built)) in
+      let new-long : length (m .s .factor) ≡ long t = sized (put t c new) (m .s) (own (put t c new) (m .s) (m .built)) .longF ∙ ap tri (nodes-same t c new d g) in
+      let fits : k ≤ long t = tri-le (least t c new) (nodes t) (least-low t c new d g st) in
+      let rep : replaced t (cut t z) c new ≡ done (m .s) = replacing-is-building t c new (cut t z) d g (h .built) ∙ m .built in
+      ap (λ (o : Outcome Slices). take k (leaves t (put t c new) (stirs t c) z o .lent .factor)) (m .outcome)
+      ∙ take-append-le k (m .s .factor) (drop (length (m .s .factor)) (z .factor)) (omega arith)
+      ∙ own-rows-stay t c new (cut t z) (m .s) d g (h .built) st rep
+      ∙ front-take t z k (omega (arith, own′ .longF))
+
+-- ---- refused or not
+
+-- all but the work slice
+pub record Unchanged (t : List ℕ) (z : Lent) (x : Exit) : Type 0 where
+  pub table : x .table ≡ t
+  pub p : x .lent .p ≡ z .p
+  pub a : x .lent .a ≡ z .a
+  pub factor : x .lent .factor ≡ z .factor
+
+-- THEOREM. After a refused replacement, of any deck and any slices, nothing has changed but the work slice.
+pub refused-keeps : (t : List ℕ) (z : Lent) (card : ℕ) (new : List ℕ) (r : Refusal) → replaceCall t z card new .answer ≡ Refused r → Unchanged t z (replaceCall t z card new)
+unfolding replaceCall leaves
+refused-keeps t z card new r e = go (replaceOutcome t z card new) e
+  where
+    go : (o : Outcome Slices) → leaves t (put t (card - 1) new) (stirs t (card - 1)) z o .answer ≡ Refused r → Unchanged t z (leaves t (put t (card - 1) new) (stirs t (card - 1)) z o)
+    go (refused q) e = record { table = refl; p = refl; a = refl; factor = refl }
+    go (done s) e = done-refused (sym e)
+
+refused-holds : (t : List ℕ) (z : Lent) (card : ℕ) (new : List ℕ) (r : Refusal) → Holds t z → replaceOutcome t z card new ≡ refused r → Holds (replaceCall t z card new .table) (replaceCall t z card new .lent)
+unfolding replaceCall leaves cut
+refused-holds t z card new r h e =
+    let b = stirs t (card - 1) && inFactor r in
+    rw e
+    (record {
+      judge = h .judge;
+      room = enough-other t z (worked t b (z .work)) (h .room) (worked-enough t (long t) b (z .work) refl (enough-told t z (h .room) .1));
+      built = h .built;
+    })
+
+-- THEOREM. Whatever is asked of a replacement, and refused or not, the slices stay the own slices of the deck as it then is.
+pub replace-holds : (t : List ℕ) (z : Lent) (card : ℕ) (new : List ℕ) → length new ≡ 6 → Holds t z → Holds (replaceCall t z card new .table) (replaceCall t z card new .lent)
+replace-holds t z card new six h = go (replaceOutcome t z card new) refl
+  where
+    call : (s : Slices) → replaceOutcome t z card new ≡ done s → replaceCall t z card new .answer ≡ Done
+    call s e = unfold replaceCall in (answer-is t (put t (card - 1) new) (stirs t (card - 1)) z (replaceOutcome t z card new) ∙ ap answerOf e)
+
+    go : (o : Outcome Slices) → replaceOutcome t z card new ≡ o → Holds (replaceCall t z card new .table) (replaceCall t z card new .lent)
+    go (refused r) e = refused-holds t z card new r h e
+    go (done s) e =
+        subst (λ (t′ : List ℕ). Holds t′ (replaceCall t z card new .lent)) (sym (accepted-table t z card new six h (call s e)))
+        (accepted-holds t z card new six h (call s e))
+
+-- ---- any list of replacements
+
+pub record Asked : Type 0 where
+  pub card : ℕ
+  pub new : List ℕ
+  pub six : length new ≡ 6
+
+unfoldable pub afterAll : Exit → List Asked → Exit
+afterAll x [] = x
+afterAll x (q ∷ qs) = afterAll (replaceCall (x .table) (x .lent) (q .card) (q .new)) qs
+
+-- THEOREM. After any of them, refused ones too, the slices are those of a fresh build of the deck as it then is.
+pub all-hold : (x : Exit) (qs : List Asked) → Holds (x .table) (x .lent) → Holds (afterAll x qs .table) (afterAll x qs .lent)
+unfolding afterAll
+all-hold x [] h = h
+all-hold x (q ∷ qs) h = all-hold (replaceCall (x .table) (x .lent) (q .card) (q .new)) qs (replace-holds (x .table) (x .lent) (q .card) (q .new) (q .six) h)
+
+built-table : (t : List ℕ) (z : Lent) → buildCall t z .table ≡ t
+unfolding buildCall leaves
+built-table t z = go (buildOutcome t z)
+  where
+    go : (o : Outcome Slices) → leaves t t true z o .table ≡ t
+    go (refused r) = refl
+    go (done s) = refl
+
+-- THEOREM (demand 3). From an accepted build on, any list of replacements: a build of the present deck, over any fresh slices that are long enough,
+-- is accepted and gives the present P, A and factor.
+pub present : (t : List ℕ) (z : Lent) (qs : List Asked) (fresh : Lent) → buildCall t z .answer ≡ Done → enough (afterAll (buildCall t z) qs .table) fresh ≡ true
+    → (buildCall (afterAll (buildCall t z) qs .table) fresh .answer ≡ Done)
+    × (cut (afterAll (buildCall t z) qs .table) (buildCall (afterAll (buildCall t z) qs .table) fresh .lent) ≡ cut (afterAll (buildCall t z) qs .table) (afterAll (buildCall t z) qs .lent))
+present t z qs fresh ok far =
+    let x = buildCall t z in
+    let h : Holds (x .table) (x .lent) = subst (λ (t′ : List ℕ). Holds t′ (x .lent)) (sym (built-table t z)) (build-holds t z ok) in
+    fresh-build (afterAll x qs .table) (afterAll x qs .lent) fresh (all-hold x qs h) far

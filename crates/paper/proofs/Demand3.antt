@@ -9,7 +9,7 @@ use lib.IntN.{ℤ, pos, _-ℤ_}
 use lib.ListN.{length, take, drop}
 use lib.Seq.{take-at, length-take-le}
 use Rattle.whole.specs.Packed.{tri, lower, entry}
-use Rattle.whole.proofs.Tests.{cond-true, cond-false}
+use Rattle.whole.proofs.Tests.{never, cond-true, cond-false}
 use Rattle.whole.proofs.Packed.{tri-le}
 use Rattle.paper.specs.Refusals.{Outcome, refused, done, then, after}
 use Rattle.paper.specs.Cards.{letterOf, letter, nodes, materials, elements, elementRow, put}
@@ -68,25 +68,26 @@ rows-above-stay t c card s s′ h e =
     let (f, eR, e₂, k) = then-done (Kept (tri m) X) R _ s′ (rows-keep (tri m) (n - m) m X (omega arith)) e₁ in
     ap (λ (z : Slices). take (tri m) (z .factor)) (sym (done-inj e₂)) ∙ k .same ∙ take-at (take (tri m) (s .factor)) _ (tri m) (length-take-le (tri m) (s .factor) h)
 
+-- the element that an E or an F card touches
+touch : (t : List ℕ) (c : ℕ) (card : List ℕ) → Deck t → Change t c card → stirs t c ≡ true → Touch t c card
+touch t c card d g st = go (g .kind)
+  where
+    none : (l : ℕ) → letter t c ≡ l → eqb l (letterOf E) || eqb l (letterOf F) ≡ false → Touch t c card
+    none l q f = never (sym f ∙ ap (λ (x : ℕ). eqb x (letterOf E) || eqb x (letterOf F)) (sym q) ∙ st)
+
+    go : Replaceable (letter t c) → Touch t c card
+    go (element q) = touch-E t c card d g q
+    go (load (film q)) = touch-F t c card d g q
+    go (load (heat q)) = none 72 q refl
+    go (load (hold q)) = none 84 q refl
+
+pub least-low : (t : List ℕ) (c : ℕ) (card : List ℕ) → Deck t → Change t c card → stirs t c ≡ true → least t c card ≤ nodes t
+least-low t c card d g st = least-fits t c card d g (touch t c card d g st)
+
 -- THEOREM. So they do on the deck's own slices, for an E or an F card.
 pub own-rows-stay : (t : List ℕ) (c : ℕ) (card : List ℕ) (s s′ : Slices) → Deck t → Change t c card → build t ≡ done s → stirs t c ≡ true → replaced t s c card ≡ done s′
     → take (tri (least t c card)) (s′ .factor) ≡ take (tri (least t c card)) (s .factor)
 unfolding replaced
-own-rows-stay t c card s s′ d g b st e = go (g .kind)
-  where
-    o : Own t s
-    o = own t s b
-
-    by : Touch t c card → take (tri (least t c card)) (s′ .factor) ≡ take (tri (least t c card)) (s .factor)
-    by h =
-        rows-above-stay t c card s s′ (omega (arith, sized t s o .longF, tri-le (least t c card) (nodes t) (least-fits t c card d g s o h)))
-        (sym (cond-true (stirs t c) (redone t s c card) (done s) st) ∙ e)
-
-    no-load : (l : ℕ) → letter t c ≡ l → eqb l (letterOf E) || eqb l (letterOf F) ≡ false → take (tri (least t c card)) (s′ .factor) ≡ take (tri (least t c card)) (s .factor)
-    no-load l q f = absurd (let z : true ≡ false = sym st ∙ rw q f in (let y : _≡_ {A = ℕ} 0 1 = cc in omega arith))
-
-    go : Replaceable (letter t c) → take (tri (least t c card)) (s′ .factor) ≡ take (tri (least t c card)) (s .factor)
-    go (element q) = by (touch-E t c card d g q)
-    go (load (film q)) = by (touch-F t c card d g q)
-    go (load (heat q)) = no-load 72 q refl
-    go (load (hold q)) = no-load 84 q refl
+own-rows-stay t c card s s′ d g b st e =
+    rows-above-stay t c card s s′ (omega (arith, sized t s (own t s b) .longF, tri-le (least t c card) (nodes t) (least-low t c card d g st)))
+    (sym (cond-true (stirs t c) (redone t s c card) (done s) st) ∙ e)

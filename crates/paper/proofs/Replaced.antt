@@ -149,6 +149,18 @@ module _ (t : List ℕ) (c : ℕ) (card : List ℕ) (d : Deck t) (g : Change t c
       new : (i j : ℕ) → i < leastRow (put t c card) (elementRow t (field t c 1)) → addsA (put t c card) c i j ≡ pos 0
       new i j h = rw (letter-same t c card d g c, e, named-same t c card d g c (g .inside) e, ← its, spread-above (put t c card) (elementRow t (field t c 1)) _ i j h)
 
+  module _ (h : Touch t c card) where
+    pub least-fits : least t c card ≤ nodes t
+    unfolding leastRow
+    least-fits =
+        let e = elementOf (put t c card) c in
+        omega (
+          arith,
+          key-same t c card d g (elementRow (put t c card) e),
+          row-same t c card d g e,
+          rw (← row-same t c card d g e) at (d .corner (elementRow t e) (omega (arith, d .all, h .hi)) (d .isE e (h .lo) (h .hi)) 1 (omega arith) (omega arith) .1),
+        )
+
   -- ---- the slices
   module _ (s : Slices) (o : Own t s) where
     P-list : moved (nodes t) (s .p) (addsP (put t c card) c) (addsP t c) ≡ lower (nodes t) (P (put t c card))
@@ -172,35 +184,24 @@ module _ (t : List ℕ) (c : ℕ) (card : List ℕ) (d : Deck t) (g : Change t c
         ∙ lower-ext (nodes t) _ _ (λ i j l k. cond-same (fixed (put t c card) i || fixed (put t c card) j) _ _ _ _ (λ q. refl) (λ q. lower-at (nodes t) i j (A (put t c card)) l k))
 
     module _ (h : Touch t c card) where
-      pub least-fits : least t c card ≤ nodes t
-      unfolding leastRow
-      least-fits =
-          let e = elementOf (put t c card) c in
-          omega (
-            arith,
-            key-same t c card d g (elementRow (put t c card) e),
-            row-same t c card d g e,
-            rw (← row-same t c card d g e) at (d .corner (elementRow t e) (omega (arith, d .all, h .hi)) (d .isE e (h .lo) (h .hi)) 1 (omega arith) (omega arith) .1),
-          )
-
       A-above : (i j : ℕ) → i < least t c card → A (put t c card) i j ≡ A t i j
       A-above i j l = A-moved t c card d g i j ∙ ap (λ (z : ℤ). A t i j +ℤ z) (λ k. h .new0 i j l k -ℤ h .old0 i j l k) ∙ +ℤ-idr (A t i j)
 
       above : take (tri (least t c card)) (lower (nodes t) (A′ (put t c card))) ≡ take (tri (least t c card)) (lower (nodes t) (A′ t))
       unfolding cleared
       above =
-          lower-take (least t c card) (nodes t) _ least-fits
+          lower-take (least t c card) (nodes t) _ (least-fits h)
           ∙ lower-ext (least t c card) _ _ (λ i j l k. rw (fixed-same t c card d g i, fixed-same t c card d g j, A-above i j l))
-          ∙ sym (lower-take (least t c card) (nodes t) _ least-fits)
+          ∙ sym (lower-take (least t c card) (nodes t) _ (least-fits h))
 
       pub redone-is : build (put t c card) ≡ redone t s c card
       unfolding redone
       redone-is =
           let m = least t c card in
           let n = nodes t in
-          let z : m + (n - m) ≡ n = omega (arith, least-fits) in
+          let z : m + (n - m) ≡ n = omega (arith, least-fits h) in
           let B = lower n (A′ (put t c card)) in
-          let long : (f : ℕ → ℕ → ℤ) → tri m ≤ length (lower n f) = λ f. omega (arith, length-lower n f, tri-le m n least-fits) in
+          let long : (f : ℕ → ℕ → ℤ) → tri m ≤ length (lower n f) = λ f. omega (arith, length-lower n f, tri-le m n (least-fits h)) in
           let up = rw z at (update m (n - m) (n - m) (lower n (A′ t)) B (s .factor) (long _) (long _) above (rw z (o .factored))) in
           build-at (put t c card) n (elements t) (nodes-same t c card d g) (elements-same t c card d g)
           ∙ made _ _ _ _ _ _ _ _
