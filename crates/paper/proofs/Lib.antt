@@ -5,3 +5,4 @@ pub mod Decks
 pub mod Letters
 pub mod Tables
 pub mod Judged
+pub mod Refused
