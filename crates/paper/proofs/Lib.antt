@@ -19,3 +19,4 @@ pub mod NewCard
 pub mod Replaced
 pub mod Demand3
 pub mod Calls
+pub mod Refused

@@ -3,8 +3,7 @@ pub mod Signs
 pub mod Linear
 pub mod Calc
 pub mod Ring
-pub mod Nearest
-pub mod Close
+pub mod Rounding
 pub mod Fill
 pub mod Tests
 pub mod Sums

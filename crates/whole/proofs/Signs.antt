@@ -246,6 +246,11 @@ natAbs-rem (negsuc a) b = natAbs-neg (pos (suc a % natAbs b))
 pub shr-fits : {z : ℤ} (m : ℕ) → SFits w64 z → SFits w64 (shrZ z m)
 shr-fits {z} m f = record { sfits = lt-of-le-of-lt (mag-shr z m) (f .sfits) }
 
+-- the sign by a shift: 0, or -1
+pub shr-size : (z : ℤ) → natAbs z ≤ 2 ^ 63 → natAbs (shrZ z (2 ^ 63)) ≤ 1
+shr-size (pos n) h = omega arith
+shr-size (negsuc n) h = omega arith
+
 pub rem-fits : {z : ℤ} (d : ℤ) → SFits w64 z → SFits w64 (remZ z d)
 rem-fits {z} d f = record { sfits = lt-of-le-of-lt (mag-rem z d) (f .sfits) }
 

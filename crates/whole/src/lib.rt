@@ -1,1 +1,90 @@
-// Whole numbers.
+// Whole numbers: sizes, signs, and division to the nearest, halves away from zero.
+ghost use mathlib.Core.Path.{_≡_};
+ghost use Prim.Native.Nat.{ℕ, _+_, _*_, _^_, _<_, _≤_};
+ghost use lib.IntN.{ℤ, pos, natAbs, _+ℤ_, _-ℤ_, _*ℤ_};
+ghost use lib.Signed.{_<ℤ_};
+ghost use Rattle.whole.specs.Nearest.{signed, nearest};
+
+// The size of x: of the least i64 too.
+pub fn size(x: i64) -> u64
+    ensures { λ r. ⌜ r ≡ natAbs x ⌝ }
+{
+    if x < 0 { (-1 - x) as u64 + 1 } else { x as u64 }
+}
+
+// n with the sign of x.
+pub fn sign(x: i64, n: u64) -> i64
+    requires { ⌜ n < 2 ^ 63 ⌝ }
+    ensures { λ r. ⌜ r ≡ signed x n ⌝ }
+{
+    if x < 0 { 0 - (n as i64) } else { n as i64 }
+}
+
+// n with the sign of l * y, where n is 0 if the product is.
+pub fn sign_of_product(l: i64, y: i64, n: u64) -> i64
+    requires { ⌜ (n < 2 ^ 63) × (natAbs l * natAbs y ≡ 0 → n ≡ 0) ⌝ }
+    ensures { λ r. ⌜ r ≡ signed (l *ℤ y) n ⌝ }
+{
+    let r = sign(l, n);
+    if y < 0 { 0 - r } else { r }
+}
+
+pub fn plus(a: i64, b: i64) -> i64
+    requires { ⌜ natAbs a + natAbs b < 2 ^ 63 ⌝ }
+    ensures { λ r. ⌜ r ≡ a +ℤ b ⌝ }
+{
+    a + b
+}
+
+pub fn minus(a: i64, b: i64) -> i64
+    requires { ⌜ natAbs a + natAbs b < 2 ^ 63 ⌝ }
+    ensures { λ r. ⌜ r ≡ a -ℤ b ⌝ }
+{
+    a - b
+}
+
+// a / b to the nearest.
+pub fn nearest(a: i64, b: i64) -> i64
+    requires { ⌜ (natAbs a ≤ 2 ^ 62) × (pos 0 <ℤ b) ⌝ }
+    ensures { λ r. ⌜ r ≡ nearest a (natAbs b) ⌝ }
+{
+    let m = size(a);
+    let d = size(b);
+    let q = (2 * m + d) / (2 * d);
+    sign(a, q)
+}
+
+// w * 2^20 / d to the nearest.
+pub fn ratio(w: i64, d: i64) -> i64
+    requires { ⌜ (natAbs w ≤ 2 ^ 38) × (pos 0 <ℤ d) ⌝ }
+    ensures { λ r. ⌜ r ≡ nearest (w *ℤ pos (2 ^ 20)) (natAbs d) ⌝ }
+{
+    nearest(w * 1_048_576, d)
+}
+
+// p / 2^20 to the nearest. The shift floors, so a negative p is first made one less: its halves then go down.
+pub fn scaled(p: i64) -> i64
+    requires { ⌜ natAbs p ≤ 2 ^ 62 ⌝ }
+    ensures { λ r. ⌜ r ≡ nearest p (2 ^ 20) ⌝ }
+{
+    (p + 524_288 + (p >> 63)) >> 20
+}
+
+// l * w / 2^20 to the nearest.
+pub fn scaled_product(l: i64, w: i64) -> i64
+    requires { ⌜ (natAbs l ≤ 2 ^ 24) × (natAbs w ≤ 2 ^ 38) ⌝ }
+    ensures { λ r. ⌜ r ≡ nearest (l *ℤ w) (2 ^ 20) ⌝ }
+{
+    scaled(l * w)
+}
+
+// l * y / 2^20 to the nearest. The product passes 64 bits, so y's size is split at 2^20.
+pub fn scaled_wide(l: i64, y: i64) -> i64
+    requires { ⌜ (natAbs l ≤ 2 ^ 24) × (natAbs y ≤ 2 ^ 52) ⌝ }
+    ensures { λ r. ⌜ r ≡ nearest (l *ℤ y) (2 ^ 20) ⌝ }
+{
+    let a = size(l);
+    let b = size(y);
+    let n = a * (b / 1_048_576) + (a * (b % 1_048_576) + 524_288) / 1_048_576;
+    sign_of_product(l, y, n)
+}

@@ -1,18 +1,19 @@
--- Laws of nearestN and nearest.
--- Assumes nothing.
+-- Laws of the nearest: how near it is, its size, and the code's ways to it.
 use mathlib.Core.Path.{_≡_, refl, sym, ap, subst, _∙_}
 use Prim.Native.Nat.{ℕ, zero, suc, _+_, _*_, _-_, _/_, _%_, _^_, _≤_, _<_}
-use native.Mathlib.Nat.{mul-le-mul, mul-left-comm, div-add-mod, mul-add, zero-mul, mul-zero, le-mul-of-pos-right, div-lt-iff-lt-mul, div-zero, suc-mul, le-of-suc-le-suc}
+use native.Mathlib.Nat.{mul-le-mul, mul-left-comm, div-add-mod, mul-add, zero-mul, mul-zero, le-mul-of-pos-right, div-lt-iff-lt-mul, div-zero, suc-mul, le-of-suc-le-suc, mul-assoc, mul-comm, mod-lt}
+use native.Mathlib.Decide.{decLt}
 use native.Mathlib.Omega.{arith}
-use lib.IntN.{ℤ, pos, negsuc, negℤ, natAbs, _*ℤ_, negℤ-negℤ}
-use lib.Signed.{_<ℤ_, ltZ}
+use lib.IntN.{ℤ, pos, negsuc, negℤ, natAbs, _+ℤ_, _-ℤ_, _*ℤ_, negℤ-negℤ}
+use lib.Signed.{_<ℤ_, ltZ, shrZ}
 use lib.Dec.{T, ltb→lt}
 use mathlib.Core.Bool.{true, false}
 use borrow.Author.Tests.{ltb-true}
 use mir.Syntax.{w64}
 use mir.Val.{SFits}
 use Rattle.whole.specs.Nearest.{signed, nearestN, nearest}
-use Rattle.whole.proofs.Signs.{signed-size, natAbs-times}
+use Rattle.whole.proofs.Signs.{signed-size, natAbs-times, neg-times}
+use Rattle.whole.proofs.Linear.{zarith, split, plusL, minusL, negL}
 
 -- the nearest is no larger than the dividend
 pub nearestN-le : (a b : ℕ) → 0 < b → nearestN a b ≤ a
@@ -80,3 +81,61 @@ product-size a b h k = let p : a * b ≤ 2 ^ 62 = mul-le-mul {n₂ = 2 ^ 24} {m�
 
 pub scaled-size : (l y : ℤ) → natAbs l ≤ 2 ^ 24 → natAbs y ≤ 2 ^ 38 → natAbs (nearest (l *ℤ y) (2 ^ 20)) ≤ 2 ^ 42
 scaled-size l y h k = rw (nearest-size, natAbs-times) (product-size (natAbs l) (natAbs y) h k)
+
+-- ---- the shift that floors, of a number that is first made one less where it is negative
+
+shift-neg : (a : ℕ) → suc a ≤ 2 ^ 62 → shrZ (negsuc a +ℤ pos 524288 +ℤ negsuc 0) (2 ^ 20) ≡ negℤ (pos (nearestN (suc a) (2 ^ 20)))
+unfolding nearestN
+shift-neg a h = go (decLt (suc a) 524288)
+  where
+    z : ℤ
+    z = negsuc a +ℤ pos 524288 +ℤ negsuc 0
+
+    go : Dec (suc a < 524288) → shrZ z (2 ^ 20) ≡ negℤ (pos (nearestN (suc a) (2 ^ 20)))
+    go (yes l) =
+        let e : z ≡ pos (524288 - suc a - 1) = omega (zarith, plusL (negsuc a) (pos 524288), plusL (negsuc a +ℤ pos 524288) (negsuc 0)) in
+        let q : (524288 - suc a - 1) / 2 ^ 20 ≡ 0 = omega arith in
+        let n : nearestN (suc a) (2 ^ 20) ≡ 0 = omega arith in
+        rw (e, q, n)
+    go (no f) =
+        let f′ : suc a < 524288 → ⊥ = f in
+        let e : z ≡ negsuc (suc a - 524288) = omega (zarith, plusL (negsuc a) (pos 524288), plusL (negsuc a +ℤ pos 524288) (negsuc 0)) in
+        let n : nearestN (suc a) (2 ^ 20) ≡ suc ((suc a - 524288) / 2 ^ 20) = omega arith in
+        rw (e, n)
+
+shift-pos : (a : ℕ) → (a + 524288 + 0) / 2 ^ 20 ≡ nearestN a (2 ^ 20)
+unfolding nearestN
+shift-pos a = omega arith
+
+pub shifted : (p : ℤ) → natAbs p ≤ 2 ^ 62 → shrZ (p +ℤ pos 524288 +ℤ shrZ p (2 ^ 63)) (2 ^ 20) ≡ nearest p (2 ^ 20)
+unfolding nearest
+shifted (pos a) h =
+    let z : a / 2 ^ 63 ≡ 0 = omega arith in
+    rw z (ap pos (shift-pos a))
+shifted (negsuc a) h =
+    let z : a / 2 ^ 63 ≡ 0 = omega arith in
+    rw z (shift-neg a h)
+
+-- ---- how near: |q b - a| is at most b / 2, whatever the signs
+
+pub record Near (a b q : ℕ) : Type 0 where
+  pub low : 2 * a ≤ 2 * (q * b) + b
+  pub high : 2 * (q * b) ≤ 2 * a + b
+
+pub nearN : (a b : ℕ) → 0 < b → Near a b (nearestN a b)
+unfolding nearestN
+nearN a b h =
+    let q = (2 * a + b) / (2 * b) in
+    let k : 0 < 2 * b = omega arith in
+    let e : 2 * b * q ≡ 2 * (q * b) = mul-assoc 2 b q ∙ ap (λ (z : ℕ). 2 * z) (mul-comm b q) in
+    omega (arith, div-add-mod (2 * a + b) (2 * b), mod-lt (2 * a + b) k, e)
+
+pub nearZ : (a : ℤ) (b : ℕ) → 0 < b → 2 * natAbs (nearest a b *ℤ pos b -ℤ a) ≤ b
+unfolding nearest
+nearZ (pos m) b h =
+    let q = nearestN m b in
+    omega (zarith, nearN m b h, minusL (pos (q * b)) (pos m), split (pos (q * b) -ℤ pos m))
+nearZ (negsuc m) b h =
+    let q = nearestN (suc m) b in
+    let p = negℤ (pos q) *ℤ pos b in
+    omega (zarith, nearN (suc m) b h, neg-times (pos q) (pos b), negL (pos (q * b)), minusL p (negsuc m), split (p -ℤ negsuc m))
