@@ -17,8 +17,10 @@ use Rattle.whole.proofs.Sums.{sum-ext}
 use Rattle.whole.proofs.Packed.{tri-below}
 use Rattle.paper.specs.Refusals.{Outcome, refused, done, when}
 use Rattle.paper.specs.Factor.{R, small, w, l, rowFrom}
+use Rattle.paper.specs.declared.Answer.the-variants.{Done, Refused}
+use Rattle.paper.specs.declared.Refusal.{Refusal}
 use Rattle.paper.specs.declared.Refusal.the-variants.{Bound, Pivot}
-use Rattle.factor.specs.Asks.{Within, Entry, Column, Row}
+use Rattle.factor.specs.Asks.{Within, Entry, Column, Row, RowDone}
 use Rattle.factor.proofs.Finished.{low-of, pivot-of, cell-before, cell-after, rows-kept}
 
 -- ---- w and l read no more than the row's numbers so far
@@ -107,3 +109,11 @@ row-next xs ws s i j u v h hu hv row = record {
       (λ k q. rw (cell-before ws j k v q) (row .ws38 k q))
       (rw (getD-set-same ws j v (pos 0) (omega (arith, row .wroom))) hv);
 }
+
+-- ---- a row that is refused
+
+pub row-refused : (r : Refusal) (o : Outcome (List ℤ)) (i : ℕ) (ys : List ℤ) → refused r ≡ o → RowDone (Refused r) o i ys
+row-refused r o i ys e = record { rest = e; above = λ d. absurd (never d); fresh = λ d. absurd (never d) }
+  where
+    never : Refused r ≡ Done → ⊥
+    never d = let z : _≡_ {A = ℕ} 0 1 = cc in omega arith
