@@ -10,7 +10,6 @@ ghost use Rattle.whole.specs.Sums.{sum};
 ghost use Rattle.paper.specs.Refusals.{done, after};
 ghost use Rattle.paper.specs.Factor.{R, small, w, rowFrom, rowsFrom};
 ghost use Rattle.factor.specs.Asks.{Ready, Terms, Entry, Column, ColumnDone, Row, ColumnsDone, RowDone};
-
 use paper::Answer;
 use paper::Refusal;
 

@@ -66,8 +66,8 @@ scaled-product-requires c κs =
 -- the sum and one term more
 next : (c : tie.After-scaled-product Inv-loop μ-loop)
     → let e = c .before .before .before .before .before in
-      let v = c .before .before .before .before .loop in
-      Is (toZ w64 (v .sum) +ℤ rd (c .scaled-product .result)) (sums.sum (v .k) (term (e .args .ls .now) (e .args .ws .now)) +ℤ term (e .args .ls .now) (e .args .ws .now) (v .k)) (96 * 2 ^ 42 + 2 ^ 42)
+    let v = c .before .before .before .before .loop in
+    Is (toZ w64 (v .sum) +ℤ rd (c .scaled-product .result)) (sums.sum (v .k) (term (e .args .ls .now) (e .args .ws .now)) +ℤ term (e .args .ls .now) (e .args .ws .now) (v .k)) (96 * 2 ^ 42 + 2 ^ 42)
 next c =
     let e = c .before .before .before .before .before in
     let v = c .before .before .before .before .loop in
