@@ -1,6 +1,5 @@
--- Laws of the judge's definitions, one step of a loop or one return each.
+-- Laws of the judge's tests as the code makes them.
 pub mod Ranges
 pub mod Groups
 pub mod Rows
-pub mod Judging
 pub mod NewCard

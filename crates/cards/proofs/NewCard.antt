@@ -13,7 +13,7 @@ use Rattle.paper.specs.declared.Answer.{Answer}
 use Rattle.paper.specs.declared.Answer.the-variants.{Done, Refused}
 use Rattle.paper.specs.declared.Refusal.the-variants.{Form, Range, Replacement}
 use Rattle.cards.specs.Asks.{sameKey}
-use Rattle.cards.proofs.Rows.{field-at}
+use Rattle.paper.proofs.Tables.{row-field}
 
 -- E and the loads are the orders 3 to 6
 module _ (o : ℕ) where
@@ -88,7 +88,7 @@ module _ (t : List ℕ) (card : ℕ) (new : List ℕ) where
       pub answers-same : 3 ≤ orderOf new → orderOf new ≤ 6 → sameKey (orderOf new) new (rowAt t (card - 1)) ≡ answers t card new
       unfolding answers sameKey
       answers-same a b =
-          rw (field-at t (card - 1) 0 (omega arith), field-at t (card - 1) 1 (omega arith), field-at t (card - 1) 2 (omega arith), field-at t (card - 1) 3 (omega arith))
+          rw (row-field t (card - 1) 0 (omega arith), row-field t (card - 1) 1 (omega arith), row-field t (card - 1) 2 (omega arith), row-field t (card - 1) 3 (omega arith))
           (simp (le-leb 1 card h, le-leb card (rows t) g, changes (orderOf new) a b))
 
   pub new-letter : 7 < orderOf new → Refused (Form card) ≡ newJudged t card new

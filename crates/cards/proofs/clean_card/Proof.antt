@@ -6,7 +6,7 @@ use Prim.Native.Nat.{_-_, _≤_}
 use native.Mathlib.Omega.{arith}
 use Rattle.paper.specs.Cards.{used, zeros}
 use Rattle.paper.specs.Judge.{clean}
-use Rattle.cards.proofs.Judging.{clean-start, zeros-on, zeros-here, zeros-end}
+use Rattle.paper.proofs.Judging.{clean-start, zeros-on, zeros-here, zeros-end}
 
 abbrev Inv-loop : tie.InvT-loop
 Inv-loop card i₀ i = (clean card ≡ zeros card (6 - i) i) × (i ≤ 6)

@@ -5,7 +5,7 @@ use mathlib.Core.Path.{sym, ap, _∙_}
 use Prim.Native.Nat.{ℕ}
 use Rattle.paper.specs.Cards.{order}
 use Rattle.paper.specs.Judge.{stands}
-use Rattle.cards.proofs.Judging.{formed-on, formed-not}
+use Rattle.paper.proofs.Judging.{formed-on, formed-not}
 
 order-of-requires : tie.Need-order-of-requires
 order-of-requires c κs = search needs

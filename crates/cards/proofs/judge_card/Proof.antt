@@ -3,7 +3,7 @@ use Rattle.cards.proofs.judge_card.Statement.{statement}
 use Rattle.cards.proofs.judge_card.Tie as tie
 use mathlib.Core.Path.{sym, _∙_}
 use borrow.Author.Tests.{not-true, not-false}
-use Rattle.cards.proofs.Judging.{form-refused, range-refused, card-done}
+use Rattle.paper.proofs.Judging.{form-refused, range-refused, card-done}
 
 formed-card-requires : tie.Need-formed-card-requires
 formed-card-requires c κs = search needs

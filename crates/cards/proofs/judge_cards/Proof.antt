@@ -8,7 +8,7 @@ use native.Mathlib.Nat.{sub-zero}
 use Rattle.paper.specs.Cards.{order, kindAt, rowAt}
 use Rattle.paper.specs.Judge.{judgeFrom, judgeCard}
 use Rattle.cards.proofs.Rows.{lent, at-row, letter-at}
-use Rattle.cards.proofs.Judging.{judge-on, judge-here, judge-end}
+use Rattle.paper.proofs.Judging.{judge-on, judge-here, judge-end}
 
 abbrev Inv-loop : tie.InvT-loop
 Inv-loop z t rows i₀ p₀ key₀ i p key = (i ≤ rows) × (judgeFrom z (rowAt t) rows 0 0 0 ≡ judgeFrom z (rowAt t) (rows - i) i p key)

@@ -9,7 +9,7 @@ use Rattle.paper.specs.Cards.{countsOf, rowAt}
 use Rattle.paper.specs.Judge.{trailer, judgeFrom}
 use Rattle.paper.specs.declared.Counts.{Counts}
 use Rattle.cards.proofs.Rows.{lent, at-row}
-use Rattle.cards.proofs.Judging.{rows-trailer, rows-back, rows-cards}
+use Rattle.paper.proofs.Judging.{rows-trailer, rows-back, rows-cards}
 
 mul-at : tie.Need-mul-at
 mul-at c = search needs

@@ -8,7 +8,7 @@ use Rattle.paper.specs.Cards.{order, fields, inRange}
 use Rattle.paper.specs.Judge.{rises}
 use Rattle.paper.specs.declared.Kind.{Kind}
 use Rattle.cards.proofs.Ranges.{bounds-are}
-use Rattle.cards.proofs.Judging.{ranged-on, ranged-not}
+use Rattle.paper.proofs.Judging.{ranged-on, ranged-not}
 
 bounds-of-requires : tie.Need-bounds-of-requires
 bounds-of-requires c κs = search needs

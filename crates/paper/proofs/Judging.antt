@@ -1,19 +1,20 @@
--- The judge of a card, of cards in turn, of a table.
+-- The judge step by step: what a test passed or failed comes to, of a card, of cards in turn, of a table.
 use mathlib.Core.Path.{_≡_, refl, sym, ap, _∙_}
 use mathlib.Core.Bool.{Bool, true, false, not, _&&_}
 use mathlib.Core.List.{List}
-use Prim.Native.Nat.{ℕ, suc, _+_, _-_, _*_, _/_, _%_, _≤_, _<_}
+use Prim.Native.Nat.{ℕ, zero, suc, _+_, _-_, _*_, _/_, _%_, _≤_, _<_}
 use native.Mathlib.Numerals.{add-one}
 use native.Mathlib.Omega.{arith}
 use borrow.Author.Tests.{eq-eqb, ne-eqb, lt-ltb, le-ltb}
 use lib.ListN.{length, getD}
+use Rattle.paper.specs.Refusals.{andThen}
 use Rattle.paper.specs.Cards.{used, fields, zeros, inRange, kindAt, orderOf, countsOf, rowAt, rows}
 use Rattle.paper.specs.Judge.{stands, rises, clean, formed, ranged, judgeCard, judgeFrom, trailer, judgeRows, judged}
 use Rattle.paper.specs.declared.Answer.{Answer}
 use Rattle.paper.specs.declared.Answer.the-variants.{Done, Refused}
 use Rattle.paper.specs.declared.Refusal.{Refusal}
 use Rattle.paper.specs.declared.Refusal.the-variants.{Length, Trailer, Form, Range}
 use Rattle.paper.specs.declared.Counts.{Counts}
 
 -- unused fields, number by number
 module _ (card : List ℕ) where
@@ -91,6 +92,15 @@ module _ (z : Counts) (row : ℕ → List ℕ) (n i p key : ℕ) where
   judge-end l =
       let m : n - i ≡ 0 = omega arith in
       rw m
+
+-- what the cards are told by
+pub judge-same : (z : Counts) (f g : ℕ → List ℕ) (n i p key : ℕ) → ((j : ℕ) → i ≤ j → j < i + n → f j ≡ g j) → judgeFrom z f n i p key ≡ judgeFrom z g n i p key
+unfolding judgeFrom
+judge-same z f g zero i p key e = refl
+judge-same z f g (suc n) i p key e =
+    let r = judge-same z f g n (suc i) (orderOf (f i)) (getD (f i) 1 0) (λ j x y. e j (omega arith) (omega arith)) in
+    ap (andThen (judgeCard z i p key (f i))) r
+    ∙ ap (λ (c : List ℕ). andThen (judgeCard z i p key c) (judgeFrom z g n (suc i) (orderOf c) (getD c 1 0))) (e i (omega arith) (omega arith))
 
 -- a table of n cards and Z
 module _ (t : List ℕ) (n : ℕ) where
