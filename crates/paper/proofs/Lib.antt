@@ -15,3 +15,4 @@ pub mod Weights
 pub mod Built
 pub mod Lent
 pub mod Changed
+pub mod Refused
