@@ -1,13 +1,11 @@
 -- A row as the code goes along it: the row's numbers w stand at the front of a longer list.
-use mathlib.Core.Path.{_≡_, refl, sym, ap, _∙_}
+use mathlib.Core.Path.{_≡_, refl, ap, _∙_}
 use mathlib.Core.Bool.{Bool, true, false, _&&_}
-use mathlib.Core.List.{List, [], _∷_, _++_}
-use Prim.Native.Nat.{ℕ, zero, suc, _+_, _-_, _*_, _^_, _≤_, _<_}
-use native.Mathlib.Decide.{ℕ-discrete}
+use mathlib.Core.List.{List}
+use Prim.Native.Nat.{ℕ, suc, _+_, _-_, _^_, _≤_, _<_}
 use native.Mathlib.Numerals.{add-one}
 use native.Mathlib.Omega.{arith}
 use borrow.Author.Count.{below-more}
-use borrow.Author.Tests.{leb-true}
 use lib.IntN.{ℤ, pos, natAbs, _*ℤ_, _-ℤ_}
 use lib.Signed.{leZ}
 use lib.ListN.{length, set, take, length-set}
@@ -59,8 +57,8 @@ end-step i xs ws = rw (w-front xs ws (tri i) i)
 
 -- ---- what a row has at column j, left of the diagonal and on it
 
-pub column-asks : (xs ws : List ℤ) (s i at j : ℕ) → at ≡ tri j → j < i → Row xs ws s i j → Column xs ws s at j
-column-asks xs ws s i at j e h row = record {
+pub column-asks : {xs ws : List ℤ} {s i at j : ℕ} → Row xs ws s i j → at ≡ tri j → j < i → Column xs ws s at j
+column-asks {xs} {s} {i} {j} row e h = record {
   entry = record {
     few = omega (arith, row .few);
     start = e;
@@ -75,8 +73,8 @@ column-asks xs ws s i at j e h row = record {
   pivot = rw e (pivot-of xs i j (row .above) h);
 }
 
-pub end-asks : (xs ws : List ℤ) (s i : ℕ) → Row xs ws s i i → Entry xs ws s s i
-end-asks xs ws s i row = record {
+pub end-asks : {xs ws : List ℤ} {s i : ℕ} → Row xs ws s i i → Entry xs ws s s i
+end-asks {s} {i} row = record {
   few = row .few;
   start = row .start;
   room = row .room;
@@ -95,8 +93,8 @@ within-more b n xs p v room h hv =
     (λ k q. rw (cell-before xs (p + n) (p + k) v (omega arith)) (h k q))
     (rw (getD-set-same xs (p + n) v (pos 0) room) hv)
 
-pub row-next : (xs ws : List ℤ) (s i j : ℕ) (u v : ℤ) → j < i → natAbs u ≤ 2 ^ 24 → natAbs v ≤ 2 ^ 38 → Row xs ws s i j → Row (set xs (s + j) u) (set ws j v) s i (j + 1)
-row-next xs ws s i j u v h hu hv row = record {
+pub row-next : {xs ws : List ℤ} {s i j : ℕ} → Row xs ws s i j → j < i → (u v : ℤ) → natAbs u ≤ 2 ^ 24 → natAbs v ≤ 2 ^ 38 → Row (set xs (s + j) u) (set ws j v) s i (j + 1)
+row-next {xs} {ws} {s} {i} {j} row h u v hu hv = record {
   few = row .few;
   start = row .start;
   upto = omega arith;
@@ -112,8 +110,8 @@ row-next xs ws s i j u v h hu hv row = record {
 
 -- ---- a row that is refused
 
-pub row-refused : (r : Refusal) (o : Outcome (List ℤ)) (i : ℕ) (ys : List ℤ) → refused r ≡ o → RowDone (Refused r) o i ys
-row-refused r o i ys e = record { rest = e; above = λ d. absurd (never d); fresh = λ d. absurd (never d) }
+pub row-refused : {r : Refusal} {o : Outcome (List ℤ)} {i : ℕ} {ys : List ℤ} → refused r ≡ o → RowDone (Refused r) o i ys
+row-refused {r} e = record { rest = e; above = λ d. absurd (never d); fresh = λ d. absurd (never d) }
   where
     never : Refused r ≡ Done → ⊥
     never d = let z : _≡_ {A = ℕ} 0 1 = cc in omega arith

@@ -1,7 +1,7 @@
 // The factor of a packed triangle in place, row by row, from any row on.
 ghost use mathlib.Core.Path.{_≡_};
 ghost use mathlib.Core.List.{[]};
-ghost use Prim.Native.Nat.{ℕ, _-_, _*_, _≤_, _<_};
+ghost use Prim.Native.Nat.{_-_, _≤_};
 ghost use lib.IntN.{pos, _*ℤ_};
 ghost use lib.Signed.{leZ};
 ghost use lib.ListN.{length, take};

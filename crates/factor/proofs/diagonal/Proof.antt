@@ -1,8 +1,8 @@
 -- w at the diagonal is tested twice, and stored where both pass.
-use mathlib.Core.Path.{_≡_, refl, sym, _∙_, ap}
+use mathlib.Core.Path.{_≡_, sym, _∙_, ap}
 use mathlib.Core.Bool.{Bool, true, false}
 use mathlib.Core.List.{List}
-use Prim.Native.Nat.{ℕ, suc, _+_, _^_, _≤_, _<_}
+use Prim.Native.Nat.{ℕ, _+_, _^_, _<_}
 use native.Mathlib.Numerals.{add-one}
 use native.Mathlib.Omega.{arith}
 use borrow.Author.Needs.{needs}
@@ -24,7 +24,7 @@ use Rattle.factor.proofs.diagonal.Statement.{statement}
 use Rattle.factor.proofs.diagonal.Tie as tie
 
 -- d as the code has it, and its tests
-module _ (xs ws : List ℤ) (s i : ℕ) (row : Row xs ws s i i) (d : ℤ) (ok : mag d < 2 ^ 63) (ed : d ≡ w xs s i ws) (b : Bool) (eb : b ≡ small 38 (rd d)) where
+module _ {xs ws : List ℤ} {s i : ℕ} (row : Row xs ws s i i) {d : ℤ} (ok : mag d < 2 ^ 63) (ed : d ≡ w xs s i ws) {b : Bool} (eb : b ≡ small 38 (rd d)) where
   d-is : rd d ≡ w xs (tri i) i ws
   d-is = got d ok ∙ ed ∙ ap (λ (k : ℕ). w xs k i ws) (row .start)
 
@@ -32,14 +32,14 @@ module _ (xs ws : List ℤ) (s i : ℕ) (row : Row xs ws s i i) (d : ℤ) (ok : 
   bound-test = eb ∙ ap (small 38) d-is
 
   large : (ys : List ℤ) → b ≡ false → RowDone (Refused (Bound (i + 1))) (rowFrom 0 i i xs (take i ws)) i ys
-  large ys f = row-refused (Bound (i + 1)) _ i ys (rw (add-one i, end-step i xs ws, ← bound-test, f))
+  large ys f = row-refused (rw (add-one i, end-step i xs ws, ← bound-test, f))
 
-  module _ (t : b ≡ true) (g : Bool) (eg : g ≡ leZ (pos 16) (rd d)) where
+  module _ (t : b ≡ true) {g : Bool} (eg : g ≡ leZ (pos 16) (rd d)) where
     pivot-test : g ≡ leZ (pos 16) (w xs (tri i) i ws)
     pivot-test = eg ∙ ap (leZ (pos 16)) d-is
 
     low : (ys : List ℤ) → g ≡ false → RowDone (Refused (Pivot (i + 1))) (rowFrom 0 i i xs (take i ws)) i ys
-    low ys f = row-refused (Pivot (i + 1)) _ i ys (rw (add-one i, end-step i xs ws, ← bound-test, t, ← pivot-test, f))
+    low ys f = row-refused (rw (add-one i, end-step i xs ws, ← bound-test, t, ← pivot-test, f))
 
     stored : g ≡ true → RowDone Done (rowFrom 0 i i xs (take i ws)) i (set xs (s + i) (rd d))
     stored u =
@@ -53,8 +53,7 @@ module _ (xs ws : List ℤ) (s i : ℕ) (row : Row xs ws s i i) (d : ℤ) (ok : 
 
 entry-requires : tie.Need-entry-requires
 entry-requires c κs =
-    let a = c .before .args in
-    end-asks (a .work .now) (a .ws .now) (a .s) (a .i) (c .before .pre)
+    end-asks (c .before .pre)
 
 bounded-w-requires : tie.Need-bounded-w-requires
 bounded-w-requires c κs = search needs
@@ -71,10 +70,9 @@ same-length c = search needs
 returns : tie.Need-returns
 returns c =
     let e = c .before .before .before .before in
-    let a = e .args in
     let n = c .before .before .entry in
     let t = c .before .bounded-w in
-    large (a .work .now) (a .ws .now) (a .s) (a .i) (e .pre) (n .result) (n .ok) (n .ensures) (t .result) (t .ensures) _ (not-true _ (c .if1 .taken))
+    large (e .pre) (n .ok) (n .ensures) (t .ensures) _ (not-true _ (c .if1 .taken))
 
 pivots-requires : tie.Need-pivots-requires
 pivots-requires c κs = search needs
@@ -91,11 +89,10 @@ same-length-2 c = search needs
 returns-2 : tie.Need-returns-2
 returns-2 c =
     let e = c .before .before .before .before .before .before in
-    let a = e .args in
     let n = c .before .before .before .before .entry in
     let t = c .before .before .before .bounded-w in
     let g = c .before .pivots in
-    low (a .work .now) (a .ws .now) (a .s) (a .i) (e .pre) (n .result) (n .ok) (n .ensures) (t .result) (t .ensures) (not-false _ (c .before .before .if1 .left)) (g .result) (g .ensures) _ (not-true _ (c .if2 .taken))
+    low (e .pre) (n .ok) (n .ensures) (t .ensures) (not-false _ (c .before .before .if1 .left)) (g .ensures) _ (not-true _ (c .if2 .taken))
 
 add-d : tie.Need-add-d
 add-d c = search needs
@@ -112,11 +109,10 @@ same-length-3 c = search needs
 returns-3 : tie.Need-returns-3
 returns-3 c =
     let e = c .before .before .before .before .before .before in
-    let a = e .args in
     let n = c .before .before .before .before .entry in
     let t = c .before .before .before .bounded-w in
     let g = c .before .pivots in
-    stored (a .work .now) (a .ws .now) (a .s) (a .i) (e .pre) (n .result) (n .ok) (n .ensures) (t .result) (t .ensures) (not-false _ (c .before .before .if1 .left)) (g .result) (g .ensures) (not-false _ (c .if2 .left))
+    stored (e .pre) (n .ok) (n .ensures) (t .ensures) (not-false _ (c .before .before .if1 .left)) (g .ensures) (not-false _ (c .if2 .left))
 
 pub diagonal-spec : {M : Type 1} → statement M
 diagonal-spec =

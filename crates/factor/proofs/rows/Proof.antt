@@ -1,7 +1,7 @@
 -- What is left from row i is what is left of the whole.
-use mathlib.Core.Path.{_≡_, refl, sym, _∙_, ap}
+use mathlib.Core.Path.{_≡_, refl, _∙_}
 use mathlib.Core.List.{List, []}
-use Prim.Native.Nat.{ℕ, suc, _+_, _-_, _*_, _/_, _≤_, _<_}
+use Prim.Native.Nat.{ℕ, suc, _+_, _-_, _≤_, _<_}
 use native.Mathlib.Numerals.{add-one}
 use native.Mathlib.Omega.{arith}
 use borrow.Author.Needs.{needs}
@@ -32,7 +32,7 @@ Inv-loop work₀ ws₀ m n i₀ s₀ work ws i s = Inv work₀ ws₀ m n work ws
 abbrev μ-loop : tie.MeasureT-loop
 μ-loop work₀ ws₀ m n i₀ s₀ work ws i s = n - i
 
-module _ (xs₀ ws₀ : List ℤ) (m n : ℕ) (xs ws : List ℤ) (i s : ℕ) (inv : Inv xs₀ ws₀ m n xs ws i s) (h : i < n) where
+module _ {xs₀ ws₀ : List ℤ} {m n : ℕ} {xs ws : List ℤ} {i s : ℕ} (inv : Inv xs₀ ws₀ m n xs ws i s) (h : i < n) where
   row-asks : Row xs ws s i 0
   row-asks = record {
     few = omega (arith, inv .ready .few);
@@ -53,11 +53,11 @@ module _ (xs₀ ws₀ : List ℤ) (m n : ℕ) (xs ws : List ℤ) (i s : ℕ) (in
   unfolding rowsFrom
   stepped = let z : n - i ≡ suc (n - (i + 1)) = omega arith in rw add-one (rw (z, add-one) at (inv .rest))
 
-  module _ (a : Answer) (ys vs : List ℤ) (p : RowDone a (rowFrom i i 0 xs []) i ys) where
-    stopped : (r : Refusal) → a ≡ Refused r → refused r ≡ rowsFrom (n - m) m xs₀
-    stopped r e = let q : refused r ≡ rowFrom i i 0 xs [] = rw e at (p .rest) in rw (← q) at stepped
+  module _ {a : Answer} {ys : List ℤ} (p : RowDone a (rowFrom i i 0 xs []) i ys) where
+    stopped : {r : Refusal} → a ≡ Refused r → refused r ≡ rowsFrom (n - m) m xs₀
+    stopped {r} e = let q : refused r ≡ rowFrom i i 0 xs [] = rw e at (p .rest) in rw (← q) at stepped
 
-    more : a ≡ Done → length ys ≡ length xs → length vs ≡ length ws → Inv xs₀ ws₀ m n ys vs (i + 1) (s + (i + 1))
+    more : a ≡ Done → {vs : List ℤ} → length ys ≡ length xs → length vs ≡ length ws → Inv xs₀ ws₀ m n ys vs (i + 1) (s + (i + 1))
     more e lx lw = record {
       ready = record {
         upto = omega arith;
@@ -73,9 +73,9 @@ module _ (xs₀ ws₀ : List ℤ) (m n : ℕ) (xs ws : List ℤ) (i s : ℕ) (in
       rest = let q : done ys ≡ rowFrom i i 0 xs [] = rw e at (p .rest) in rw (← q) at stepped;
     }
 
-last : (xs₀ ws₀ : List ℤ) (m n : ℕ) (xs ws : List ℤ) (i s : ℕ) → Inv xs₀ ws₀ m n xs ws i s → n ≤ i → done xs ≡ rowsFrom (n - m) m xs₀
+last : {xs₀ ws₀ : List ℤ} {m n : ℕ} {xs ws : List ℤ} {i s : ℕ} → Inv xs₀ ws₀ m n xs ws i s → n ≤ i → done xs ≡ rowsFrom (n - m) m xs₀
 unfolding rowsFrom
-last xs₀ ws₀ m n xs ws i s inv h = let z : n - i ≡ 0 = omega arith in rw z at (inv .rest)
+last {n} {i} inv h = let z : n - i ≡ 0 = omega arith in rw z at (inv .rest)
 
 add-s : tie.Need-add-s Inv-loop μ-loop
 add-s c = omega (arith, c .pre .0 .few, c .pre .0 .upto)
@@ -88,9 +88,8 @@ loop-holds c = record { ready = c .pre .0; wroom = c .pre .1; start = tri-half (
 
 row-requires : tie.Need-row-requires Inv-loop μ-loop
 row-requires c κs =
-    let a = c .before .before .before .before .args in
     let v = c .before .before .before .loop in
-    row-asks (a .work .now) (a .ws .now) (a .m) (a .n) (v .work) (v .ws) (v .i) (v .s) (v .inv) (omega arith)
+    row-asks (v .inv) (omega arith)
 
 enum-known-r : tie.Need-enum-known-r Inv-loop μ-loop
 enum-known-r c = search needs
@@ -103,10 +102,9 @@ same-length-2 c = c .before .before .before .before .before .row .kept .1 .0 ∙
 
 returns : tie.Need-returns Inv-loop μ-loop
 returns c =
-    let a = c .before .before .before .before .before .before .before .before .before .before .args in
     let v = c .before .before .before .before .before .before .before .before .before .loop in
     let k = c .before .before .before .before .before .row in
-    stopped (a .work .now) (a .ws .now) (a .m) (a .n) (v .work) (v .ws) (v .i) (v .s) (v .inv) (omega arith) (k .result) (k .last .0) (k .last .1 .0) (k .ensures) _ (c .before .r .given .1)
+    stopped (v .inv) (omega arith) (k .ensures) (c .before .r .given .1)
 
 enum-told : tie.Need-enum-told Inv-loop μ-loop
 enum-told c = search needs
@@ -116,19 +114,17 @@ add-i c = omega (arith, c .before .before .before .before .before .before .befor
 
 add-s-2 : tie.Need-add-s-2 Inv-loop μ-loop
 add-s-2 c =
-    let a = c .before .before .before .before .before .before .before .before .before .args in
     let v = c .before .before .before .before .before .before .before .before .loop in
-    omega (arith, starts (a .work .now) (a .ws .now) (a .m) (a .n) (v .work) (v .ws) (v .i) (v .s) (v .inv) (omega arith))
+    omega (arith, starts (v .inv) (omega arith))
 
 loop-less : tie.Need-loop-less Inv-loop μ-loop
 loop-less c = omega arith
 
 loop-again : tie.Need-loop-again Inv-loop μ-loop
 loop-again c =
-    let a = c .before .before .before .before .before .before .before .before .before .args in
     let v = c .before .before .before .before .before .before .before .before .loop in
     let k = c .before .before .before .before .row in
-    more (a .work .now) (a .ws .now) (a .m) (a .n) (v .work) (v .ws) (v .i) (v .s) (v .inv) (omega arith) (k .result) (k .last .0) (k .last .1 .0) (k .ensures) (c .enum-told .given .1) (k .kept .0) (k .kept .1 .0)
+    more (v .inv) (omega arith) (k .ensures) (c .enum-told .given .1) (k .kept .0) (k .kept .1 .0)
 
 same-length-3 : tie.Need-same-length-3 Inv-loop μ-loop
 same-length-3 c = c .before .loop .inv .xlong
@@ -138,9 +134,8 @@ same-length-4 c = c .before .loop .inv .wlong
 
 returns-2 : tie.Need-returns-2 Inv-loop μ-loop
 returns-2 c =
-    let a = c .before .before .args in
     let v = c .before .loop in
-    last (a .work .now) (a .ws .now) (a .m) (a .n) (v .work) (v .ws) (v .i) (v .s) (v .inv) (omega arith)
+    last (v .inv) (omega arith)
 
 pub rows-spec : {M : Type 1} → statement M
 rows-spec =
