@@ -74,8 +74,8 @@ returns c =
     let t = c .before .bounded-w in
     large (e .pre) (n .ok) (n .ensures) (t .ensures) _ (not-true _ (c .if1 .taken))
 
-pivots-requires : tie.Need-pivots-requires
-pivots-requires c κs = search needs
+is-pivot-requires : tie.Need-is-pivot-requires
+is-pivot-requires c κs = search needs
 
 cast-t13 : tie.Need-cast-t13
 cast-t13 c = search needs
@@ -91,7 +91,7 @@ returns-2 c =
     let e = c .before .before .before .before .before .before in
     let n = c .before .before .before .before .entry in
     let t = c .before .before .before .bounded-w in
-    let g = c .before .pivots in
+    let g = c .before .is-pivot in
     low (e .pre) (n .ok) (n .ensures) (t .ensures) (not-false _ (c .before .before .if1 .left)) (g .ensures) _ (not-true _ (c .if2 .taken))
 
 add-d : tie.Need-add-d
@@ -111,7 +111,7 @@ returns-3 c =
     let e = c .before .before .before .before .before .before in
     let n = c .before .before .before .before .entry in
     let t = c .before .before .before .bounded-w in
-    let g = c .before .pivots in
+    let g = c .before .is-pivot in
     stored (e .pre) (n .ok) (n .ensures) (t .ensures) (not-false _ (c .before .before .if1 .left)) (g .ensures) (not-false _ (c .if2 .left))
 
 pub diagonal-spec : {M : Type 1} → statement M
@@ -124,7 +124,7 @@ diagonal-spec =
     add-t11
     same-length
     returns
-    pivots-requires
+    is-pivot-requires
     cast-t13
     add-t14
     same-length-2
