@@ -2,13 +2,14 @@
 use mathlib.Core.Path.{_≡_, refl, sym, _∙_}
 use mathlib.Core.Bool.{Bool, true, false, _&&_, false≢true}
 use mathlib.Core.List.{List, []}
-use Prim.Native.Nat.{ℕ, suc, _+_, _-_, _^_, _≤_, _<_}
+use Prim.Native.Nat.{ℕ, suc, _+_, _-_, _≤_, _<_}
 use native.Mathlib.Omega.{arith}
 use borrow.Author.Tests.{leb-true, not-true, not-false}
-use lib.IntN.{ℤ, natAbs}
+use lib.IntN.{ℤ}
 use lib.ListN.{length, set, take, length-set}
 use Rattle.whole.specs.Packed.{tri}
 use Rattle.whole.proofs.Packed.{tri-next, tri-below}
+use Rattle.whole.proofs.Tests.{and-told}
 use Rattle.paper.specs.Refusals.{when}
 use Rattle.paper.specs.Factor.{small, w, l, rowFrom}
 use Rattle.paper.specs.declared.Refusal.the-variants.{Bound}
@@ -34,14 +35,6 @@ first : {xs ws : List ℤ} {s i : ℕ} → Row xs ws s i 0 → Inv xs ws s i xs 
 unfolding tri
 first {i} row = record { row = row; start = refl; xlong = refl; wlong = refl; rest = let z : i - 0 ≡ i = omega arith in rw z }
 
-and-left : (a b : Bool) → a && b ≡ true → a ≡ true
-and-left true b e = refl
-and-left false b e = e
-
-and-right : (a b : Bool) → a && b ≡ true → b ≡ true
-and-right true b e = e
-and-right false b e = absurd (false≢true e)
-
 module _ {xs₀ ws₀ : List ℤ} {s i : ℕ} {xs ws : List ℤ} {j at : ℕ} (inv : Inv xs₀ ws₀ s i xs ws j at) (h : j < i) {r : Bool} {ys vs : List ℤ} (p : ColumnDone r s j xs ws ys vs) where
   stepped : when r (Bound (suc i)) (rowFrom (i - (j + 1)) i (j + 1) (set xs (s + j) (l xs s j ws)) (take (j + 1) (set ws j (w xs s j ws)))) ≡ rowFrom i i 0 xs₀ []
   stepped = rw (p .test, inv .row .start) (sym (column-step i j xs ws h (omega (arith, inv .row .wroom))) ∙ inv .rest)
@@ -55,11 +48,10 @@ module _ {xs₀ ws₀ : List ℤ} {s i : ℕ} {xs ws : List ℤ} {j at : ℕ} (i
   more : r ≡ true → Inv xs₀ ws₀ s i ys vs (j + 1) (at + (j + 1))
   more t =
       let e : small 38 (w xs s j ws) && small 24 (l xs s j ws) ≡ true = sym (p .test) ∙ t in
-      let hw : natAbs (w xs s j ws) ≤ 2 ^ 38 = leb-true _ _ (and-left _ _ e) in
-      let hl : natAbs (l xs s j ws) ≤ 2 ^ 24 = leb-true _ _ (and-right (small 38 (w xs s j ws)) _ e) in
+      let (tw, tl) = and-told (small 38 (w xs s j ws)) (small 24 (l xs s j ws)) e in
       rw (p .xset t, p .wset t)
       (record {
-        row = row-next (inv .row) h (l xs s j ws) (w xs s j ws) hl hw;
+        row = row-next (inv .row) h (l xs s j ws) (w xs s j ws) (leb-true _ _ tl) (leb-true _ _ tw);
         start = omega (arith, inv .start, tri-next j);
         xlong = length-set xs (s + j) (l xs s j ws) ∙ inv .xlong;
         wlong = length-set ws j (w xs s j ws) ∙ inv .wlong;

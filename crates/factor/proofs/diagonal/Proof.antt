@@ -6,19 +6,20 @@ use Prim.Native.Nat.{ℕ, _+_, _^_, _<_}
 use native.Mathlib.Numerals.{add-one}
 use native.Mathlib.Omega.{arith}
 use borrow.Author.Needs.{needs}
-use borrow.Author.Tests.{not-true, not-false}
+use borrow.Author.Tests.{leb-true, not-true, not-false}
 use lib.IntN.{ℤ, pos}
 use lib.Signed.{mag, leZ}
 use lib.ListN.{set, take}
+use lib.Seq.{getD-set-other}
 use Rattle.whole.specs.Packed.{tri}
 use Rattle.whole.proofs.Calc.{rd}
 use Rattle.whole.proofs.Packed.{tri-next}
 use Rattle.whole.proofs.Signs.{got}
 use Rattle.paper.specs.Factor.{small, w, rowFrom}
+use Rattle.paper.proofs.Finished.{Firm, fin-end}
 use Rattle.paper.specs.declared.Answer.the-variants.{Done, Refused}
 use Rattle.paper.specs.declared.Refusal.the-variants.{Bound, Pivot}
 use Rattle.factor.specs.Asks.{Row, RowDone}
-use Rattle.factor.proofs.Finished.{row-more, cell-after}
 use Rattle.factor.proofs.Steps.{end-step, end-asks, row-refused}
 use Rattle.factor.proofs.diagonal.Statement.{statement}
 use Rattle.factor.proofs.diagonal.Tie as tie
@@ -47,8 +48,10 @@ module _ {xs ws : List ℤ} {s i : ℕ} (row : Row xs ws s i i) {d : ℤ} (ok : 
         rw (d-is, row .start)
         (record {
           rest = rw (end-step i xs ws, ← bound-test, t, ← pivot-test, u);
-          above = λ e. row-more xs i z (rw (row .start) at (row .room)) (row .above) (rw (row .start) at (row .ls24)) (sym bound-test ∙ t) (sym pivot-test ∙ u);
-          fresh = λ e q h. let k : tri i + i < q = omega (arith, tri-next i) in rw (cell-after xs (tri i + i) q z k) (row .fresh q (omega (arith, row .start)));
+          finished = λ e.
+              let firm : Firm z = record { least = sym pivot-test ∙ u; size = leb-true _ _ (sym bound-test ∙ t) } in
+              rw add-one (fin-end xs i z (rw (row .start) at (row .room)) firm (row .finished));
+          fresh = λ e q h. rw (getD-set-other xs (tri i + i) q z (pos 0) (λ k. omega (arith, tri-next i))) (row .fresh q (omega (arith, row .start, tri-next i)));
         })
 
 entry-requires : tie.Need-entry-requires

@@ -11,16 +11,22 @@ use Rattle.whole.specs.Packed.{tri}
 use Rattle.whole.proofs.Packed.{tri-next, tri-below, tri-half, tri-small, tri-96}
 use Rattle.paper.specs.Refusals.{refused, done, then}
 use Rattle.paper.specs.Factor.{rowFrom, rowsFrom}
+use Rattle.paper.proofs.Finished.{Fin}
 use Rattle.paper.specs.declared.Answer.{Answer}
 use Rattle.paper.specs.declared.Answer.the-variants.{Done, Refused}
 use Rattle.paper.specs.declared.Refusal.{Refusal}
-use Rattle.factor.specs.Asks.{Ready, Row, RowDone}
+use Rattle.factor.specs.Asks.{Fresh, Row, RowDone}
+use Rattle.factor.proofs.Finished.{passed}
 use Rattle.factor.proofs.rows.Statement.{statement}
 use Rattle.factor.proofs.rows.Tie as tie
 
 record Inv (xs₀ ws₀ : List ℤ) (m n : ℕ) (xs ws : List ℤ) (i s : ℕ) : Type 0 where
-  ready : Ready xs i n
+  upto : i ≤ n
+  few : n ≤ 96
+  room : tri n ≤ length xs
   wroom : n ≤ length ws
+  finished : Fin xs i 0
+  fresh : Fresh xs (tri i)
   start : s ≡ tri i
   xlong : length xs ≡ length xs₀
   wlong : length ws ≡ length ws₀
@@ -35,19 +41,18 @@ abbrev μ-loop : tie.MeasureT-loop
 module _ {xs₀ ws₀ : List ℤ} {m n : ℕ} {xs ws : List ℤ} {i s : ℕ} (inv : Inv xs₀ ws₀ m n xs ws i s) (h : i < n) where
   row-asks : Row xs ws s i 0
   row-asks = record {
-    few = omega (arith, inv .ready .few);
+    few = omega (arith, inv .few);
     start = inv .start;
     upto = omega arith;
-    room = omega (arith, inv .ready .room, inv .start, tri-below i n h);
+    room = omega (arith, inv .room, inv .start, tri-below i n h);
     wroom = omega (arith, inv .wroom);
-    above = inv .ready .above;
-    fresh = λ q l. inv .ready .fresh q (omega (arith, inv .start));
-    ls24 = λ k l. absurd (omega arith);
+    finished = inv .finished;
+    fresh = λ q l. inv .fresh q (omega (arith, inv .start));
     ws38 = λ k l. absurd (omega arith);
   }
 
   starts : s + (i + 1) ≤ 4656
-  starts = omega (arith, inv .start, tri-below i n h, tri-96 n (inv .ready .few))
+  starts = omega (arith, inv .start, tri-below i n h, tri-96 n (inv .few))
 
   stepped : then (rowFrom i i 0 xs []) (rowsFrom (n - (i + 1)) (i + 1)) ≡ rowsFrom (n - m) m xs₀
   unfolding rowsFrom
@@ -59,14 +64,12 @@ module _ {xs₀ ws₀ : List ℤ} {m n : ℕ} {xs ws : List ℤ} {i s : ℕ} (in
 
     more : a ≡ Done → {vs : List ℤ} → length ys ≡ length xs → length vs ≡ length ws → Inv xs₀ ws₀ m n ys vs (i + 1) (s + (i + 1))
     more e lx lw = record {
-      ready = record {
-        upto = omega arith;
-        few = inv .ready .few;
-        room = omega (arith, inv .ready .room, lx);
-        above = p .above e;
-        fresh = p .fresh e;
-      };
+      upto = omega arith;
+      few = inv .few;
+      room = omega (arith, inv .room, lx);
       wroom = omega (arith, inv .wroom, lw);
+      finished = p .finished e;
+      fresh = p .fresh e;
       start = omega (arith, inv .start, tri-next i);
       xlong = lx ∙ inv .xlong;
       wlong = lw ∙ inv .wlong;
@@ -84,7 +87,9 @@ mul-s : tie.Need-mul-s Inv-loop μ-loop
 mul-s c = omega (arith, tri-small (c .args .m) (omega (arith, c .pre .0 .few, c .pre .0 .upto)))
 
 loop-holds : tie.Need-loop-holds Inv-loop μ-loop
-loop-holds c = record { ready = c .pre .0; wroom = c .pre .1; start = tri-half (c .args .m); xlong = refl; wlong = refl; rest = refl }
+loop-holds c =
+    let r = c .pre .0 in
+    record { upto = r .upto; few = r .few; room = r .room; wroom = c .pre .1; finished = passed (c .args .work .now) (c .args .m) (r .above); fresh = r .fresh; start = tri-half (c .args .m); xlong = refl; wlong = refl; rest = refl }
 
 row-requires : tie.Need-row-requires Inv-loop μ-loop
 row-requires c κs =
@@ -110,7 +115,7 @@ enum-told : tie.Need-enum-told Inv-loop μ-loop
 enum-told c = search needs
 
 add-i : tie.Need-add-i Inv-loop μ-loop
-add-i c = omega (arith, c .before .before .before .before .before .before .before .before .loop .inv .ready .few)
+add-i c = omega (arith, c .before .before .before .before .before .before .before .before .loop .inv .few)
 
 add-s-2 : tie.Need-add-s-2 Inv-loop μ-loop
 add-s-2 c =
