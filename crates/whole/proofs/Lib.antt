@@ -5,5 +5,6 @@ pub mod Calc
 pub mod Ring
 pub mod Rounding
 pub mod Fill
+pub mod Tests
 pub mod Sums
 pub mod Packed
