@@ -9,3 +9,14 @@ pub mod Square
 pub mod Assembled
 pub mod Update
 pub mod Finished
+pub mod Sizes
+pub mod Elements
+pub mod Weights
+pub mod Built
+pub mod Lent
+pub mod Changed
+pub mod NewCard
+pub mod Replaced
+pub mod Demand3
+pub mod Calls
+pub mod Refused

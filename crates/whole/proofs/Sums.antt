@@ -144,6 +144,22 @@ pub sumN-one : (f : ℕ → ℕ) (k n : ℕ) → k < n → f k ≤ sumN n f
 unfolding sumN
 sumN-one f k n h = omega (arith, sumN-upto f (suc k) n h)
 
+-- where a test holds of at most one of them
+pub sumN-once : (n : ℕ) (f : ℕ → Bool) (c : ℕ) → ((a b : ℕ) → a < n → b < n → f a ≡ true → f b ≡ true → a ≡ b) → sumN n (λ k. cond (f k) c 0) ≤ c
+unfolding sumN
+sumN-once zero f c h = omega arith
+sumN-once (suc n) f c h = go (f n) refl (sumN-once n f c (λ a b l m. h a b (omega arith) (omega arith)))
+  where
+    go : (t : Bool) → f n ≡ t → sumN n (λ k. cond (f k) c 0) ≤ c → sumN n (λ k. cond (f k) c 0) + cond (f n) c 0 ≤ c
+    go false e ih = rw e (omega arith)
+    go true e ih =
+        let none : sumN n (λ k. cond (f k) c 0) ≡ 0 = sumN-none n (λ k. cond (f k) c 0) (λ k l. off k l (f k) refl) in
+        rw (e, none) (omega arith)
+      where
+        off : (k : ℕ) → k < n → (t : Bool) → f k ≡ t → cond (f k) c 0 ≡ 0
+        off k l false q = ap (λ (t : Bool). cond t c 0) q
+        off k l true q = absurd (let z : k ≡ n = h k n (omega arith) (omega arith) q e in omega arith)
+
 -- ---- the size of a sum
 
 pub abs-sum : (n : ℕ) (f : ℕ → ℤ) → natAbs (sum n f) ≤ sumN n (λ k. natAbs (f k))

@@ -1,0 +1,3 @@
+-- What is promised. Each statement is to be read; its proof stands below, in the crate that holds the definitions.
+pub mod Numbers
+pub mod Outcomes

@@ -1,0 +1,60 @@
+-- No second outcome satisfies a call's promise: each call's answer and every lent number at exit are fixed by the values at entry.
+use mathlib.Core.Path.{_≡_, refl, sym, _∙_}
+use mathlib.Core.Bool.{cond}
+use mathlib.Core.List.{List}
+use Prim.Native.Nat.{ℕ}
+use lib.Dec.{eqb}
+use lib.IntN.{ℤ}
+use Rattle.paper.specs.Refusals.{numberOf, placeOf}
+use Rattle.paper.specs.Building.{Slices}
+use Rattle.paper.specs.Calls.{Read, readCall, Written, writeCall, Lent, Exit, buildCall, replaceCall, StepExit, stepCall, RunExit, runCall}
+use Rattle.paper.specs.declared.Refusal.{Refusal}
+use Rattle.paper.specs.declared.Refusal.the-variants.{Length, Trailer, Form, Range, Flat, Stiff, Pivot, Bound, Short, Foreign, OffScale, Unsettled, Replacement}
+
+-- the paper's number and place tell each refusal: this one has them
+abbrev pub refusalOf : ℕ → ℕ → Refusal
+refusalOf n place =
+    cond (eqb n 1) Length (cond (eqb n 2) Trailer (cond (eqb n 3) (Form place) (cond (eqb n 4) (Range place)
+    (cond (eqb n 5) (Flat place) (cond (eqb n 6) (Stiff place) (cond (eqb n 7) (Pivot place) (cond (eqb n 8) (Bound place)
+    (cond (eqb n 9) Short (cond (eqb n 10) Foreign (cond (eqb n 11) (OffScale place) (cond (eqb n 12) (Unsettled place) (Replacement place))))))))))))
+
+pub number-and-place-tell : (r : Refusal) → refusalOf (numberOf r) (placeOf r) ≡ r
+unfolding numberOf placeOf
+number-and-place-tell Length = refl
+number-and-place-tell Trailer = refl
+number-and-place-tell (Form k) = refl
+number-and-place-tell (Range k) = refl
+number-and-place-tell (Flat k) = refl
+number-and-place-tell (Stiff k) = refl
+number-and-place-tell (Pivot k) = refl
+number-and-place-tell (Bound k) = refl
+number-and-place-tell Short = refl
+number-and-place-tell Foreign = refl
+number-and-place-tell (OffScale k) = refl
+number-and-place-tell (Unsettled k) = refl
+number-and-place-tell (Replacement k) = refl
+
+-- every outcome that keeps the promise is this one
+abbrev pub Only : {X : Type 0} → X → Type 0
+Only {X} x = (y z : X) → y ≡ x → z ≡ x → y ≡ z
+
+only : {X : Type 0} (x : X) → Only x
+only x y z p q = p ∙ sym q
+
+pub read-only : (bytes table : List ℕ) → Only (readCall bytes table)
+read-only bytes table = only (readCall bytes table)
+
+pub write-only : (table bytes : List ℕ) → Only (writeCall table bytes)
+write-only table bytes = only (writeCall table bytes)
+
+pub build-only : (table : List ℕ) (lent : Lent) → Only (buildCall table lent)
+build-only table lent = only (buildCall table lent)
+
+pub replace-only : (table : List ℕ) (lent : Lent) (card : ℕ) (new : List ℕ) → Only (replaceCall table lent card new)
+replace-only table lent card new = only (replaceCall table lent card new)
+
+pub step-only : (table : List ℕ) (lent : Slices) (temperatures : List ℤ) → Only (stepCall table lent temperatures)
+step-only table lent temperatures = only (stepCall table lent temperatures)
+
+pub run-only : (table : List ℕ) (lent : Slices) (temperatures : List ℤ) → Only (runCall table lent temperatures)
+run-only table lent temperatures = only (runCall table lent temperatures)

@@ -1,0 +1,1 @@
+// What is promised, as theorems alone: see proofs/.
