@@ -1,0 +1,147 @@
+-- What a build and a replacement leave, at each of their ends: the deck or the card refused, slices too short or foreign, an element refused, the factor's end.
+use mathlib.Core.Path.{_≡_, refl, sym, ap, subst, _∙_}
+use mathlib.Core.Bool.{Bool, true, false, _&&_, _||_}
+use mathlib.Core.List.{List, _++_}
+use Prim.Native.Nat.{ℕ, _-_, _≤_, _<_}
+use native.Mathlib.Omega.{arith}
+use borrow.Author.Tests.{le-leb, lt-leb}
+use lib.Dec.{leb}
+use lib.IntN.{ℤ, pos}
+use lib.ListN.{length, take, drop, replicate, length-append, length-replicate, take-append-drop}
+use lib.Seq.{length-take-le}
+use Rattle.whole.specs.Packed.{tri, lower, entry}
+use Rattle.whole.proofs.Packed.{length-lower}
+use Rattle.paper.specs.Refusals.{numberOf, Outcome, refused, done, when, then, after, answerOf}
+use Rattle.paper.specs.Cards.{nodes, elements, elementRow, put}
+use Rattle.paper.specs.Judge.{judged, newJudged}
+use Rattle.paper.specs.Matrices.{P, A, addsP, addsA, fixed, cleared}
+use Rattle.paper.specs.Factor.{rowsFrom}
+use Rattle.paper.specs.Building.{Slices, elementsFrom, build}
+use Rattle.paper.specs.Triangle.{elementJudged}
+use Rattle.paper.specs.Replacing.{elementOf, leastRow, moved, stirs, redone, replaced}
+use Rattle.paper.specs.Lent.{foreign}
+use Rattle.paper.specs.Calls.{Lent, Exit, long, roomy, over, cut, enough, worked, inFactor, leaves, buildOutcome, buildCall, replaceOutcome, replaceCall}
+use Rattle.paper.specs.declared.Answer.{Answer}
+use Rattle.paper.specs.declared.Answer.the-variants.{Done, Refused}
+use Rattle.paper.specs.declared.Refusal.{Refusal}
+use Rattle.paper.specs.declared.Refusal.the-variants.{Short, Foreign}
+use Rattle.paper.proofs.Refused.{Plain, plain-told, judged-plain, new-plain, element-plain, elements-plain, Inside, inside-told, rows-inside}
+use Rattle.paper.proofs.Outcomes.{ends-done}
+use Rattle.paper.proofs.Update.{Kept, rows-keep}
+use Rattle.model.specs.Asks.{made, ifMade, factorOf, fromRow, movedP, movedA, factorFrom}
+
+-- a refusal that is none of the factor's leaves all as it was
+pub kept : (t new : List ℕ) (works : Bool) (z : Lent) (r : Refusal) → inFactor r ≡ false → leaves t new works z (refused r) ≡ record { answer = Refused r; table = t; lent = z }
+unfolding leaves
+kept t new works z r e = go works (inFactor r) e
+  where
+    go : (b c : Bool) → c ≡ false
+        → _≡_ {A = Exit} (record { answer = Refused r; table = t; lent = record { p = z .p; a = z .a; factor = z .factor; work = worked t (b && c) (z .work) } }) (record { answer = Refused r; table = t; lent = z })
+    go true c e = rw e
+    go false c e = refl
+
+-- ---- what is lent
+
+-- the slices of an entry, or an exit, as the call's definition has them
+abbrev pub lent : List ℤ → List ℤ → List ℤ → List ℤ → Lent
+lent p a factor work = record { p = p; a = a; factor = factor; work = work }
+
+abbrev pub same : Answer → List ℕ → Lent → Exit
+same r t z = record { answer = r; table = t; lent = z }
+
+pub enough-is : (t : List ℕ) (z : Lent) → long t ≤ length (z .p) → long t ≤ length (z .a) → long t ≤ length (z .factor) → long t ≤ length (z .work) → enough t z ≡ true
+unfolding enough
+enough-is t z hp ha hf hw = rw (le-leb (long t) (length (z .p)) hp, le-leb (long t) (length (z .a)) ha, le-leb (long t) (length (z .factor)) hf, le-leb (long t) (length (z .work)) hw)
+
+module _ (t : List ℕ) (z : Lent) where
+  -- ---- refusals before the factor
+
+  pub no-deck : (r : Refusal) → judged t ≡ Refused r → buildCall t z ≡ same (Refused r) t z
+  unfolding buildCall buildOutcome
+  no-deck r e = rw e (kept t t true z r (plain-told (judged t) r (judged-plain t) e))
+
+  module _ (ok : judged t ≡ Done) where
+    pub no-room : enough t z ≡ false → buildCall t z ≡ same (Refused Short) t z
+    unfolding buildCall buildOutcome numberOf
+    no-room e = rw (ok, e) (kept t t true z Short refl)
+
+    module _ (room : enough t z ≡ true) where
+      pub no-element : (r : Refusal) → elementsFrom (elements t) 1 t ≡ Refused r → buildCall t z ≡ same (Refused r) t z
+      unfolding buildCall buildOutcome build
+      no-element r e = rw (ok, room, e) (kept t t true z r (plain-told (elementsFrom (elements t) 1 t) r (elements-plain (elements t) 1 t) e))
+
+      -- ---- the factor's end
+      module _ (sound : elementsFrom (elements t) 1 t ≡ Done) where
+        pub ended : (o : Outcome (List ℤ)) → factorOf t ≡ o
+            → buildCall t z ≡ same (answerOf o) t
+            (lent
+            (ifMade o (lower (nodes t) (P t)) (take (long t) (z .p)) ++ drop (long t) (z .p))
+            (ifMade o (lower (nodes t) (A t)) (take (long t) (z .a)) ++ drop (long t) (z .a))
+            (made o (take (long t) (z .factor)) ++ drop (long t) (z .factor))
+            (replicate (long t) (pos 0) ++ drop (long t) (z .work)))
+        unfolding buildCall buildOutcome build leaves
+        ended (done f) e =
+            let x = lower (nodes t) (cleared (fixed t) (A t)) in
+            let long-f : length f ≡ long t = ends-done (Kept 0 x) (rowsFrom (nodes t) 0 x) f (rows-keep 0 (nodes t) 0 x (omega arith)) e .long ∙ length-lower (nodes t) (cleared (fixed t) (A t)) in
+            rw (ok, room, sound, e, length-lower (nodes t) (P t), length-lower (nodes t) (A t), long-f, length-replicate (long t) (pos 0))
+        ended (refused r) e =
+            rw (ok, room, sound, e, inside-told (factorOf t) r (rows-inside (nodes t) 0 (lower (nodes t) (cleared (fixed t) (A t)))) e, length-replicate (long t) (pos 0),
+              take-append-drop (long t) (z .p), take-append-drop (long t) (z .a), take-append-drop (long t) (z .factor))
+
+-- ---- a replacement
+
+-- what of a slice is read and written again
+whole-again : (n : ℕ) (xs : List ℤ) → n ≤ length xs → over (take n xs) xs ≡ xs
+whole-again n xs h = rw (length-take-le n xs h) (take-append-drop n xs)
+
+module _ (t : List ℕ) (z : Lent) (card : ℕ) (new : List ℕ) where
+  pub no-table : (r : Refusal) → judged t ≡ Refused r → replaceCall t z card new ≡ same (Refused r) t z
+  unfolding replaceCall replaceOutcome
+  no-table r e = rw e (kept t (put t (card - 1) new) (stirs t (card - 1)) z r (plain-told (judged t) r (judged-plain t) e))
+
+  module _ (ok : judged t ≡ Done) where
+    pub no-card : (r : Refusal) → newJudged t card new ≡ Refused r → replaceCall t z card new ≡ same (Refused r) t z
+    unfolding replaceCall replaceOutcome
+    no-card r e = rw (ok, e) (kept t (put t (card - 1) new) (stirs t (card - 1)) z r (plain-told (newJudged t card new) r (new-plain t card new) e))
+
+    module _ (fit : newJudged t card new ≡ Done) where
+      pub no-slices : enough t z ≡ false → replaceCall t z card new ≡ same (Refused Short) t z
+      unfolding replaceCall replaceOutcome numberOf
+      no-slices e = rw (ok, fit, e) (kept t (put t (card - 1) new) (stirs t (card - 1)) z Short refl)
+
+      module _ (room : enough t z ≡ true) where
+        pub no-own : foreign (nodes t) (cut t z) ≡ true → replaceCall t z card new ≡ same (Refused Foreign) t z
+        unfolding replaceCall replaceOutcome numberOf
+        no-own e = rw (ok, fit, room, e) (kept t (put t (card - 1) new) (stirs t (card - 1)) z Foreign refl)
+
+        module _ (tame : foreign (nodes t) (cut t z) ≡ false) where
+          -- H and T
+          pub card-alone : long t ≤ length (z .p) → long t ≤ length (z .a) → long t ≤ length (z .factor) → stirs t (card - 1) ≡ false
+              → replaceCall t z card new ≡ same Done (put t (card - 1) new) z
+          unfolding replaceCall replaceOutcome replaced leaves cut
+          card-alone hp ha hf e = rw (ok, fit, room, tame, e, whole-again (long t) (z .p) hp, whole-again (long t) (z .a) ha, whole-again (long t) (z .factor) hf)
+
+          -- E and F
+          module _ (stir : stirs t (card - 1) ≡ true) where
+            pub no-form : (r : Refusal) → elementJudged (put t (card - 1) new) (elementOf (put t (card - 1) new) (card - 1)) ≡ Refused r
+                → replaceCall t z card new ≡ same (Refused r) t z
+            unfolding replaceCall replaceOutcome replaced redone
+            no-form r e =
+                rw (ok, fit, room, tame, stir, e)
+                (kept t (put t (card - 1) new) true z r (plain-told _ r (element-plain (put t (card - 1) new) (elementOf (put t (card - 1) new) (card - 1))) e))
+
+            module _ (sound : elementJudged (put t (card - 1) new) (elementOf (put t (card - 1) new) (card - 1)) ≡ Done) where
+              pub redone-ended : (o : Outcome (List ℤ)) → factorFrom t (take (long t) (z .a)) (take (long t) (z .factor)) (card - 1) new ≡ o
+                  → length (made o (take (long t) (z .factor))) ≡ long t
+                  → replaceCall t z card new ≡ same (answerOf o) (ifMade o (put t (card - 1) new) t)
+                  (lent
+                  (ifMade o (movedP t (take (long t) (z .p)) (card - 1) new) (take (long t) (z .p)) ++ drop (long t) (z .p))
+                  (ifMade o (movedA t (take (long t) (z .a)) (card - 1) new) (take (long t) (z .a)) ++ drop (long t) (z .a))
+                  (made o (take (long t) (z .factor)) ++ drop (long t) (z .factor))
+                  (replicate (long t) (pos 0) ++ drop (long t) (z .work)))
+              unfolding replaceCall replaceOutcome replaced redone leaves cut moved
+              redone-ended (done f) e l =
+                  rw (ok, fit, room, tame, stir, sound, e, length-lower, length-lower, l, length-replicate (long t) (pos 0))
+              redone-ended (refused r) e l =
+                  rw (ok, fit, room, tame, stir, sound, e, inside-told _ r (rows-inside _ _ _) e, length-replicate (long t) (pos 0),
+                    take-append-drop (long t) (z .p), take-append-drop (long t) (z .a), take-append-drop (long t) (z .factor))
