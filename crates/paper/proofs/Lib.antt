@@ -23,3 +23,10 @@ pub mod Replaced
 pub mod Demand3
 pub mod Calls
 pub mod Refused
+pub mod Judging
+pub mod Fields
+pub mod CardText
+pub mod Joined
+pub mod Reading
+pub mod Printing
+pub mod RoundTrip
