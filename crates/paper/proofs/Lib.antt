@@ -11,7 +11,9 @@ pub mod Assembled
 pub mod Update
 pub mod Finished
 pub mod Sizes
+pub mod Places
 pub mod Elements
+pub mod Adds
 pub mod Weights
 pub mod Built
 pub mod Lent
@@ -21,3 +23,10 @@ pub mod Replaced
 pub mod Demand3
 pub mod Calls
 pub mod Refused
+pub mod Judging
+pub mod Fields
+pub mod CardText
+pub mod Joined
+pub mod Reading
+pub mod Printing
+pub mod RoundTrip

@@ -209,6 +209,11 @@ any-each n f e k l = go (f k) refl
     go false q = q
     go true q = absurd (true≢false (sym (any-one n f k l q) ∙ e))
 
+-- none so far, nor this one
+pub any-next : (n : ℕ) (f : ℕ → Bool) → any n f ≡ false → f n ≡ false → any (n + 1) f ≡ false
+unfolding any
+any-next n f e h = ap (λ (k : ℕ). any k f) (add-one n) ∙ (λ i. e i || h i)
+
 -- ---- tables
 
 pub table-length : (n : ℕ) (f : ℕ → ℤ) → length (table n f) ≡ n

@@ -1,0 +1,71 @@
+-- What lent numbers that refusal 10 lets pass are: the bounds of a step and of a replacement.
+use mathlib.Core.Path.{_≡_, refl, sym, ap, _∙_}
+use mathlib.Core.Bool.{Bool, true, false, not, _||_}
+use mathlib.Core.List.{List}
+use Prim.Native.Nat.{ℕ, _+_, _^_, _≤_, _<_}
+use native.Mathlib.Omega.{arith}
+use lib.Dec.{leb, T}
+use lib.IntN.{ℤ, pos, natAbs}
+use lib.Signed.{leZ, _≤ℤ_, _<ℤ_}
+use borrow.Author.Tests.{leb-true, not-false}
+use Rattle.whole.specs.Sums.{sumN, any}
+use Rattle.whole.specs.Packed.{tri, cell, entry}
+use Rattle.whole.proofs.Linear.{zarith}
+use Rattle.whole.proofs.Sums.{sumN-upto, sumN-one, any-each}
+use Rattle.whole.proofs.Tests.{and-told, nor-told}
+use Rattle.paper.specs.Building.{Slices}
+use Rattle.paper.specs.Factor.{small}
+use Rattle.paper.specs.Lent.{rowSize, heavy, pivot, badRow, noFactor, foreign}
+use Rattle.lent.specs.Rows.{Rows, Light, Sound}
+
+pub light : (m : List ℤ) (n : ℕ) → Rows m n → heavy n m ≡ false → Light m n
+unfolding heavy
+light m n q e = record {
+  rows = q;
+  each = λ i h. leb-true (rowSize n m i) (2 ^ 33) (not-false _ (any-each n (λ i. not (leb (rowSize n m i) (2 ^ 33))) e i h));
+}
+
+-- an entry of such a matrix, and a part of its row
+pub light-entry : {m : List ℤ} {n : ℕ} → Light m n → (i j : ℕ) → i < n → j < n → natAbs (entry m i j) ≤ 2 ^ 33
+unfolding rowSize
+light-entry {m} {n} h i j k l = omega (arith, h .each i k, sumN-one (λ (q : ℕ). natAbs (entry m i q)) j n l)
+
+pub light-part : {m : List ℤ} {n : ℕ} → Light m n → (i j : ℕ) → i < n → j ≤ n → sumN j (λ q. natAbs (entry m i q)) ≤ 2 ^ 33
+unfolding rowSize
+light-part {m} {n} h i j k l = omega (arith, h .each i k, sumN-upto (λ (q : ℕ). natAbs (entry m i q)) j n l)
+
+record Row (l : List ℤ) (i : ℕ) : Type 0 where
+  low : (k : ℕ) → k < i → natAbs (cell l (tri i + k)) ≤ 2 ^ 24
+  end : pivot (cell l (tri i + i)) ≡ true
+
+row-told : (l : List ℤ) (i : ℕ) → badRow l i ≡ false → Row l i
+unfolding badRow
+row-told l i e =
+    let (a, b) = nor-told (any i (λ j. not (small 24 (cell l (tri i + j))))) (not (pivot (cell l (tri i + i)))) e in
+    record {
+      low = λ k h. leb-true (natAbs (cell l (tri i + k))) (2 ^ 24) (not-false _ (any-each i (λ j. not (small 24 (cell l (tri i + j)))) a k h));
+      end = not-false (pivot (cell l (tri i + i))) b;
+    }
+
+pub sound : (l : List ℤ) (n : ℕ) → Rows l n → noFactor n l ≡ false → Sound l n
+unfolding noFactor
+sound l n q e = record {
+  rows = q;
+  low = λ i k h. row-told l i (any-each n (badRow l) e i h) .low k;
+  least = λ i h. let (a, b) = ends i h in omega (zarith, a);
+  most = λ i h. let (a, b) = ends i h in leb-true (natAbs (cell l (tri i + i))) (2 ^ 38) b;
+}
+  where
+    ends : (i : ℕ) → i < n → (leZ (pos 16) (cell l (tri i + i)) ≡ true) × (small 38 (cell l (tri i + i)) ≡ true)
+    ends i h = and-told (leZ (pos 16) (cell l (tri i + i))) (small 38 (cell l (tri i + i))) (row-told l i (any-each n (badRow l) e i h) .end)
+
+pub sound-above : {l : List ℤ} {n : ℕ} → Sound l n → (i : ℕ) → i < n → pos 0 <ℤ cell l (tri i + i)
+sound-above {l} {n} s i h = let k = s .least i h in omega zarith
+
+-- all that is lent
+pub foreign-told : (n : ℕ) (s : Slices) → foreign n s ≡ false → (heavy n (s .p) ≡ false) × (heavy n (s .a) ≡ false) × (noFactor n (s .factor) ≡ false)
+unfolding foreign
+foreign-told n s e =
+    let (b, f) = nor-told (heavy n (s .p) || heavy n (s .a)) (noFactor n (s .factor)) e in
+    let (p, a) = nor-told (heavy n (s .p)) (heavy n (s .a)) b in
+    (p, a, f)

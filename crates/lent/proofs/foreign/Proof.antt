@@ -1,0 +1,32 @@
+-- The first test that holds answers.
+use borrow.Author.Needs.{needs}
+use Rattle.lent.proofs.foreign.Statement.{statement}
+use Rattle.lent.proofs.foreign.Tie as tie
+use Rattle.lent.proofs.Turns.{p-heavy, a-heavy, rest}
+
+heavy-requires : tie.Need-heavy-requires
+heavy-requires c κs = search needs
+
+returns : tie.Need-returns
+returns c = let s = c .before .before .args in p-heavy (s .p .now) (s .a .now) (s .factor .now) (s .n) (c .before .heavy .result) (c .before .heavy .ensures) (c .if1 .taken)
+
+heavy-requires-2 : tie.Need-heavy-requires-2
+heavy-requires-2 c κs = search needs
+
+returns-2 : tie.Need-returns-2
+returns-2 c =
+    let s = c .before .before .before .before .args in
+    a-heavy (s .p .now) (s .a .now) (s .factor .now) (s .n) (c .before .before .before .heavy .result) (c .before .before .before .heavy .ensures) (c .before .before .if1 .left) (c .before .heavy2 .result) (c .before .heavy2 .ensures) (c .if2 .taken)
+
+no-factor-requires : tie.Need-no-factor-requires
+no-factor-requires c κs = search needs
+
+returns-3 : tie.Need-returns-3
+returns-3 c =
+    let s = c .before .before .before .before .before .args in
+    rest (s .p .now) (s .a .now) (s .factor .now) (s .n) (c .before .before .before .before .heavy .result) (c .before .before .before .before .heavy .ensures) (c .before .before .before .if1 .left) (c .before .before .heavy2 .result) (c .before .before .heavy2 .ensures) (c .before .if2 .left) (c .no-factor .result) (c .no-factor .ensures)
+
+pub foreign-spec : {M : Type 1} → statement M
+foreign-spec =
+    tie.close
+    (tie.spec heavy-requires returns heavy-requires-2 returns-2 no-factor-requires returns-3)

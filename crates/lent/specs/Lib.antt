@@ -1,0 +1,2 @@
+-- What the tests of lent numbers ask, and what they tell.
+pub mod Rows

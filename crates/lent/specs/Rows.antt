@@ -1,0 +1,32 @@
+-- A lent triangle of n rows: room for it, and the bounds that refusal 10 leaves.
+use Prim.Native.Nat.{ℕ, _+_, _^_, _≤_, _<_}
+use mathlib.Core.List.{List}
+use lib.IntN.{ℤ, pos, natAbs}
+use lib.Signed.{_≤ℤ_}
+use lib.ListN.{length}
+use Rattle.whole.specs.Packed.{tri, cell}
+use Rattle.paper.specs.Building.{Slices}
+use Rattle.paper.specs.Lent.{rowSize}
+
+abbrev pub lent : List ℤ → List ℤ → List ℤ → Slices
+lent p a factor = record { p = p; a = a; factor = factor }
+
+pub record Rows (m : List ℤ) (n : ℕ) : Type 0 where
+  pub few : n ≤ 96
+  pub room : tri n ≤ length m
+
+pub record InRow (m : List ℤ) (i n : ℕ) : Type 0 where
+  pub rows : Rows m n
+  pub here : i < n
+
+-- a matrix that is not heavy
+pub record Light (m : List ℤ) (n : ℕ) : Type 0 where
+  pub rows : Rows m n
+  pub each : (i : ℕ) → i < n → rowSize n m i ≤ 2 ^ 33
+
+-- a factor
+pub record Sound (l : List ℤ) (n : ℕ) : Type 0 where
+  pub rows : Rows l n
+  pub low : (i k : ℕ) → i < n → k < i → natAbs (cell l (tri i + k)) ≤ 2 ^ 24
+  pub least : (i : ℕ) → i < n → pos 16 ≤ℤ cell l (tri i + i)
+  pub most : (i : ℕ) → i < n → natAbs (cell l (tri i + i)) ≤ 2 ^ 38

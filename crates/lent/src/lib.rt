@@ -1,0 +1,118 @@
+// Refusal 10: lent numbers that no build gives. The numbers may be of any size, the least i64 too.
+ghost use mathlib.Core.Path.{_≡_};
+ghost use mathlib.Core.Bool.{not};
+ghost use Prim.Native.Nat.{ℕ, _+_, _^_, _≤_, _<_};
+ghost use lib.Dec.{leb};
+ghost use lib.IntN.{natAbs};
+ghost use lib.ListN.{length};
+ghost use Rattle.whole.specs.Sums.{any};
+ghost use Rattle.whole.specs.Packed.{tri, place, cell};
+ghost use Rattle.paper.specs.Factor.{small};
+ghost use Rattle.paper.specs.Lent.{rowSize, heavy, pivot, badRow, noFactor, foreign};
+ghost use Rattle.lent.specs.Rows.{InRow, Rows, lent};
+
+// Where row i starts.
+pub fn start(i: usize) -> usize
+    requires { ⌜ i ≤ 96 ⌝ }
+    ensures { λ r. ⌜ r ≡ tri i ⌝ }
+{
+    i * (i + 1) / 2
+}
+
+// The place of row i, column j + 1, from that of column j: a full row, both sides of the diagonal, with no multiplication.
+pub fn next(at: usize, i: usize, j: usize) -> usize
+    requires { ⌜ (at ≡ place i j) × (i < 96) × (j < 96) ⌝ }
+    ensures { λ r. ⌜ r ≡ place i (j + 1) ⌝ }
+{
+    if j < i { at + 1 } else { at + j + 1 }
+}
+
+// Whether the magnitudes of row i sum above 2^33. A size is at most 2^63, so a sum that stops there fits.
+fn heavy_row(m: &[i64], i: usize, n: usize) -> bool
+    requires { ⌜ InRow (now m) i n ⌝ }
+    ensures { λ r. ⌜ r ≡ not (leb (rowSize n (now (m .entry)) i) (2 ^ 33)) ⌝ }
+{
+    let mut sum: u64 = 0;
+    let mut at = start(i);
+    let mut j = 0;
+    while j < n {
+        sum += whole::size(m[at]);
+        if 8_589_934_592 < sum {
+            return true;
+        }
+        at = next(at, i, j);
+        j += 1;
+    }
+    false
+}
+
+pub fn heavy(m: &[i64], n: usize) -> bool
+    requires { ⌜ Rows (now m) n ⌝ }
+    ensures { λ r. ⌜ r ≡ heavy n (now (m .entry)) ⌝ }
+{
+    let mut i = 0;
+    while i < n {
+        if heavy_row(m, i, n) {
+            return true;
+        }
+        i += 1;
+    }
+    false
+}
+
+// Whether one of the n numbers from `at` on is no l.
+fn large(l: &[i64], at: usize, n: usize) -> bool
+    requires { ⌜ at + n ≤ length (now l) ⌝ }
+    ensures { λ r. ⌜ r ≡ any n (λ j. not (small 24 (cell (now (l .entry)) (at + j)))) ⌝ }
+{
+    let mut j = 0;
+    while j < n {
+        if 16_777_216 < whole::size(l[at + j]) {
+            return true;
+        }
+        j += 1;
+    }
+    false
+}
+
+fn pivot(d: i64) -> bool
+    ensures { λ r. ⌜ r ≡ pivot d ⌝ }
+{
+    16 <= d && whole::size(d) <= 274_877_906_944
+}
+
+fn bad_row(l: &[i64], i: usize, n: usize) -> bool
+    requires { ⌜ InRow (now l) i n ⌝ }
+    ensures { λ r. ⌜ r ≡ badRow (now (l .entry)) i ⌝ }
+{
+    let at = start(i);
+    large(l, at, i) || !pivot(l[at + i])
+}
+
+pub fn no_factor(l: &[i64], n: usize) -> bool
+    requires { ⌜ Rows (now l) n ⌝ }
+    ensures { λ r. ⌜ r ≡ noFactor n (now (l .entry)) ⌝ }
+{
+    let mut i = 0;
+    while i < n {
+        if bad_row(l, i, n) {
+            return true;
+        }
+        i += 1;
+    }
+    false
+}
+
+// Of all that is lent: P, A, then the factor.
+pub fn foreign(p: &[i64], a: &[i64], factor: &[i64], n: usize) -> bool
+    requires { ⌜ Rows (now p) n × Rows (now a) n × Rows (now factor) n ⌝ }
+    ensures { λ r. ⌜ r ≡ foreign n (lent (now (p .entry)) (now (a .entry)) (now (factor .entry))) ⌝ }
+{
+    if heavy(p, n) {
+        return true;
+    }
+    if heavy(a, n) {
+        return true;
+    }
+    no_factor(factor, n)
+}
