@@ -10,8 +10,8 @@ use native.Mathlib.Numerals.{add-one}
 use native.Mathlib.Omega.{arith}
 use lib.Dec.{eqb}
 use lib.IntN.{ℤ, pos, natAbs, _+ℤ_, _-ℤ_, +ℤ-idl, +ℤ-idr}
-use lib.ListN.{length, getD, set, drop, length-append, List·getD-append, drop-of-length-le}
-use lib.Seq.{getD-at, set-at, drop-cons}
+use lib.ListN.{length, getD, set, drop, replicate, length-append, length-replicate, getD-replicate, List·getD-append, drop-of-length-le}
+use lib.Seq.{getD-at, set-at, drop-cons, ext-getD}
 use borrow.Author.Tests.{eq-eqb, ne-eqb}
 use Rattle.whole.specs.Sums.{sum, sumN, any, firstFrom, table}
 use Rattle.whole.specs.Packed.{cell}
@@ -234,6 +234,17 @@ pub table-ext : (n : ℕ) (f g : ℕ → ℤ) → ((k : ℕ) → k < n → f k �
 unfolding table
 table-ext zero f g h = refl
 table-ext (suc n) f g h = λ i. table-ext n f g (λ k l. h k (omega arith)) i ++ h n (omega arith) i ∷ []
+
+-- a list is the table of its numbers, and a table of one number repeats it
+pub table-eta : (xs : List ℤ) → table (length xs) (cell xs) ≡ xs
+table-eta xs =
+    ext-getD (pos 0) (table (length xs) (cell xs)) xs (table-length (length xs) (cell xs))
+    (λ k l. table-at (length xs) k (cell xs) (omega (arith, table-length (length xs) (cell xs))))
+
+pub table-same : (n : ℕ) (v : ℤ) → table n (λ k. v) ≡ replicate n v
+table-same n v =
+    ext-getD (pos 0) (table n (λ k. v)) (replicate n v) (table-length n (λ k. v) ∙ sym (length-replicate n v))
+    (λ k l. let h : k < n = omega (arith, table-length n (λ k. v)) in table-at n k (λ k. v) h ∙ sym (getD-replicate n k v (pos 0) h))
 
 -- a list that is filled from the front
 abbrev pub filled : (ℕ → ℤ) → List ℤ → ℕ → List ℤ

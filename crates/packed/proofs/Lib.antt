@@ -1,0 +1,2 @@
+-- Laws of packed slices.
+mod Adding

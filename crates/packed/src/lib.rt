@@ -1,0 +1,111 @@
+// A matrix as its lower triangle by rows: places, a square added, A and P assembled, A' in place.
+use paper::Element;
+use paper::Node;
+use triangle::Shape;
+ghost use mathlib.Core.Path.{_≡_};
+ghost use mathlib.Core.List.{List};
+ghost use Prim.Native.Nat.{ℕ, suc, _+_, _-_, _*_, _^_, _≤_, _<_};
+ghost use lib.Dec.{eqb};
+ghost use lib.IntN.{ℤ, pos, natAbs, _+ℤ_};
+ghost use lib.ListN.{length, replicate};
+ghost use Rattle.whole.specs.Packed.{tri, place, entry, lower};
+ghost use Rattle.whole.proofs.Packed.{add};
+ghost use Rattle.paper.specs.Cards.{nodes};
+ghost use Rattle.paper.specs.Matrices.{spread, addsP, addsA, P, A, fixes, fixed, cleared};
+ghost use Rattle.paper.specs.declared.Kind.the-variants.{E, F};
+ghost use Rattle.paper.proofs.Decks.{Deck, In, Is};
+ghost use Rattle.paper.proofs.Places.{addRow, addSquare};
+ghost use Rattle.triangle.specs.Forms.{at};
+ghost use Rattle.packed.specs.Forms.{numbers};
+ghost use Rattle.packed.specs.Asks.{Bounded, AddsAt, Adds, Takes, Sound, Card, Clears};
+
+const E: u32 = 69;
+const F: u32 = 70;
+const T: u32 = 84;
+
+// ---- whole slices
+
+pub fn zero(xs: &mut [i64])
+    ensures { λ _. ⌜ now (xs .exit) ≡ replicate (length (now (xs .entry))) (pos 0) ⌝ }
+{
+    let mut k = 0;
+    while k < xs.len() {
+        xs[k] = 0;
+        k += 1;
+    }
+}
+
+pub fn copy(from: &[i64], to: &mut [i64])
+    requires { ⌜ length (now to) ≡ length (now from) ⌝ }
+    ensures { λ _. ⌜ now (to .exit) ≡ now (from .entry) ⌝ }
+{
+    let mut k = 0;
+    while k < from.len() {
+        to[k] = from[k];
+        k += 1;
+    }
+}
+
+// ---- places
+
+// Of row i, from 0.
+pub fn start(i: usize) -> usize
+    requires { ⌜ i ≤ 96 ⌝ }
+    ensures { λ r. ⌜ r ≡ tri i ⌝ }
+{
+    i * (i + 1) / 2
+}
+
+fn place(i: usize, j: usize) -> usize
+    requires { ⌜ (i < 96) × (j < 96) ⌝ }
+    ensures { λ r. ⌜ r ≡ place i j ⌝ }
+{
+    if j <= i { start(i) + j } else { start(j) + i }
+}
+
+// Of the next column in row i of the full matrix, after the place of column j.
+fn after(at: usize, i: usize, j: usize) -> usize
+    requires { ⌜ (at ≡ place i j) × (i < 96) × (j < 96) ⌝ }
+    ensures { λ r. ⌜ r ≡ place i (j + 1) ⌝ }
+{
+    if j < i { at + 1 } else { at + j + 1 }
+}
+
+// ---- a square added
+
+fn add_at(xs: &mut [i64], a: Node, b: Node, v: i64)
+    requires { ⌜ AddsAt (now xs) (a .0) (b .0) × (natAbs v ≤ 2 ^ 52) ⌝ }
+    ensures { λ _. ⌜ now (xs .exit) ≡ add (now (xs .entry)) (a .0 - 1) (b .0 - 1) v ⌝ }
+{
+    let k = place(a.0 as usize - 1, b.0 as usize - 1);
+    xs[k] = xs[k] + v;
+}
+
+// Of the first two corners.
+fn add_two(xs: &mut [i64], c: [Node; 3], q: [[i64; 3]; 3])
+    requires { ⌜ Adds (2 ^ 52) (now xs) (numbers c) q ⌝ }
+    ensures { λ _. ⌜ now (xs .exit) ≡ addSquare 2 (now (xs .entry)) (numbers c) (at q) ⌝ }
+{
+    add_at(xs, c[0], c[0], q[0][0]);
+    add_at(xs, c[1], c[0], q[1][0]);
+    add_at(xs, c[1], c[1], q[1][1]);
+}
+
+// The third corner's row.
+fn add_third(xs: &mut [i64], c: [Node; 3], q: [[i64; 3]; 3])
+    requires { ⌜ Adds (2 ^ 55) (now xs) (numbers c) q ⌝ }
+    ensures { λ _. ⌜ now (xs .exit) ≡ addRow 3 (now (xs .entry)) (numbers c) (at q) 2 ⌝ }
+{
+    add_at(xs, c[2], c[0], q[2][0]);
+    add_at(xs, c[2], c[1], q[2][1]);
+    add_at(xs, c[2], c[2], q[2][2]);
+}
+
+// Six places, for three corners.
+pub fn add_square(xs: &mut [i64], c: [Node; 3], q: [[i64; 3]; 3])
+    requires { ⌜ Takes (now xs) (numbers c) q ⌝ }
+    ensures { λ _. ⌜ ((n : ℕ) → length (now (xs .entry)) ≡ tri n → now (xs .exit) ≡ lower n (λ i j. entry (now (xs .entry)) i j +ℤ spread 3 (numbers c) (at q) i j)) ⌝ }
+{
+    add_two(xs, c, q);
+    add_third(xs, c, q);
+}
