@@ -28,7 +28,7 @@ use Rattle.paper.specs.declared.Refusal.the-variants.{Short, Foreign}
 use Rattle.paper.proofs.Refused.{Plain, plain-told, judged-plain, new-plain, element-plain, elements-plain, Inside, inside-told, rows-inside}
 use Rattle.paper.proofs.Outcomes.{ends-done}
 use Rattle.paper.proofs.Update.{Kept, rows-keep}
-use Rattle.model.specs.Asks.{made, ifMade, factorOf, fromRow, movedP, movedA, factorFrom}
+use Rattle.model.specs.Asks.{made, ifMade, factorOf, movedP, movedA, factorFrom}
 
 -- a refusal that is none of the factor's leaves all as it was
 pub kept : (t new : List ℕ) (works : Bool) (z : Lent) (r : Refusal) → inFactor r ≡ false → leaves t new works z (refused r) ≡ record { answer = Refused r; table = t; lent = z }

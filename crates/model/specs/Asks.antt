@@ -6,14 +6,15 @@ use lib.IntN.{ℤ, pos}
 use lib.ListN.{length, replicate, take, drop}
 use Rattle.whole.specs.Packed.{tri, lower, entry}
 use Rattle.paper.specs.Refusals.{Outcome, refused, done, answerOf}
-use Rattle.paper.specs.Cards.{nodes, elements, elementRow, put}
+use Rattle.paper.specs.Cards.{nodes, elements, put}
 use Rattle.paper.specs.Matrices.{P, A, addsP, addsA, fixed, cleared}
 use Rattle.paper.specs.Factor.{rowsFrom}
 use Rattle.paper.specs.Building.{Slices, elementsFrom}
-use Rattle.paper.specs.Replacing.{elementOf, leastRow, moved}
+use Rattle.paper.specs.Replacing.{moved}
 use Rattle.paper.specs.declared.Answer.{Answer}
 use Rattle.paper.specs.declared.Answer.the-variants.{Done}
 use Rattle.paper.proofs.Decks.{Deck}
+use Rattle.paper.proofs.Replaced.{least}
 
 -- what was made, or else this
 abbrev pub made : {X : Type 0} → Outcome X → X → X
@@ -47,10 +48,7 @@ pub record Built (r : Answer) (t : List ℕ) (p₀ a₀ f₀ p a f w : List ℤ)
   pub is-f : f ≡ made (factorOf t) f₀
   pub is-w : w ≡ replicate (tri (nodes t)) (pos 0)
 
--- ---- the replacement of an E or F card in a row: the least corner's row, the new matrices, and the factor from that row on
-
-abbrev pub fromRow : List ℕ → ℕ → List ℕ → ℕ
-fromRow t row card = let new = put t row card in leastRow new (elementRow new (elementOf new row))
+-- ---- the replacement of an E or F card in a row: the new matrices, and the factor from the least corner's row on
 
 abbrev pub movedP : List ℕ → List ℤ → ℕ → List ℕ → List ℤ
 movedP t p row card = moved (nodes t) p (addsP (put t row card) row) (addsP t row)
@@ -60,7 +58,7 @@ movedA t a row card = moved (nodes t) a (addsA (put t row card) row) (addsA t ro
 
 abbrev pub factorFrom : List ℕ → List ℤ → List ℤ → ℕ → List ℕ → Outcome (List ℤ)
 factorFrom t a factor row card =
-    let m = fromRow t row card in
+    let m = least t row card in
     rowsFrom (nodes t - m) m (take (tri m) factor ++ drop (tri m) (lower (nodes t) (cleared (fixed (put t row card)) (entry (movedA t a row card)))))
 
 -- its end, on slices of the matrix length
