@@ -1,2 +1,3 @@
 pub mod Leaving
 pub mod Moving
+pub mod Redoing
