@@ -1,7 +1,7 @@
 -- A number added at a place, and a square of them: what `add_at` asks and gives.
 use mathlib.Core.Path.{_≡_, refl, sym, ap, subst, _∙_}
 use mathlib.Core.List.{List, [], _∷_}
-use Prim.Native.Nat.{ℕ, zero, suc, _+_, _-_, _*_, _^_, _≤_, _<_}
+use Prim.Native.Nat.{ℕ, zero, suc, _+_, _-_, _^_, _≤_, _<_}
 use native.Mathlib.Decide.{ℕ-discrete, decLt}
 use native.Mathlib.Omega.{arith}
 use lib.Dec.{lit<}
@@ -70,12 +70,15 @@ made-next {n} {b} {xs} i j v m h e =
 -- what `add_at` asks
 pub asks : {b n : ℕ} {xs : List ℤ} (c : List Node) (i j : ℕ) (v : ℤ) → Made n b xs → n ≤ 96 → Corners 3 n (numbers c) → i < 3 → j < 3 → natAbs v ≤ 2 ^ 52 → b ≤ 2 ^ 56
     → AddsAt xs (nth c i) (nth c j) × (natAbs (rd v) ≤ 2 ^ 52)
-asks {b} {n} {xs} c i j v m few k hi hj h l = (record {
-  inA = (omega (arith, nth-is c i, k .inside i hi), omega (arith, nth-is c i, k .inside i hi));
-  inB = (omega (arith, nth-is c j, k .inside j hj), omega (arith, nth-is c j, k .inside j hj));
-  inside = omega (arith, m .long, place-in (nth c i - 1) (nth c j - 1) n (omega (arith, nth-is c i, k .inside i hi)) (omega (arith, nth-is c j, k .inside j hj)));
-  small = record { each = λ p. omega (arith, m .small .each p) };
-}, size-of (num v h (lit< tt)))
+asks {b} {n} {xs} c i j v m few k hi hj h l = (
+  record {
+    inA = (omega (arith, nth-is c i, k .inside i hi), omega (arith, nth-is c i, k .inside i hi));
+    inB = (omega (arith, nth-is c j, k .inside j hj), omega (arith, nth-is c j, k .inside j hj));
+    inside = omega (arith, m .long, place-in (nth c i - 1) (nth c j - 1) n (omega (arith, nth-is c i, k .inside i hi)) (omega (arith, nth-is c j, k .inside j hj)));
+    small = record { each = λ p. omega (arith, m .small .each p) };
+  },
+  size-of (num v h (lit< tt)),
+)
 
 -- and gives
 pub gives : {xs xs′ ys : List ℤ} (c : List Node) (i j : ℕ) (v : ℤ) → natAbs v ≤ 2 ^ 52 → ys ≡ add xs (nth c i - 1) (nth c j - 1) (rd v) → xs ≡ xs′ → ys ≡ add xs′ (cornerRow (numbers c) i) (cornerRow (numbers c) j) v

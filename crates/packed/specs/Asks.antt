@@ -55,3 +55,9 @@ pub record Clears (xs : List ℤ) (n node : ℕ) : Type 0 where
   pub few : n ≤ 96
   pub long : length xs ≡ tri n
   pub among : In 1 n node
+
+-- a card of a judged deck, and a slice of the matrix length
+pub record Fixes (t : List ℕ) (row : ℕ) (xs : List ℤ) : Type 0 where
+  pub deck : Deck t
+  pub inside : row < rows t
+  pub long : length xs ≡ tri (nodes t)

@@ -3,7 +3,6 @@ use paper::Element;
 use paper::Node;
 use triangle::Shape;
 ghost use mathlib.Core.Path.{_≡_};
-ghost use mathlib.Core.List.{List};
 ghost use Prim.Native.Nat.{ℕ, suc, _+_, _-_, _*_, _^_, _≤_, _<_};
 ghost use lib.Dec.{eqb};
 ghost use lib.IntN.{ℤ, pos, natAbs, _+ℤ_};
@@ -11,16 +10,19 @@ ghost use lib.ListN.{length, replicate};
 ghost use Rattle.whole.specs.Packed.{tri, place, entry, lower};
 ghost use Rattle.whole.proofs.Packed.{add};
 ghost use Rattle.paper.specs.Cards.{nodes};
-ghost use Rattle.paper.specs.Matrices.{spread, addsP, addsA, P, A, fixes, fixed, cleared};
+ghost use Rattle.paper.specs.Matrices as matrices;
+ghost use Rattle.paper.specs.Matrices.{spread, addsP, addsA, fixes, fixed, cleared};
 ghost use Rattle.paper.specs.declared.Kind.the-variants.{E, F};
-ghost use Rattle.paper.proofs.Decks.{Deck, In, Is};
+ghost use Rattle.paper.proofs.Decks.{Deck, Is};
 ghost use Rattle.paper.proofs.Places.{addRow, addSquare};
 ghost use Rattle.triangle.specs.Forms.{at};
 ghost use Rattle.packed.specs.Forms.{numbers};
-ghost use Rattle.packed.specs.Asks.{Bounded, AddsAt, Adds, Takes, Sound, Card, Clears};
+ghost use Rattle.packed.specs.Asks.{AddsAt, Adds, Takes, Sound, Card, Clears, Fixes};
 
 const E: u32 = 69;
+
 const F: u32 = 70;
+
 const T: u32 = 84;
 
 // ---- whole slices
@@ -108,4 +110,126 @@ pub fn add_square(xs: &mut [i64], c: [Node; 3], q: [[i64; 3]; 3])
 {
     add_two(xs, c, q);
     add_third(xs, c, q);
+}
+
+// ---- P and A
+
+// What the card in a row adds to P.
+fn add_to_p(table: &[u32], row: usize, xs: &mut [i64])
+    requires { ⌜ Card (now table) row (now xs) ⌝ }
+    ensures { λ _. ⌜ now (xs .exit) ≡ lower (nodes (now (table .entry))) (λ i j. entry (now (xs .entry)) i j +ℤ addsP (now (table .entry)) row i j) ⌝ }
+{
+    if element::field(table, row, 0) != E {
+        return;
+    }
+    let e = element::triangle_at(table, row);
+    let q = triangle::capacity_square(e, element::field(table, 0, 1));
+    let s = e.shape;
+    let c = s.corners;
+    add_square(xs, c, q);
+}
+
+// E's conductance and capacity, to A.
+fn add_element(table: &[u32], row: usize, xs: &mut [i64])
+    requires { ⌜ Card (now table) row (now xs) × Is E (now table) row ⌝ }
+    ensures { λ _. ⌜ now (xs .exit) ≡ lower (nodes (now (table .entry))) (λ i j. entry (now (xs .entry)) i j +ℤ addsA (now (table .entry)) row i j) ⌝ }
+{
+    let e = element::triangle_at(table, row);
+    let q = triangle::element_square(e, element::field(table, 0, 1));
+    let s = e.shape;
+    let c = s.corners;
+    add_square(xs, c, q);
+}
+
+// F's film, to A.
+fn add_film(table: &[u32], row: usize, xs: &mut [i64])
+    requires { ⌜ Card (now table) row (now xs) × Is F (now table) row ⌝ }
+    ensures { λ _. ⌜ now (xs .exit) ≡ lower (nodes (now (table .entry))) (λ i j. entry (now (xs .entry)) i j +ℤ addsA (now (table .entry)) row i j) ⌝ }
+{
+    let e = Element(element::field(table, row, 1) as u8);
+    let s = element::shape_at(table, element::element_row(table, e));
+    let q = triangle::film_square(element::field(table, row, 2), s);
+    let c = s.corners;
+    add_square(xs, c, q);
+}
+
+// What the card in a row adds to A.
+fn add_to_a(table: &[u32], row: usize, xs: &mut [i64])
+    requires { ⌜ Card (now table) row (now xs) ⌝ }
+    ensures { λ _. ⌜ now (xs .exit) ≡ lower (nodes (now (table .entry))) (λ i j. entry (now (xs .entry)) i j +ℤ addsA (now (table .entry)) row i j) ⌝ }
+{
+    let letter = element::field(table, row, 0);
+    if letter == E {
+        add_element(table, row, xs);
+        return;
+    }
+    if letter == F {
+        add_film(table, row, xs);
+    }
+}
+
+pub fn assemble_p(table: &[u32], xs: &mut [i64])
+    requires { ⌜ Sound (now table) × (length (now xs) ≡ tri (nodes (now table))) ⌝ }
+    ensures { λ _. ⌜ now (xs .exit) ≡ lower (nodes (now (table .entry))) (matrices.P (now (table .entry))) ⌝ }
+{
+    zero(xs);
+    let mut row = 0;
+    while row * 6 < table.len() {
+        add_to_p(table, row, xs);
+        row += 1;
+    }
+}
+
+pub fn assemble_a(table: &[u32], xs: &mut [i64])
+    requires { ⌜ Sound (now table) × (length (now xs) ≡ tri (nodes (now table))) ⌝ }
+    ensures { λ _. ⌜ now (xs .exit) ≡ lower (nodes (now (table .entry))) (matrices.A (now (table .entry))) ⌝ }
+{
+    zero(xs);
+    let mut row = 0;
+    while row * 6 < table.len() {
+        add_to_a(table, row, xs);
+        row += 1;
+    }
+}
+
+// ---- A'
+
+// A node's row and column cleared, 2^20 on its diagonal, in n rows.
+fn clear_node(xs: &mut [i64], n: usize, node: Node)
+    requires { ⌜ Clears (now xs) n (node .0) ⌝ }
+    ensures { λ _. ⌜ now (xs .exit) ≡ lower n (cleared (λ k. eqb (node .0) (suc k)) (entry (now (xs .entry)))) ⌝ }
+{
+    let i = node.0 as usize - 1;
+    let mut at = start(i);
+    let mut j = 0;
+    while j < n {
+        xs[at] = 0;
+        at = after(at, i, j);
+        j += 1;
+    }
+    xs[start(i) + i] = 1_048_576;
+}
+
+// The node that a T card in a row fixes.
+fn clear_card(table: &[u32], row: usize, xs: &mut [i64])
+    requires { ⌜ Fixes (now table) row (now xs) ⌝ }
+    ensures { λ _. ⌜ now (xs .exit) ≡ lower (nodes (now (table .entry))) (cleared (λ k. fixes (now (table .entry)) k row) (entry (now (xs .entry)))) ⌝ }
+{
+    if element::field(table, row, 0) != T {
+        return;
+    }
+    let node = Node(element::field(table, row, 1) as u8);
+    clear_node(xs, element::nodes(table), node);
+}
+
+// A' of a matrix, in place.
+pub fn clear_fixed(table: &[u32], xs: &mut [i64])
+    requires { ⌜ Deck (now table) × (length (now xs) ≡ tri (nodes (now table))) ⌝ }
+    ensures { λ _. ⌜ now (xs .exit) ≡ lower (nodes (now (table .entry))) (cleared (fixed (now (table .entry))) (entry (now (xs .entry)))) ⌝ }
+{
+    let mut row = 0;
+    while row * 6 < table.len() {
+        clear_card(table, row, xs);
+        row += 1;
+    }
 }

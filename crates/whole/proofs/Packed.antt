@@ -9,13 +9,13 @@ use native.Mathlib.Decide.{ℕ-discrete, decLt}
 use native.Mathlib.Numerals.{add-one}
 use native.Mathlib.Omega.{arith}
 use lib.Dec.{leb, eqb}
-use lib.IntN.{ℤ, pos, _+ℤ_, +ℤ-idr}
-use lib.ListN.{length, set, take, replicate, length-set, length-append, length-replicate, getD-replicate, List·getD-append}
+use lib.IntN.{ℤ, pos, natAbs, _+ℤ_, +ℤ-idr}
+use lib.ListN.{length, set, take, replicate, length-set, length-append, length-replicate, getD-replicate, length-set, List·getD-append}
 use lib.Seq.{take-append-le, getD-append-add, take-all, getD-set-same, getD-set-other, ext-getD}
 use borrow.Author.Tests.{le-leb, lt-leb, leb-true, leb-false, eq-eqb, ne-eqb}
 use Rattle.whole.specs.Sums.{table}
 use Rattle.whole.specs.Packed.{tri, cell, place, entry, lower}
-use Rattle.whole.proofs.Sums.{table-length, table-at, table-ext}
+use Rattle.whole.proofs.Sums.{table-length, table-at, table-ext, append-size, table-size}
 
 -- ---- where rows start
 
@@ -222,3 +222,23 @@ entry-add n xs a b i j v e ha hb = go (ℕ-discrete (place i j) (place a b))
     go (no q) =
         getD-set-other xs (place a b) (place i j) _ (pos 0) q
         ∙ sym (ap (λ (t : Bool). entry xs i j +ℤ cond t v (pos 0)) (miss q) ∙ +ℤ-idr (entry xs i j))
+
+-- ---- a number set in place, and the size of each
+
+pub lower-set : (n p : ℕ) (f : ℕ → ℕ → ℤ) (v : ℤ) → set (lower n f) p v ≡ lower n (λ i j. cond (eqb (place i j) p) v (f i j))
+lower-set n p f v =
+    lower-eta n (set (lower n f) p v) (length-set (lower n f) p v ∙ length-lower n f)
+    ∙ lower-ext n _ _ (λ i j h l. go i j h l (ℕ-discrete (place i j) p))
+  where
+    go : (i j : ℕ) → i < n → j ≤ i → Dec (place i j ≡ p) → entry (set (lower n f) p v) i j ≡ cond (eqb (place i j) p) v (f i j)
+    go i j h l (yes e) =
+        ap (cell (set (lower n f) p v)) e
+        ∙ getD-set-same (lower n f) p v (pos 0) (omega (arith, length-lower n f, place-in i j n h (omega arith)))
+        ∙ sym (ap (λ (t : Bool). cond t v (f i j)) (eq-eqb (place i j) p e))
+    go i j h l (no q) =
+        getD-set-other (lower n f) p (place i j) v (pos 0) q ∙ lower-at n i j f h l ∙ sym (ap (λ (t : Bool). cond t v (f i j)) (ne-eqb (place i j) p q))
+
+pub lower-size : (n b : ℕ) (f : ℕ → ℕ → ℤ) → ((i j : ℕ) → natAbs (f i j) ≤ b) → (k : ℕ) → natAbs (cell (lower n f) k) ≤ b
+unfolding lower
+lower-size zero b f h k = omega arith
+lower-size (suc n) b f h k = append-size (lower n f) (table (suc n) (f n)) b (lower-size n b f h) (table-size (suc n) b (f n) (h n)) k

@@ -246,6 +246,21 @@ table-same n v =
     ext-getD (pos 0) (table n (λ k. v)) (replicate n v) (table-length n (λ k. v) ∙ sym (length-replicate n v))
     (λ k l. let h : k < n = omega (arith, table-length n (λ k. v)) in table-at n k (λ k. v) h ∙ sym (getD-replicate n k v (pos 0) h))
 
+-- the size of each number
+pub append-size : (xs ys : List ℤ) (b : ℕ) → ((k : ℕ) → natAbs (cell xs k) ≤ b) → ((k : ℕ) → natAbs (cell ys k) ≤ b) → (k : ℕ) → natAbs (cell (xs ++ ys) k) ≤ b
+append-size [] ys b h l k = l k
+append-size (x ∷ xs) ys b h l zero = h 0
+append-size (x ∷ xs) ys b h l (suc k) = append-size xs ys b (λ k. h (suc k)) l k
+
+pub table-size : (n b : ℕ) (f : ℕ → ℤ) → ((k : ℕ) → natAbs (f k) ≤ b) → (k : ℕ) → natAbs (cell (table n f) k) ≤ b
+unfolding table
+table-size zero b f h k = omega arith
+table-size (suc n) b f h k = append-size (table n f) (f n ∷ []) b (table-size n b f h) one k
+  where
+    one : (k : ℕ) → natAbs (cell (f n ∷ []) k) ≤ b
+    one zero = h n
+    one (suc k) = omega arith
+
 -- a list that is filled from the front
 abbrev pub filled : (ℕ → ℤ) → List ℤ → ℕ → List ℤ
 filled f s i = table i f ++ drop i s

@@ -1,15 +1,10 @@
+-- Neither number is large.
 use borrow.Author.Needs.{needs}
 use Rattle.packed.proofs.add_at.Statement.{statement}
 use Rattle.packed.proofs.add_at.Tie as tie
-use Rattle.packed.proofs.add_at.Reads as reads
-use Rattle.packed.proofs.add_at.Lts as lts
-use Rattle.packed.proofs.place.Reads as place-reads
-
--- src/lib.rt:80:19
-use mathlib.Core.Path.{_≡_, ap, _∙_}
+use mathlib.Core.Path.{ap, _∙_}
 use mathlib.Core.List.{List}
 use Prim.Native.Nat.{ℕ, _+_, _^_, _≤_}
-use native.Mathlib.Omega.{arith}
 use lib.Dec.{lit<}
 use lib.IntN.{ℤ, natAbs, _+ℤ_}
 use lib.ListN.{set}
@@ -23,47 +18,36 @@ sum-is xs k v h l = plus (num (cell xs k) (h .each k) (lit< tt)) (num v l (lit< 
 cast-place : tie.Need-cast-place
 cast-place c = search needs
 
--- src/lib.rt:80:19
 sub-place : tie.Need-sub-place
 sub-place c = search needs
 
--- src/lib.rt:80:37
 cast-place-2 : tie.Need-cast-place-2
 cast-place-2 c = search needs
 
--- src/lib.rt:80:37
 sub-place-2 : tie.Need-sub-place-2
 sub-place-2 c = search needs
 
--- src/lib.rt:80:9
 place-requires : tie.Need-place-requires
 place-requires c κs = search needs
 
--- src/lib.rt:81:13
 mul-xs : tie.Need-mul-xs
 mul-xs c = search needs
 
--- src/lib.rt:81:13
 slice-copy-out-xs : tie.Need-slice-copy-out-xs
 slice-copy-out-xs c = search needs
 
--- src/lib.rt:81:13
 add-xs : tie.Need-add-xs
 add-xs c = fits (sum-is (c .before .before .before .before .args .xs .now) (c .before .place .result) (c .before .before .before .before .args .v) (c .before .before .before .before .pre .0 .small) (c .before .before .before .before .pre .1)) (lit< tt)
 
--- src/lib.rt:81:5
 mul-t9 : tie.Need-mul-t9
 mul-t9 c = search needs
 
--- src/lib.rt:81:5
 slice-set-from-xs : tie.Need-slice-set-from-xs
 slice-set-from-xs c = search needs
 
--- src/lib.rt:76:1
 same-length : tie.Need-same-length
 same-length c = search needs
 
--- src/lib.rt:76:1
 returns : tie.Need-returns
 returns c =
     let xs = c .before .before .before .before .args .xs .now in

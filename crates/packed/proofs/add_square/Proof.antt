@@ -1,12 +1,7 @@
+-- Six places written are the whole triangle with what the square spreads.
 use borrow.Author.Needs.{needs}
 use Rattle.packed.proofs.add_square.Statement.{statement}
 use Rattle.packed.proofs.add_square.Tie as tie
-use Rattle.packed.proofs.add_square.Reads as reads
-use Rattle.packed.proofs.add_square.Lts as lts
-use Rattle.packed.proofs.add_third.Reads as add-third-reads
-use Rattle.packed.proofs.add_two.Reads as add-two-reads
-
--- src/lib.rt:109:5
 use mathlib.Core.Path.{_≡_, ap, sym, subst, _∙_}
 use mathlib.Core.List.{List}
 use Prim.Native.Nat.{ℕ, _+_, _^_}
@@ -32,15 +27,12 @@ third {xs} ns q h e = record {
 add-two-requires : tie.Need-add-two-requires
 add-two-requires c κs = search needs
 
--- src/lib.rt:110:5
 add-third-requires : tie.Need-add-third-requires
 add-third-requires c κs = third (numbers (c .before .before .before .before .args .c)) (c .before .before .before .before .args .q) (c .before .before .before .before .pre) (c .before .before .add-two .ensures)
 
--- src/lib.rt:105:1
 same-length : tie.Need-same-length
 same-length c = search needs
 
--- src/lib.rt:105:1
 returns : tie.Need-returns
 returns c = six (numbers (c .before .before .before .before .before .before .args .c)) (c .before .before .before .before .before .before .args .q) (c .before .before .before .before .before .before .pre) (c .before .before .before .before .add-two .ensures) (c .before .add-third .ensures)
 

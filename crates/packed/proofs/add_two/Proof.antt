@@ -1,89 +1,67 @@
+-- The places (0, 0), (1, 0) and (1, 1) of the corners.
 use borrow.Author.Needs.{needs}
 use Rattle.packed.proofs.add_two.Statement.{statement}
 use Rattle.packed.proofs.add_two.Tie as tie
-use Rattle.packed.proofs.add_two.Reads as reads
-use Rattle.packed.proofs.add_two.Lts as lts
-use Rattle.packed.proofs.add_at.Reads as add-at-reads
-
--- src/lib.rt:89:16
-use mathlib.Core.Path.{_≡_, refl}
-use mathlib.Core.List.{List}
-use Prim.Native.Nat.{ℕ, _+_, _-_, _^_}
-use native.Mathlib.Omega.{arith}
+use mathlib.Core.Path.{refl}
+use Prim.Native.Nat.{_-_}
 use lib.Dec.{lit<, lit≤}
 use Rattle.triangle.specs.Forms.{at}
 use Rattle.paper.proofs.Places.{addRow, addSquare}
-use Rattle.packed.proofs.Adding.{nth, Made, made-first, made-next, asks, gives}
+use Rattle.packed.proofs.Adding.{nth, made-first, made-next, asks, gives}
 
 array-copy-out-add-at : tie.Need-array-copy-out-add-at
 array-copy-out-add-at c = search needs
 
--- src/lib.rt:89:22
 array-copy-out-add-at-2 : tie.Need-array-copy-out-add-at-2
 array-copy-out-add-at-2 c = search needs
 
--- src/lib.rt:89:28
 index-1-add-at : tie.Need-index-1-add-at
 index-1-add-at c = search needs
 
--- src/lib.rt:89:28
 index-2-add-at : tie.Need-index-2-add-at
 index-2-add-at c = search needs
 
--- src/lib.rt:89:5
 add-at-requires : tie.Need-add-at-requires
 add-at-requires c κs = asks (c .before .before .before .before .args .t2) 0 0 (at (c .before .before .before .before .args .t3) 0 0) (made-first (c .before .before .before .before .pre)) (c .before .before .before .before .pre .few) (c .before .before .before .before .pre .corners) (lit< tt) (lit< tt) (c .before .before .before .before .pre .square .each 0 0) (lit≤ tt)
 
--- src/lib.rt:90:16
 array-copy-out-add-at-3 : tie.Need-array-copy-out-add-at-3
 array-copy-out-add-at-3 c = search needs
 
--- src/lib.rt:90:22
 array-copy-out-add-at-4 : tie.Need-array-copy-out-add-at-4
 array-copy-out-add-at-4 c = search needs
 
--- src/lib.rt:90:28
 index-1-add-at-2 : tie.Need-index-1-add-at-2
 index-1-add-at-2 c = search needs
 
--- src/lib.rt:90:28
 index-2-add-at-2 : tie.Need-index-2-add-at-2
 index-2-add-at-2 c = search needs
 
--- src/lib.rt:90:5
 add-at-requires-2 : tie.Need-add-at-requires-2
 add-at-requires-2 c κs =
     let m = made-next (nth (c .before .before .before .before .before .before .before .before .before .before .args .t2) 0 - 1) (nth (c .before .before .before .before .before .before .before .before .before .before .args .t2) 0 - 1) (at (c .before .before .before .before .before .before .before .before .before .before .args .t3) 0 0) (made-first (c .before .before .before .before .before .before .before .before .before .before .pre)) (c .before .before .before .before .before .before .before .before .before .before .pre .square .each 0 0) (c .before .before .before .before .before .add-at .ensures) in
     asks (c .before .before .before .before .before .before .before .before .before .before .args .t2) 1 0 (at (c .before .before .before .before .before .before .before .before .before .before .args .t3) 1 0) m (c .before .before .before .before .before .before .before .before .before .before .pre .few) (c .before .before .before .before .before .before .before .before .before .before .pre .corners) (lit< tt) (lit< tt) (c .before .before .before .before .before .before .before .before .before .before .pre .square .each 1 0) (lit≤ tt)
 
--- src/lib.rt:91:16
 array-copy-out-add-at-5 : tie.Need-array-copy-out-add-at-5
 array-copy-out-add-at-5 c = search needs
 
--- src/lib.rt:91:22
 array-copy-out-add-at-6 : tie.Need-array-copy-out-add-at-6
 array-copy-out-add-at-6 c = search needs
 
--- src/lib.rt:91:28
 index-1-add-at-3 : tie.Need-index-1-add-at-3
 index-1-add-at-3 c = search needs
 
--- src/lib.rt:91:28
 index-2-add-at-3 : tie.Need-index-2-add-at-3
 index-2-add-at-3 c = search needs
 
--- src/lib.rt:91:5
 add-at-requires-3 : tie.Need-add-at-requires-3
 add-at-requires-3 c κs =
     let m = made-next (nth (c .before .before .before .before .before .before .before .before .before .before .before .before .before .before .before .before .args .t2) 0 - 1) (nth (c .before .before .before .before .before .before .before .before .before .before .before .before .before .before .before .before .args .t2) 0 - 1) (at (c .before .before .before .before .before .before .before .before .before .before .before .before .before .before .before .before .args .t3) 0 0) (made-first (c .before .before .before .before .before .before .before .before .before .before .before .before .before .before .before .before .pre)) (c .before .before .before .before .before .before .before .before .before .before .before .before .before .before .before .before .pre .square .each 0 0) (c .before .before .before .before .before .before .before .before .before .before .before .add-at .ensures) in
     let m₂ = made-next (nth (c .before .before .before .before .before .before .before .before .before .before .before .before .before .before .before .before .args .t2) 1 - 1) (nth (c .before .before .before .before .before .before .before .before .before .before .before .before .before .before .before .before .args .t2) 0 - 1) (at (c .before .before .before .before .before .before .before .before .before .before .before .before .before .before .before .before .args .t3) 1 0) m (c .before .before .before .before .before .before .before .before .before .before .before .before .before .before .before .before .pre .square .each 1 0) (c .before .before .before .before .before .add-at2 .ensures) in
     asks (c .before .before .before .before .before .before .before .before .before .before .before .before .before .before .before .before .args .t2) 1 1 (at (c .before .before .before .before .before .before .before .before .before .before .before .before .before .before .before .before .args .t3) 1 1) m₂ (c .before .before .before .before .before .before .before .before .before .before .before .before .before .before .before .before .pre .few) (c .before .before .before .before .before .before .before .before .before .before .before .before .before .before .before .before .pre .corners) (lit< tt) (lit< tt) (c .before .before .before .before .before .before .before .before .before .before .before .before .before .before .before .before .pre .square .each 1 1) (lit≤ tt)
 
--- src/lib.rt:85:1
 same-length : tie.Need-same-length
 same-length c = search needs
 
--- src/lib.rt:85:1
 returns : tie.Need-returns
 unfolding addSquare addRow
 returns c =

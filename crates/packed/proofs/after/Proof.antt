@@ -1,29 +1,21 @@
+-- One number on, or a row on.
 use Rattle.packed.proofs.after.Statement.{statement}
 use Rattle.packed.proofs.after.Tie as tie
-use Rattle.packed.proofs.after.Reads as reads
-use Rattle.packed.proofs.after.Lts as lts
-
--- src/lib.rt:71:16
-use borrow.Author.Needs.{needs}
 use native.Mathlib.Omega.{arith}
 use Rattle.whole.proofs.Packed.{place-small, next-low, next-high}
 
 add-result : tie.Need-add-result
 add-result c = omega (arith, c .before .pre .0, place-small (c .before .args .i) (c .before .args .j) (c .before .pre .1) (c .before .pre .2))
 
--- src/lib.rt:71:32
 add-result-2 : tie.Need-add-result-2
 add-result-2 c = omega (arith, c .before .pre .0, place-small (c .before .args .i) (c .before .args .j) (c .before .pre .1) (c .before .pre .2))
 
--- src/lib.rt:71:32
 add-result-3 : tie.Need-add-result-3
 add-result-3 c = omega (arith, c .before .pre .0, place-small (c .before .args .i) (c .before .args .j) (c .before .pre .1) (c .before .pre .2))
 
--- src/lib.rt:67:1
 returns : tie.Need-returns
 returns c = omega (arith, c .before .pre .0, next-low (c .before .args .i) (c .before .args .j) (c .if1 .taken))
 
--- src/lib.rt:67:1
 returns-2 : tie.Need-returns-2
 returns-2 c = omega (arith, c .before .pre .0, next-high (c .before .args .i) (c .before .args .j) (c .if1 .left))
 

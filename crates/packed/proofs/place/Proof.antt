@@ -1,36 +1,25 @@
+-- Left of the diagonal, or right of it.
 use borrow.Author.Needs.{needs}
 use Rattle.packed.proofs.place.Statement.{statement}
 use Rattle.packed.proofs.place.Tie as tie
-use Rattle.packed.proofs.place.Reads as reads
-use Rattle.packed.proofs.place.Lts as lts
-use Rattle.packed.proofs.start.Reads as start-reads
-
--- src/lib.rt:63:17
-use mathlib.Core.Path.{sym, ap, _∙_}
-use Prim.Native.Nat.{ℕ, _+_}
 use native.Mathlib.Omega.{arith}
 use Rattle.whole.proofs.Packed.{tri-96, place-low, place-high}
 
 start-requires : tie.Need-start-requires
 start-requires c κs = search needs
 
--- src/lib.rt:63:17
 add-result : tie.Need-add-result
 add-result c = omega (arith, c .start .ensures, tri-96 (c .before .before .args .i) (omega arith))
 
--- src/lib.rt:63:39
 start-requires-2 : tie.Need-start-requires-2
 start-requires-2 c κs = search needs
 
--- src/lib.rt:63:39
 add-result-2 : tie.Need-add-result-2
 add-result-2 c = omega (arith, c .start2 .ensures, tri-96 (c .before .before .args .j) (omega arith))
 
--- src/lib.rt:59:1
 returns : tie.Need-returns
 returns c = omega (arith, c .start .ensures, place-low (c .before .before .args .i) (c .before .before .args .j) (c .before .if1 .taken))
 
--- src/lib.rt:59:1
 returns-2 : tie.Need-returns-2
 returns-2 c = omega (arith, c .start2 .ensures, place-high (c .before .before .args .i) (c .before .before .args .j) (omega (arith, c .before .if1 .left)))
 

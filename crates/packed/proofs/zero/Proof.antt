@@ -1,8 +1,6 @@
+-- The invariant: the first k numbers are 0, the others as they were.
 use Rattle.packed.proofs.zero.Statement.{statement}
 use Rattle.packed.proofs.zero.Tie as tie
-use Rattle.packed.proofs.zero.Reads as reads
-use Rattle.packed.proofs.zero.Lts as lts
-
 use borrow.Author.Needs.{needs}
 use mathlib.Core.Path.{_≡_, sym, ap, _∙_}
 use mathlib.Core.List.{List}
@@ -21,7 +19,6 @@ Inv-loop xs₀ k₀ xs k = (k ≤ length xs₀) × (xs ≡ filled (λ i. pos 0) 
 abbrev μ-loop : tie.MeasureT-loop
 μ-loop xs₀ k₀ xs k = length xs₀ - k
 
--- src/lib.rt:32:5
 long : (xs₀ xs : List ℤ) (k : ℕ) → k ≤ length xs₀ → xs ≡ filled (λ i. pos 0) xs₀ k → length xs ≡ length xs₀
 long xs₀ xs k h e = ap length e ∙ omega (arith, length-append (table k (λ i. pos 0)) (drop k xs₀), table-length k (λ i. pos 0), length-drop k xs₀)
 
@@ -31,33 +28,26 @@ more xs₀ xs k h e = ap (λ (l : List ℤ). set l k (pos 0)) e ∙ filled-more 
 loop-holds : tie.Need-loop-holds Inv-loop μ-loop
 loop-holds c = (omega arith, filled-none (λ i. pos 0) (c .args .xs .now))
 
--- src/lib.rt:33:9
 mul-xs : tie.Need-mul-xs Inv-loop μ-loop
 mul-xs c = search needs
 
--- src/lib.rt:33:9
 slice-set-of-xs : tie.Need-slice-set-of-xs Inv-loop μ-loop
 slice-set-of-xs c = search needs
 
--- src/lib.rt:34:9
 add-k : tie.Need-add-k Inv-loop μ-loop
 add-k c = omega (arith, long (c .before .before .args .xs .now) (c .before .loop .xs) (c .before .loop .k) (c .before .loop .inv .0) (c .before .loop .inv .1), c .before .before .good)
 
--- src/lib.rt:32:5
 loop-less : tie.Need-loop-less Inv-loop μ-loop
 loop-less c = omega (arith, long (c .before .before .args .xs .now) (c .before .loop .xs) (c .before .loop .k) (c .before .loop .inv .0) (c .before .loop .inv .1))
 
--- src/lib.rt:32:5
 loop-again : tie.Need-loop-again Inv-loop μ-loop
 loop-again c =
     let l = long (c .before .before .args .xs .now) (c .before .loop .xs) (c .before .loop .k) (c .before .loop .inv .0) (c .before .loop .inv .1) in
     (omega (arith, l), more (c .before .before .args .xs .now) (c .before .loop .xs) (c .before .loop .k) (omega (arith, l)) (c .before .loop .inv .1))
 
--- src/lib.rt:28:1
 same-length : tie.Need-same-length Inv-loop μ-loop
 same-length c = long (c .before .before .args .xs .now) (c .before .loop .xs) (c .before .loop .k) (c .before .loop .inv .0) (c .before .loop .inv .1)
 
--- src/lib.rt:28:1
 returns : tie.Need-returns Inv-loop μ-loop
 returns c =
     let l = long (c .before .before .args .xs .now) (c .before .loop .xs) (c .before .loop .k) (c .before .loop .inv .0) (c .before .loop .inv .1) in
