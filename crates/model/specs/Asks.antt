@@ -6,14 +6,11 @@ use lib.IntN.{ℤ, pos}
 use lib.ListN.{length, replicate, take, drop}
 use Rattle.whole.specs.Packed.{tri, lower, entry}
 use Rattle.paper.specs.Refusals.{Outcome, refused, done, answerOf}
-use Rattle.paper.specs.Cards.{nodes, elements, put}
+use Rattle.paper.specs.Cards.{nodes, put}
 use Rattle.paper.specs.Matrices.{P, A, addsP, addsA, fixed, cleared}
 use Rattle.paper.specs.Factor.{rowsFrom}
-use Rattle.paper.specs.Building.{Slices, elementsFrom}
 use Rattle.paper.specs.Replacing.{moved}
 use Rattle.paper.specs.declared.Answer.{Answer}
-use Rattle.paper.specs.declared.Answer.the-variants.{Done}
-use Rattle.paper.proofs.Decks.{Deck}
 use Rattle.paper.proofs.Replaced.{least}
 
 -- what was made, or else this
@@ -26,12 +23,14 @@ abbrev pub ifMade : {X Y : Type 0} → Outcome X → Y → Y → Y
 ifMade (done x) this that = this
 ifMade (refused r) this that = that
 
--- a deck whose elements all pass 5 and 6
-pub record Sound (t : List ℕ) : Type 0 where
-  pub deck : Deck t
-  pub elements : elementsFrom (elements t) 1 t ≡ Done
+-- slices of the matrix length
+pub record Lengths (t : List ℕ) (p a f w : List ℤ) : Type 0 where
+  pub of-p : length p ≡ tri (nodes t)
+  pub of-a : length a ≡ tri (nodes t)
+  pub of-f : length f ≡ tri (nodes t)
+  pub of-w : length w ≡ tri (nodes t)
 
--- its factor
+-- the factor of a deck
 abbrev pub factorOf : List ℕ → Outcome (List ℤ)
 factorOf t = rowsFrom (nodes t) 0 (lower (nodes t) (cleared (fixed t) (A t)))
 

@@ -114,21 +114,6 @@ pub fn add_square(xs: &mut [i64], c: [Node; 3], q: [[i64; 3]; 3])
 
 // ---- P and A
 
-// What the card in a row adds to P.
-fn add_to_p(table: &[u32], row: usize, xs: &mut [i64])
-    requires { ⌜ Card (now table) row (now xs) ⌝ }
-    ensures { λ _. ⌜ now (xs .exit) ≡ lower (nodes (now (table .entry))) (λ i j. entry (now (xs .entry)) i j +ℤ addsP (now (table .entry)) row i j) ⌝ }
-{
-    if element::field(table, row, 0) != E {
-        return;
-    }
-    let e = element::triangle_at(table, row);
-    let q = triangle::capacity_square(e, element::field(table, 0, 1));
-    let s = e.shape;
-    let c = s.corners;
-    add_square(xs, c, q);
-}
-
 // E's conductance and capacity, to A.
 fn add_element(table: &[u32], row: usize, xs: &mut [i64])
     requires { ⌜ Card (now table) row (now xs) × Is E (now table) row ⌝ }
@@ -168,18 +153,54 @@ fn add_to_a(table: &[u32], row: usize, xs: &mut [i64])
     }
 }
 
-pub fn assemble_p(table: &[u32], xs: &mut [i64])
-    requires { ⌜ Sound (now table) × (length (now xs) ≡ tri (nodes (now table))) ⌝ }
-    ensures { λ _. ⌜ now (xs .exit) ≡ lower (nodes (now (table .entry))) (matrices.P (now (table .entry))) ⌝ }
+// E's capacity to P, with its conductance to A.
+fn add_both(table: &[u32], row: usize, p: &mut [i64], a: &mut [i64])
+    requires { ⌜ Card (now table) row (now p) × Card (now table) row (now a) × Is E (now table) row ⌝ }
+    ensures { λ _. ⌜ now (p .exit) ≡ lower (nodes (now (table .entry))) (λ i j. entry (now (p .entry)) i j +ℤ addsP (now (table .entry)) row i j) ⌝ }
+    ensures { λ _. ⌜ now (a .exit) ≡ lower (nodes (now (table .entry))) (λ i j. entry (now (a .entry)) i j +ℤ addsA (now (table .entry)) row i j) ⌝ }
 {
-    zero(xs);
+    let e = element::triangle_at(table, row);
+    let ms = element::field(table, 0, 1);
+    let u = triangle::capacity_square(e, ms);
+    let q = triangle::element_square(e, ms);
+    let s = e.shape;
+    let c = s.corners;
+    add_square(p, c, u);
+    add_square(a, c, q);
+}
+
+// What the card in a row adds to P and to A.
+fn add_card(table: &[u32], row: usize, p: &mut [i64], a: &mut [i64])
+    requires { ⌜ Card (now table) row (now p) × Card (now table) row (now a) ⌝ }
+    ensures { λ _. ⌜ now (p .exit) ≡ lower (nodes (now (table .entry))) (λ i j. entry (now (p .entry)) i j +ℤ addsP (now (table .entry)) row i j) ⌝ }
+    ensures { λ _. ⌜ now (a .exit) ≡ lower (nodes (now (table .entry))) (λ i j. entry (now (a .entry)) i j +ℤ addsA (now (table .entry)) row i j) ⌝ }
+{
+    let letter = element::field(table, row, 0);
+    if letter == E {
+        add_both(table, row, p, a);
+        return;
+    }
+    if letter == F {
+        add_film(table, row, a);
+    }
+}
+
+// P and A, in one walk.
+pub fn assemble(table: &[u32], p: &mut [i64], a: &mut [i64])
+    requires { ⌜ Sound (now table) × (length (now p) ≡ tri (nodes (now table))) × (length (now a) ≡ tri (nodes (now table))) ⌝ }
+    ensures { λ _. ⌜ now (p .exit) ≡ lower (nodes (now (table .entry))) (matrices.P (now (table .entry))) ⌝ }
+    ensures { λ _. ⌜ now (a .exit) ≡ lower (nodes (now (table .entry))) (matrices.A (now (table .entry))) ⌝ }
+{
+    zero(p);
+    zero(a);
     let mut row = 0;
     while row * 6 < table.len() {
-        add_to_p(table, row, xs);
+        add_card(table, row, p, a);
         row += 1;
     }
 }
 
+// A alone.
 pub fn assemble_a(table: &[u32], xs: &mut [i64])
     requires { ⌜ Sound (now table) × (length (now xs) ≡ tri (nodes (now table))) ⌝ }
     ensures { λ _. ⌜ now (xs .exit) ≡ lower (nodes (now (table .entry))) (matrices.A (now (table .entry))) ⌝ }
