@@ -2,15 +2,16 @@
 use mathlib.Core.Path.{_≡_, refl, sym, ap, subst, _∙_}
 use mathlib.Core.Bool.{Bool, true, false, _&&_, _||_}
 use mathlib.Core.List.{List, _++_}
-use Prim.Native.Nat.{ℕ, _-_, _≤_, _<_}
+use Prim.Native.Nat.{ℕ, _+_, _-_, _≤_, _<_}
 use native.Mathlib.Omega.{arith}
-use borrow.Author.Tests.{le-leb, lt-leb}
+use borrow.Author.Tests.{le-leb, lt-leb, leb-true}
 use lib.Dec.{leb}
 use lib.IntN.{ℤ, pos}
 use lib.ListN.{length, take, drop, replicate, length-append, length-replicate, take-append-drop}
 use lib.Seq.{length-take-le}
 use Rattle.whole.specs.Packed.{tri, lower, entry}
 use Rattle.whole.proofs.Packed.{length-lower}
+use Rattle.whole.proofs.Tests.{and-told}
 use Rattle.paper.specs.Refusals.{numberOf, Outcome, refused, done, when, then, after, answerOf}
 use Rattle.paper.specs.Cards.{nodes, elements, elementRow, put}
 use Rattle.paper.specs.Judge.{judged, newJudged}
@@ -28,7 +29,7 @@ use Rattle.paper.specs.declared.Refusal.the-variants.{Short, Foreign}
 use Rattle.paper.proofs.Refused.{Plain, plain-told, judged-plain, new-plain, element-plain, elements-plain, Inside, inside-told, rows-inside}
 use Rattle.paper.proofs.Outcomes.{ends-done}
 use Rattle.paper.proofs.Update.{Kept, rows-keep}
-use Rattle.model.specs.Asks.{made, ifMade, factorOf, movedP, movedA, factorFrom}
+use Rattle.model.specs.Asks.{lent, made, ifMade, factorOf, Lengths, Built, movedP, movedA, factorFrom}
 
 -- a refusal that is none of the factor's leaves all as it was
 pub kept : (t new : List ℕ) (works : Bool) (z : Lent) (r : Refusal) → inFactor r ≡ false → leaves t new works z (refused r) ≡ record { answer = Refused r; table = t; lent = z }
@@ -42,16 +43,62 @@ kept t new works z r e = go works (inFactor r) e
 
 -- ---- what is lent
 
--- the slices of an entry, or an exit, as the call's definition has them
-abbrev pub lent : List ℤ → List ℤ → List ℤ → List ℤ → Lent
-lent p a factor work = record { p = p; a = a; factor = factor; work = work }
-
 abbrev pub same : Answer → List ℕ → Lent → Exit
 same r t z = record { answer = r; table = t; lent = z }
 
-pub enough-is : (t : List ℕ) (z : Lent) → long t ≤ length (z .p) → long t ≤ length (z .a) → long t ≤ length (z .factor) → long t ≤ length (z .work) → enough t z ≡ true
+-- an exit, read as the calls' clauses have it
+pub told : {x : Exit} {r : Answer} {t : List ℕ} {p a f w : List ℤ} → x ≡ same r t (lent p a f w)
+    → (r ≡ x .answer) × ((p ≡ x .lent .p) × ((a ≡ x .lent .a) × ((f ≡ x .lent .factor) × (w ≡ x .lent .work))))
+told e =
+    let q = sym e in
+    (ap (λ (x : Exit). x .answer) q, (ap (λ (x : Exit). x .lent .p) q, (ap (λ (x : Exit). x .lent .a) q, (ap (λ (x : Exit). x .lent .factor) q, ap (λ (x : Exit). x .lent .work) q))))
+
+-- a slice too short, the ones before it long enough; k is the matrix length
+module _ (t : List ℕ) (k : ℕ) (is : k ≡ long t) (z : Lent) where
+  pub no-p : length (z .p) < k → false ≡ enough t z
+  unfolding enough
+  no-p h = rw (lt-leb (long t) (length (z .p)) (omega arith))
+
+  module _ (hp : k ≤ length (z .p)) where
+    pub no-a : length (z .a) < k → false ≡ enough t z
+    unfolding enough
+    no-a h = rw (le-leb (long t) (length (z .p)) (omega arith), lt-leb (long t) (length (z .a)) (omega arith))
+
+    module _ (ha : k ≤ length (z .a)) where
+      pub no-f : length (z .factor) < k → false ≡ enough t z
+      unfolding enough
+      no-f h = rw (le-leb (long t) (length (z .p)) (omega arith), le-leb (long t) (length (z .a)) (omega arith), lt-leb (long t) (length (z .factor)) (omega arith))
+
+      pub by-work : k ≤ length (z .factor) → leb k (length (z .work)) ≡ enough t z
+      unfolding enough
+      by-work hf = rw (le-leb (long t) (length (z .p)) (omega arith), le-leb (long t) (length (z .a)) (omega arith), le-leb (long t) (length (z .factor)) (omega arith), is)
+
+-- what of the slices is lent on, k numbers of each
+cut-length : (n k : ℕ) (xs : List ℤ) → k ≡ n → n ≤ length xs → length (take (k - 0) xs) ≡ n
+cut-length n k xs e h = length-take-le (k - 0) xs (omega arith) ∙ omega arith
+
+-- what room tells of each slice
+pub record Roomy (t : List ℕ) (z : Lent) : Type 0 where
+  pub for-p : long t ≤ length (z .p)
+  pub for-a : long t ≤ length (z .a)
+  pub for-f : long t ≤ length (z .factor)
+  pub for-w : long t ≤ length (z .work)
+
+pub lengths : (t : List ℕ) (z : Lent) (k : ℕ) → k ≡ long t → Roomy t z → Lengths t (take (k - 0) (z .p)) (take (k - 0) (z .a)) (take (k - 0) (z .factor)) (take (k - 0) (z .work))
+lengths t z k e r = record {
+  of-p = cut-length (long t) k (z .p) e (r .for-p);
+  of-a = cut-length (long t) k (z .a) e (r .for-a);
+  of-f = cut-length (long t) k (z .factor) e (r .for-f);
+  of-w = cut-length (long t) k (z .work) e (r .for-w);
+}
+
+pub roomy-told : (t : List ℕ) (z : Lent) → enough t z ≡ true → Roomy t z
 unfolding enough
-enough-is t z hp ha hf hw = rw (le-leb (long t) (length (z .p)) hp, le-leb (long t) (length (z .a)) ha, le-leb (long t) (length (z .factor)) hf, le-leb (long t) (length (z .work)) hw)
+roomy-told t z e =
+    let (paf, w) = and-told (roomy t (z .p) && roomy t (z .a) && roomy t (z .factor)) (roomy t (z .work)) e in
+    let (pa, f) = and-told (roomy t (z .p) && roomy t (z .a)) (roomy t (z .factor)) paf in
+    let (p, a) = and-told (roomy t (z .p)) (roomy t (z .a)) pa in
+    record { for-p = leb-true _ _ p; for-a = leb-true _ _ a; for-f = leb-true _ _ f; for-w = leb-true _ _ w }
 
 module _ (t : List ℕ) (z : Lent) where
   -- ---- refusals before the factor
@@ -87,6 +134,21 @@ module _ (t : List ℕ) (z : Lent) where
         ended (refused r) e =
             rw (ok, room, sound, e, inside-told (factorOf t) r (rows-inside (nodes t) 0 (lower (nodes t) (cleared (fixed t) (A t)))) e, length-replicate (long t) (pos 0),
               take-append-drop (long t) (z .p), take-append-drop (long t) (z .a), take-append-drop (long t) (z .factor))
+
+-- the parts lent to the last stage, k long, and what it left in them
+pub built-told : (t : List ℕ) (z : Lent) (k : ℕ) {r : Answer} {p a f w : List ℤ} → judged t ≡ Done → enough t z ≡ true → elementsFrom (elements t) 1 t ≡ Done → k ≡ long t
+    → Built r t (take (k - 0) (z .p)) (take (k - 0) (z .a)) (take (k - 0) (z .factor)) p a f w
+    → buildCall t z ≡ same r t (lent (p ++ drop (k - 0) (z .p)) (a ++ drop (k - 0) (z .a)) (f ++ drop (k - 0) (z .factor)) (w ++ drop (k - 0) (z .work)))
+built-told t z k {r} {p} {a} {f} {w} ok room sound is h =
+    let o = factorOf t in
+    let n = nodes t in
+    let m : long t ≡ k - 0 = omega arith in
+    let eP : ifMade o (lower n (P t)) (take (long t) (z .p)) ≡ p = (λ i. ifMade o (lower n (P t)) (take (m i) (z .p))) ∙ sym (h .is-p) in
+    let eA : ifMade o (lower n (A t)) (take (long t) (z .a)) ≡ a = (λ i. ifMade o (lower n (A t)) (take (m i) (z .a))) ∙ sym (h .is-a) in
+    let eF : made o (take (long t) (z .factor)) ≡ f = (λ i. made o (take (m i) (z .factor))) ∙ sym (h .is-f) in
+    let eW : replicate (long t) (pos 0) ≡ w = sym (h .is-w) in
+    ended t z ok room sound o refl
+    ∙ (λ i. same (sym (h .answer) i) t (lent (eP i ++ drop (m i) (z .p)) (eA i ++ drop (m i) (z .a)) (eF i ++ drop (m i) (z .factor)) (eW i ++ drop (m i) (z .work))))
 
 -- ---- a replacement
 

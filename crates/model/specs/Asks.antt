@@ -10,6 +10,7 @@ use Rattle.paper.specs.Cards.{nodes, put}
 use Rattle.paper.specs.Matrices.{P, A, addsP, addsA, fixed, cleared}
 use Rattle.paper.specs.Factor.{rowsFrom}
 use Rattle.paper.specs.Replacing.{moved}
+use Rattle.paper.specs.Calls.{Lent}
 use Rattle.paper.specs.declared.Answer.{Answer}
 use Rattle.paper.proofs.Replaced.{least}
 
@@ -22,6 +23,10 @@ made (refused r) y = y
 abbrev pub ifMade : {X Y : Type 0} → Outcome X → Y → Y → Y
 ifMade (done x) this that = this
 ifMade (refused r) this that = that
+
+-- the lent slices as the calls' definitions have them
+abbrev pub lent : List ℤ → List ℤ → List ℤ → List ℤ → Lent
+lent p a factor work = record { p = p; a = a; factor = factor; work = work }
 
 -- slices of the matrix length
 pub record Lengths (t : List ℕ) (p a f w : List ℤ) : Type 0 where

@@ -11,16 +11,19 @@ ghost use lib.IntN.{ℤ, pos, _+ℤ_};
 ghost use lib.ListN.{length, replicate, take, drop};
 ghost use Rattle.whole.specs.Packed.{tri, lower, entry};
 ghost use Rattle.paper.specs.Cards.{nodes, put};
-ghost use Rattle.paper.specs.Matrices.{A, fixed, cleared, spread};
+ghost use Rattle.paper.specs.Matrices.{fixed, cleared, spread};
+ghost use Rattle.paper.specs.Matrices as matrices;
+ghost use Rattle.paper.specs.Calls.{enough, buildCall};
+ghost use Rattle.paper.proofs.Decks.{Deck};
 ghost use Rattle.packed.specs.Asks.{Sound};
-ghost use Rattle.model.specs.Asks.{factorOf, Factored, Lengths, Built};
+ghost use Rattle.model.specs.Asks.{lent, factorOf, Factored, Lengths, Built};
 
 // ---- build
 
 // A' of a sound deck.
 fn prepare(table: &[u32], work: &mut [i64])
     requires { ⌜ Sound (now table) × (length (now work) ≡ tri (nodes (now table))) ⌝ }
-    ensures { λ _. ⌜ now (work .exit) ≡ lower (nodes (now (table .entry))) (cleared (fixed (now (table .entry))) (A (now (table .entry)))) ⌝ }
+    ensures { λ _. ⌜ now (work .exit) ≡ lower (nodes (now (table .entry))) (cleared (fixed (now (table .entry))) (matrices.A (now (table .entry)))) ⌝ }
 {
     packed::assemble_a(table, &mut work[..]);
     packed::clear_fixed(table, &mut work[..]);
@@ -61,4 +64,42 @@ fn made(table: &[u32], p: &mut [i64], a: &mut [i64], factor: &mut [i64], work: &
     hand_over(&mut factor[..], &mut work[..], 0);
     packed::assemble(table, &mut p[..], &mut a[..]);
     Answer::Done
+}
+
+// Whether the matrix length fits into each slice.
+fn room(table: &[u32], p: &[i64], a: &[i64], factor: &[i64], work: &[i64]) -> bool
+    requires { ⌜ Deck (now table) ⌝ }
+    ensures { λ r. ⌜ r ≡ enough (now (table .entry)) (lent (now (p .entry)) (now (a .entry)) (now (factor .entry)) (now (work .entry))) ⌝ }
+{
+    let k = packed::start(element::nodes(table));
+    if p.len() < k {
+        return false;
+    }
+    if a.len() < k {
+        return false;
+    }
+    if factor.len() < k {
+        return false;
+    }
+    k <= work.len()
+}
+
+pub fn build(table: &[u32], p: &mut [i64], a: &mut [i64], factor: &mut [i64], work: &mut [i64]) -> Answer
+    ensures { λ r. ⌜ r ≡ buildCall (now (table .entry)) (lent (now (p .entry)) (now (a .entry)) (now (factor .entry)) (now (work .entry))) .answer ⌝ }
+    ensures { λ r. ⌜ now (p .exit) ≡ buildCall (now (table .entry)) (lent (now (p .entry)) (now (a .entry)) (now (factor .entry)) (now (work .entry))) .lent .p ⌝ }
+    ensures { λ r. ⌜ now (a .exit) ≡ buildCall (now (table .entry)) (lent (now (p .entry)) (now (a .entry)) (now (factor .entry)) (now (work .entry))) .lent .a ⌝ }
+    ensures { λ r. ⌜ now (factor .exit) ≡ buildCall (now (table .entry)) (lent (now (p .entry)) (now (a .entry)) (now (factor .entry)) (now (work .entry))) .lent .factor ⌝ }
+    ensures { λ r. ⌜ now (work .exit) ≡ buildCall (now (table .entry)) (lent (now (p .entry)) (now (a .entry)) (now (factor .entry)) (now (work .entry))) .lent .work ⌝ }
+{
+    if let Answer::Refused(r) = cards::judge(table) {
+        return Answer::Refused(r);
+    }
+    if !room(table, &p[..], &a[..], &factor[..], &work[..]) {
+        return Answer::Refused(Refusal::Short);
+    }
+    if let Answer::Refused(r) = element::judge_elements(table) {
+        return Answer::Refused(r);
+    }
+    let k = packed::start(element::nodes(table));
+    made(table, &mut p[0..k], &mut a[0..k], &mut factor[0..k], &mut work[0..k])
 }
