@@ -17,11 +17,8 @@ use Rattle.paper.specs.Factor.{small, rowsFrom}
 use Rattle.paper.specs.Lent.{pivot, badRow, noFactor}
 use Rattle.paper.proofs.Outcomes.{ends-done}
 use Rattle.paper.proofs.Update.{Kept, rows-keep}
-use Rattle.factor.specs.Asks.{Ready, Fresh}
-
--- finished rows, and what stands below them
-abbrev pub laid : ℕ → List ℤ → List ℤ → List ℤ
-laid m factor xs = take (tri m) factor ++ drop (tri m) xs
+use Rattle.factor.specs.Asks.{Ready}
+use Rattle.model.specs.Asks.{laid}
 
 module _ (m n : ℕ) (factor xs : List ℤ) (low : m ≤ n) (longF : length factor ≡ tri n) (longX : length xs ≡ tri n) where
   room : tri m ≤ tri n

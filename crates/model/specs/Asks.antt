@@ -9,9 +9,14 @@ use Rattle.paper.specs.Refusals.{Outcome, refused, done, answerOf}
 use Rattle.paper.specs.Cards.{nodes, put}
 use Rattle.paper.specs.Matrices.{P, A, addsP, addsA, fixed, cleared}
 use Rattle.paper.specs.Factor.{rowsFrom}
-use Rattle.paper.specs.Replacing.{moved}
+use Rattle.paper.specs.Triangle.{elementJudged}
+use Rattle.paper.specs.Replacing.{elementOf, moved}
+use Rattle.paper.specs.Building.{Slices}
+use Rattle.paper.specs.Lent.{foreign}
 use Rattle.paper.specs.Calls.{Lent}
 use Rattle.paper.specs.declared.Answer.{Answer}
+use Rattle.paper.specs.declared.Answer.the-variants.{Done}
+use Rattle.paper.proofs.Decks.{Deck, Change}
 use Rattle.paper.proofs.Replaced.{least}
 
 -- what was made, or else this
@@ -65,7 +70,20 @@ factorFrom t a factor row card =
     let m = least t row card in
     rowsFrom (nodes t - m) m (take (tri m) factor ++ drop (tri m) (lower (nodes t) (cleared (fixed (put t row card)) (entry (movedA t a row card)))))
 
--- its end, on slices of the matrix length
+-- finished rows above row m, and what stands below them
+abbrev pub laid : ℕ → List ℤ → List ℤ → List ℤ
+laid m factor xs = take (tri m) factor ++ drop (tri m) xs
+
+-- what it asks of slices of the matrix length: an accepted deck and card, numbers that pass refusal 10, a new form that passes 5 and 6
+pub record Redoes (t : List ℕ) (row : ℕ) (card : List ℕ) (p a f w : List ℤ) : Type 0 where
+  pub deck : Deck t
+  pub change : Change t row card
+  pub deck′ : Deck (put t row card)
+  pub lengths : Lengths t p a f w
+  pub tame : foreign (nodes t) (record { p = p; a = a; factor = f }) ≡ false
+  pub form : elementJudged (put t row card) (elementOf (put t row card) row) ≡ Done
+
+-- its end
 pub record Redone (r : Answer) (t : List ℕ) (row : ℕ) (card : List ℕ) (p₀ a₀ f₀ : List ℤ) (t′ : List ℕ) (p a f w : List ℤ) : Type 0 where
   pub answer : r ≡ answerOf (factorFrom t a₀ f₀ row card)
   pub is-t : t′ ≡ ifMade (factorFrom t a₀ f₀ row card) (put t row card) t
