@@ -1,7 +1,6 @@
 // A matrix as its lower triangle by rows: places, a square added, A and P assembled, A' in place.
 use paper::Element;
 use paper::Node;
-use triangle::Shape;
 ghost use mathlib.Core.Path.{_≡_};
 ghost use Prim.Native.Nat.{ℕ, suc, _+_, _-_, _*_, _^_, _≤_, _<_};
 ghost use lib.Dec.{eqb};

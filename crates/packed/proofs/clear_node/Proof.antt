@@ -39,12 +39,12 @@ loop-holds c =
 mul-xs : tie.Need-mul-xs Inv-loop μ-loop
 mul-xs c =
     let i = c .before .before .before .before .args .node .0 - 1 in
-    omega (arith, c .before .loop .inv .1, place-in i (c .before .loop .j) (c .before .before .before .before .args .n) (omega (arith, c .before .before .before .before .pre .among)) (c .loop-test .taken), tri-96 (c .before .before .before .before .args .n) (c .before .before .before .before .pre .few))
+    omega (arith, c .before .loop .inv .1, place-in i (c .before .loop .j) (c .before .before .before .before .args .n) (omega (arith, c .before .before .before .before .pre .among)) (omega (arith, c .loop-test .taken, c .before .before .before .before .pre)), tri-96 (c .before .before .before .before .args .n) (c .before .before .before .before .pre .few))
 
 slice-set-of-xs : tie.Need-slice-set-of-xs Inv-loop μ-loop
 slice-set-of-xs c =
     let i = c .before .before .before .before .args .node .0 - 1 in
-    omega (arith, c .before .loop .inv .1, place-in i (c .before .loop .j) (c .before .before .before .before .args .n) (omega (arith, c .before .before .before .before .pre .among)) (c .loop-test .taken), long (c .before .before .before .before .args .n) i (c .before .loop .j) (c .before .before .before .before .args .xs .now) (c .before .loop .xs) (c .before .loop .inv .2))
+    omega (arith, c .before .loop .inv .1, place-in i (c .before .loop .j) (c .before .before .before .before .args .n) (omega (arith, c .before .before .before .before .pre .among)) (omega (arith, c .loop-test .taken, c .before .before .before .before .pre)), long (c .before .before .before .before .args .n) i (c .before .loop .j) (c .before .before .before .before .args .xs .now) (c .before .loop .xs) (c .before .loop .inv .2))
 
 after-requires : tie.Need-after-requires Inv-loop μ-loop
 after-requires c κs = (c .before .loop .inv .1, omega (arith, c .before .before .before .before .pre .among, c .before .before .before .before .pre .few), omega (arith, c .loop-test .taken, c .before .before .before .before .pre .few))
@@ -83,8 +83,8 @@ slice-set-of-xs-2 c =
 
 same-length : tie.Need-same-length Inv-loop μ-loop
 same-length c =
-    let i = c .before .before .before .before .before .args .node .0 - 1 in
-    length-set (c .before .before .loop .xs) (c .start2 .result + i) (pos (2 ^ 20)) ∙ long (c .before .before .before .before .before .args .n) i (c .before .before .loop .j) (c .before .before .before .before .before .args .xs .now) (c .before .before .loop .xs) (c .before .before .loop .inv .2) ∙ sym (c .before .before .before .before .before .pre .long)
+    let s = c .before .before .before .before .before in
+    simp length-set (long (s .args .n) (s .args .node .0 - 1) (c .before .before .loop .j) (s .args .xs .now) (c .before .before .loop .xs) (c .before .before .loop .inv .2) ∙ sym (s .pre .long))
 
 returns : tie.Need-returns Inv-loop μ-loop
 returns c =
