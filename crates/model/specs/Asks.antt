@@ -1,5 +1,6 @@
 -- What the stages of build and replace ask of, and say to, each other. Slices here are of the matrix length.
 use mathlib.Core.Path.{_≡_}
+use mathlib.Core.Bool.{false}
 use mathlib.Core.List.{List, _++_}
 use Prim.Native.Nat.{ℕ, _-_}
 use lib.IntN.{ℤ, pos}
