@@ -16,3 +16,4 @@ pub mod Built
 pub mod Lent
 pub mod Changed
 pub mod Refused
+pub mod Scale

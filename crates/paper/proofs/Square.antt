@@ -73,9 +73,9 @@ spread-rows n m ns q i inside zero-row =
     sum-swap m n (λ j a. sum n (λ b. part a b j))
     ∙ sum-none n (λ a. sum m (λ j. sum n (λ b. part a b j)))
     (λ a l.
-      sum-swap m n (λ j b. part a b j)
-      ∙ sum-ext n (λ b. sum m (λ j. part a b j)) (λ b. cond (hit a) (q a b) (pos 0)) (λ b k. column m (getD ns b 0) (hit a) (q a b) (inside b k))
-      ∙ kept n (hit a) (λ b. q a b) (zero-row a l))
+    sum-swap m n (λ j b. part a b j)
+    ∙ sum-ext n (λ b. sum m (λ j. part a b j)) (λ b. cond (hit a) (q a b) (pos 0)) (λ b k. column m (getD ns b 0) (hit a) (q a b) (inside b k))
+    ∙ kept n (hit a) (λ b. q a b) (zero-row a l))
   where
     hit : ℕ → Bool
     hit a = eqb (getD ns a 0) (suc i)
