@@ -1,19 +1,20 @@
 -- The matrices of a whole deck: symmetric, A the sum of its three kinds, and the conductances' rows sum to zero.
 use mathlib.Core.Path.{_≡_, refl, sym, ap, _∙_}
-use mathlib.Core.Bool.{Bool, true, false, cond}
+use mathlib.Core.Bool.{Bool, true, false, cond, _||_, or-comm}
 use mathlib.Core.List.{List, [], _∷_}
-use Prim.Native.Nat.{ℕ, zero, suc, _+_, _≤_, _<_}
+use Prim.Native.Nat.{ℕ, zero, suc, _+_, _^_, _≤_, _<_}
+use lib.Dec.{eqb}
 use native.Mathlib.Omega.{arith}
 use borrow.Author.Tests.{eqb-true}
 use lib.IntN.{ℤ, pos, _+ℤ_}
 use lib.ListN.{getD}
 use Rattle.whole.specs.Sums.{sum}
-use Rattle.whole.proofs.Tests.{cond-same}
+use Rattle.whole.proofs.Tests.{cond-same, cond-true, cond-false, eqb-swap}
 use Rattle.whole.proofs.Sums.{sum-ext, sum-plus, sum-none, sum-swap}
 use Rattle.paper.specs.Cards.{letterOf, field, letter, isCard, rows, nodes, stepOf}
 use Rattle.paper.specs.Judge.{judged}
 use Rattle.paper.specs.Triangle.{shapeAt, triangleAt, conductance, mass, u, v}
-use Rattle.paper.specs.Matrices.{spread, named, addsK, addsP, addsF, P, A}
+use Rattle.paper.specs.Matrices.{spread, named, addsK, addsP, addsF, P, A, cleared}
 use Rattle.paper.specs.declared.Answer.the-variants.{Done}
 use Rattle.paper.specs.declared.Kind.the-variants.{E, F}
 use Rattle.paper.proofs.Decks.{In, Is, Deck}
@@ -59,6 +60,19 @@ P-symmetric t i j = sum-ext (rows t) _ _ (λ row l. addsP-symmetric t row i j)
 pub A-symmetric : (t : List ℕ) (i j : ℕ) → A t i j ≡ A t j i
 unfolding A
 A-symmetric t i j = sum-ext (rows t) _ _ (λ row l d. addsK-symmetric t row i j d +ℤ addsP-symmetric t row i j d +ℤ addsF-symmetric t row i j d)
+
+-- THEOREMS. A' of a symmetric matrix is symmetric; of a fixed node its row and its column are 2^20 on the diagonal and 0 off it; free rows and columns stay.
+pub cleared-symmetric : (fix : ℕ → Bool) (f : ℕ → ℕ → ℤ) → ((i j : ℕ) → f i j ≡ f j i) → (i j : ℕ) → cleared fix f i j ≡ cleared fix f j i
+unfolding cleared
+cleared-symmetric fix f h i j = λ d. cond (or-comm (fix i) (fix j) d) (cond (eqb-swap i j d) (pos (2 ^ 20)) (pos 0)) (h i j d)
+
+pub cleared-fixed : (fix : ℕ → Bool) (f : ℕ → ℕ → ℤ) (i j : ℕ) → fix i || fix j ≡ true → cleared fix f i j ≡ cond (eqb i j) (pos (2 ^ 20)) (pos 0)
+unfolding cleared
+cleared-fixed fix f i j e = cond-true (fix i || fix j) _ (f i j) e
+
+pub cleared-free : (fix : ℕ → Bool) (f : ℕ → ℕ → ℤ) (i j : ℕ) → fix i || fix j ≡ false → cleared fix f i j ≡ f i j
+unfolding cleared
+cleared-free fix f i j e = cond-false (fix i || fix j) _ (f i j) e
 
 -- ---- rows that sum to zero
 

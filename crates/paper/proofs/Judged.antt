@@ -6,7 +6,7 @@ use mathlib.Core.List.{List, [], _∷_}
 use Prim.Native.Nat.{ℕ, zero, suc, _+_, _*_, _-_, _/_, _%_, _≤_, _<_}
 use native.Mathlib.Decide.{ℕ-discrete, decLt}
 use native.Mathlib.Omega.{arith}
-use borrow.Author.Tests.{leb-true, ltb-true, ltb-false, eqb-true, eq-eqb, not-false}
+use borrow.Author.Tests.{leb-true, ltb-true, ltb-false, le-ltb, eqb-true, eq-eqb, not-false}
 use lib.Dec.{eqb, leb, ltb}
 use lib.ListN.{length, getD}
 use Rattle.whole.proofs.Tests.{never, and-told, nor-told, if-told}
@@ -158,6 +158,13 @@ top-told t e =
       back = eqb-true (getD (rowAt t n) 1 0) (42 * n) bk;
       each = λ row h. judge-each (counts t) (rowAt t) n 0 row e₃ (omega arith) (omega arith);
     }
+
+pub top-done : (t : List ℕ) → Top t → judged t ≡ Done
+unfolding judged judgeRows
+top-done t h =
+    let n = rows t - 1 in
+    rw (eq-eqb (length t % 6) 0 (h .sixes), le-ltb (length t) 12 (h .least), le-ltb 4092 (length t) (h .most), h .zed, eq-eqb (getD (rowAt t n) 1 0) (42 * n) (h .back))
+    (ap (λ (z : Counts). judgeFrom z (rowAt t) n 0 0 0) (counts-are t) ∙ judge-all (counts t) (rowAt t) n 0 (λ row a b. h .each row (omega arith)))
 
 -- ---- Z
 

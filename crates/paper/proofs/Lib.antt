@@ -15,5 +15,16 @@ pub mod Weights
 pub mod Built
 pub mod Lent
 pub mod Changed
+pub mod NewCard
+pub mod Replaced
+pub mod Demand3
+pub mod Calls
 pub mod Refused
 pub mod Scale
+pub mod Judging
+pub mod Fields
+pub mod CardText
+pub mod Joined
+pub mod Reading
+pub mod Printing
+pub mod RoundTrip

@@ -1,0 +1,24 @@
+-- A row of a table, as the code lends it and reads it.
+use mathlib.Core.Path.{_≡_, sym, ap, _∙_}
+use mathlib.Core.List.{List}
+use Prim.Native.Nat.{ℕ, _+_, _-_, _*_, _<_}
+use native.Mathlib.Omega.{arith}
+use lib.ListN.{getD, take, drop}
+use Rattle.paper.specs.Cards.{kindOf, kindAt, rowAt, field}
+use Rattle.paper.proofs.Tables.{row-field}
+
+-- the part that the code lends is row i
+pub lent : (t : List ℕ) (i : ℕ) → take (i * 6 + 6 - i * 6) (drop (i * 6) t) ≡ rowAt t i
+lent t i =
+    let e : i * 6 + 6 - i * 6 ≡ 6 = omega arith in
+    rw e
+
+-- number k of it stands in the table
+pub at-row : (t : List ℕ) (i k : ℕ) → k < 6 → getD t (i * 6 + k) 0 ≡ getD (rowAt t i) k 0
+unfolding field
+at-row t i k l = sym (row-field t i k l)
+
+pub letter-at : (t : List ℕ) (i : ℕ) → kindOf (getD t (i * 6) 0) ≡ kindAt (rowAt t i)
+letter-at t i =
+    let e : i * 6 ≡ i * 6 + 0 = omega arith in
+    ap (λ (k : ℕ). kindOf (getD t k 0)) e ∙ ap kindOf (at-row t i 0 (omega arith))
