@@ -8,7 +8,7 @@ use lib.IntN.{ℤ, pos, negℤ, natAbs, _+ℤ_, _-ℤ_, _*ℤ_}
 use lib.Signed.{mag}
 use mir.Syntax.{w64}
 use mir.Val.{SFits, toZ, ofZ}
-use mir.Facts.{toZ-ofZ}
+use mir.Facts.{toZ-ofZ, toZ-pos}
 use Rattle.whole.proofs.Signs.{small, natAbs-plus, natAbs-minus, natAbs-times, natAbs-neg}
 
 -- what the machine reads back of z's bits: each local, argument and element stands so in a goal
@@ -28,6 +28,10 @@ arg f h = record { eq = toZ-ofZ f; size = h }
 -- a number that is known to be small, as an element of a slice or a struct's field: `num x (..) (lit< tt)`
 pub num : (x : ℤ) {n : ℕ} → natAbs x ≤ n → n < 2 ^ 63 → Is (rd x) x n
 num x h k = arg (small (lt-of-le-of-lt h k)) h
+
+-- an unsigned number that is cast to i64: `cast n (..) (lit< tt)`
+pub cast : (n : ℕ) {m : ℕ} → n ≤ m → m < 2 ^ 63 → Is (toZ w64 n) (pos n) m
+cast n h k = record { eq = toZ-pos w64 (lt-of-le-of-lt h k); size = h }
 
 -- a call's result, whose `ensures` says that it is u: `res (c .f .ok) (c .f .ensures) (..)`
 pub res : {z u v : ℤ} {n : ℕ} → mag z < 2 ^ 63 → z ≡ u → Is u v n → Is (rd z) v n

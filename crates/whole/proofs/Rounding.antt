@@ -1,7 +1,7 @@
 -- Laws of the nearest: how near it is, its size, and the code's ways to it.
 use mathlib.Core.Path.{_≡_, refl, sym, ap, subst, _∙_}
 use Prim.Native.Nat.{ℕ, zero, suc, _+_, _*_, _-_, _/_, _%_, _^_, _≤_, _<_}
-use native.Mathlib.Nat.{mul-le-mul, mul-left-comm, div-add-mod, mul-add, zero-mul, mul-zero, le-mul-of-pos-right, div-lt-iff-lt-mul, div-zero, suc-mul, le-of-suc-le-suc, mul-assoc, mul-comm, mod-lt}
+use native.Mathlib.Nat.{le-refl, mul-le-mul, mul-left-comm, div-add-mod, mul-add, zero-mul, mul-zero, le-mul-of-pos-right, div-lt-iff-lt-mul, div-zero, suc-mul, le-of-suc-le-suc, mul-assoc, mul-comm, mod-lt}
 use native.Mathlib.Decide.{decLt}
 use native.Mathlib.Omega.{arith}
 use lib.IntN.{ℤ, pos, negsuc, negℤ, natAbs, _+ℤ_, _-ℤ_, _*ℤ_, negℤ-negℤ}
@@ -147,3 +147,11 @@ nearZ (negsuc m) b h =
     let q = nearestN (suc m) b in
     let p = negℤ (pos q) *ℤ pos b in
     omega (zarith, nearN (suc m) b h, neg-times (pos q) (pos b), negL (pos (q * b)), minusL p (negsuc m), split (p -ℤ negsuc m))
+
+-- the nearest to a / q is no more than that to a / p, of a smaller p
+pub nearestN-by : (a p q : ℕ) → 0 < p → p ≤ q → 2 * (nearestN a q * p) ≤ 2 * a + p
+nearestN-by a p q h l = go (nearestN a q) (nearN a q (omega arith))
+  where
+    go : (r : ℕ) → Near a q r → 2 * (r * p) ≤ 2 * a + p
+    go zero k = omega (arith, zero-mul p)
+    go (suc r) k = omega (arith, suc-mul r q, suc-mul r p, mul-le-mul (le-refl r) l)

@@ -1,0 +1,5 @@
+-- Squares of functions, and the sizes of an element's numbers.
+pub mod Squares
+pub mod Sizes
+mod Machine
+mod Refused

@@ -1,0 +1,108 @@
+-- Sizes of one element's numbers, before the test of 6.
+use mathlib.Core.Path.{_≡_, refl, ap, subst, sym, _∙_}
+use mathlib.Core.Bool.{Bool, true, false, cond}
+use mathlib.Core.List.{List}
+use Prim.Native.Nat.{ℕ, zero, suc, _+_, _*_, _^_, _≤_, _<_}
+use native.Mathlib.Nat.{mul-le-mul}
+use native.Mathlib.Omega.{arith}
+use lib.Dec.{eqb}
+use lib.IntN.{ℤ, pos, negℤ, natAbs, _+ℤ_, _-ℤ_, _*ℤ_}
+use lib.ListN.{getD}
+use Rattle.whole.specs.Nearest.{nearestN}
+use Rattle.whole.specs.Sums.{sum}
+use Rattle.whole.proofs.Signs.{natAbs-plus, natAbs-times, natAbs-neg}
+use Rattle.whole.proofs.Linear.{apart-size}
+use Rattle.whole.proofs.Rounding.{nearest-size, nearestN-by}
+use Rattle.paper.specs.Triangle.{Shape, Triangle, b, c, S, square, mass, pair, conductance, u, v}
+use Rattle.paper.proofs.Elements.{S-size, v-size}
+use Rattle.triangle.specs.Forms.{at, squareOf}
+use Rattle.triangle.specs.Asks.{OnGrid, Placed, Sized, Step, Small}
+use Rattle.triangle.proofs.Squares.{small-square}
+
+pub grid-apart : (z : List ℕ) (i j : ℕ) → OnGrid z → i < 3 → j < 3 → natAbs (pos (getD z i 0) -ℤ pos (getD z j 0)) ≤ 4095
+grid-apart z i j h k l = apart-size (getD z i 0) (getD z j 0) 4095 (h i k) (h j l)
+
+pub b-size : (s : Shape) (a : ℕ) → Placed s → a < 3 → natAbs (b s a) ≤ 4095
+unfolding b
+b-size s zero p h = grid-apart (s .ys) 1 2 (p .y) (omega arith) (omega arith)
+b-size s (suc zero) p h = grid-apart (s .ys) 2 0 (p .y) (omega arith) (omega arith)
+b-size s (suc (suc zero)) p h = grid-apart (s .ys) 0 1 (p .y) (omega arith) (omega arith)
+b-size s (suc (suc (suc a))) p h = absurd (omega arith)
+
+pub c-size : (s : Shape) (a : ℕ) → Placed s → a < 3 → natAbs (c s a) ≤ 4095
+unfolding c
+c-size s zero p h = grid-apart (s .xs) 2 1 (p .x) (omega arith) (omega arith)
+c-size s (suc zero) p h = grid-apart (s .xs) 0 2 (p .x) (omega arith) (omega arith)
+c-size s (suc (suc zero)) p h = grid-apart (s .xs) 1 0 (p .x) (omega arith) (omega arith)
+c-size s (suc (suc (suc a))) p h = absurd (omega arith)
+
+pub S-small : (s : Shape) → Placed s → S s ≤ 33538050
+S-small s p = S-size s (λ a l. (p .x a l, p .y a l))
+
+-- k times two factors of 0 to 4,095 in size
+term-size : (k : ℕ) (x y : ℤ) → k ≤ 500000 → natAbs x ≤ 4095 → natAbs y ≤ 4095 → natAbs (pos k *ℤ (x *ℤ y)) ≤ 500000 * (4095 * 4095)
+term-size k x y h p q =
+    rw (natAbs-times (pos k) (x *ℤ y), natAbs-times x y) (mul-le-mul {n₂ = 500000} {m₂ = 4095 * 4095} h (mul-le-mul {n₂ = 4095} {m₂ = 4095} p q))
+
+flux-size : (t : ℕ) (x y : ℤ) → t ≤ 4000 → natAbs x ≤ 500000 * (4095 * 4095) → natAbs y ≤ 500000 * (4095 * 4095) → natAbs (pos t *ℤ (x +ℤ y)) ≤ 4000 * (1000000 * (4095 * 4095))
+flux-size t x y h p q =
+    let s : natAbs (x +ℤ y) ≤ 1000000 * (4095 * 4095) = omega (arith, natAbs-plus x y) in
+    rw (natAbs-times (pos t) (x +ℤ y)) (mul-le-mul {n₂ = 4000} {m₂ = 1000000 * (4095 * 4095)} h s)
+
+pub pair-size : (e : Triangle) (i j : ℕ) → Sized e → 1 ≤ S (e .shape) → i < 3 → j < 3 → natAbs (pair e i j) ≤ 2 ^ 45
+unfolding pair
+pair-size e i j z some h l =
+    let s = e .shape in
+    let x = pos (e .kx) *ℤ (b s i *ℤ b s j) in
+    let y = pos (e .ky) *ℤ (c s i *ℤ c s j) in
+    let n = pos (e .thickness) *ℤ (x +ℤ y) in
+    let big : natAbs n ≤ 4000 * (1000000 * (4095 * 4095)) =
+    flux-size (e .thickness) x y (z .thickness)
+    (term-size (e .kx) (b s i) (b s j) (z .kx) (b-size s i (z .placed) h) (b-size s j (z .placed) l))
+    (term-size (e .ky) (c s i) (c s j) (z .ky) (c-size s i (z .placed) h) (c-size s j (z .placed) l)) in
+    rw (nearest-size n (2000 * S s)) (omega (arith, nearestN-by (natAbs n) 2000 (2000 * S s) (omega arith) (omega arith)))
+
+pub u-size : (ms : ℕ) (e : Triangle) → Sized e → Step ms → u ms e ≤ 2 ^ 37
+unfolding u
+u-size ms e z h =
+    let n = e .capacity * e .thickness * S (e .shape) in
+    let big : n ≤ 5000 * 4000 * 33538050 = mul-le-mul {n₂ = 5000 * 4000} {m₂ = 33538050} (mul-le-mul {n₂ = 5000} {m₂ = 4000} (z .capacity) (z .thickness)) (S-small (e .shape) (z .placed)) in
+    omega (arith, h .least, nearestN-by n 9600 (9600 * ms) (omega arith) (omega (arith, h .least)))
+
+pub v-small : (film : ℕ) (s : Shape) → film ≤ 100000 → Placed s → v film s ≤ 349500
+v-small film s h p = v-size film s h (S-small s p)
+
+-- ---- squares
+
+pub mass-size : (w i j : ℕ) → natAbs (mass w i j) ≤ 2 * w
+unfolding mass
+mass-size w i j = go (eqb i j)
+  where
+    go : (t : Bool) → natAbs (cond t (pos (2 * w)) (pos w)) ≤ 2 * w
+    go true = omega arith
+    go false = omega arith
+
+three : (x y z : ℤ) → natAbs (negℤ (pos 0 +ℤ x +ℤ y +ℤ z)) ≤ natAbs x + natAbs y + natAbs z
+three x y z = rw (natAbs-neg (pos 0 +ℤ x +ℤ y +ℤ z)) (omega (arith, natAbs-plus (pos 0 +ℤ x +ℤ y) z, natAbs-plus (pos 0 +ℤ x) y, natAbs-plus (pos 0) x))
+
+pub conductance-size : (e : Triangle) (i j : ℕ) → Sized e → 1 ≤ S (e .shape) → i < 3 → j < 3 → natAbs (conductance e i j) ≤ 2 ^ 47
+unfolding conductance square sum
+conductance-size e i j z some h l = go (eqb i j)
+  where
+    p : (k : ℕ) → k < 3 → natAbs (cond (eqb i k) (pos 0) (pair e i k)) ≤ 2 ^ 45
+    p k m = one (eqb i k)
+      where
+        one : (t : Bool) → natAbs (cond t (pos 0) (pair e i k)) ≤ 2 ^ 45
+        one true = omega arith
+        one false = pair-size e i k z some h m
+
+    go : (t : Bool) → natAbs (cond t (negℤ (sum 3 (λ k. cond (eqb i k) (pos 0) (pair e i k)))) (pair e i j)) ≤ 2 ^ 47
+    go true =
+        omega (
+          arith,
+          three (cond (eqb i 0) (pos 0) (pair e i 0)) (cond (eqb i 1) (pos 0) (pair e i 1)) (cond (eqb i 2) (pos 0) (pair e i 2)),
+          p 0 (omega arith),
+          p 1 (omega arith),
+          p 2 (omega arith),
+        )
+    go false = omega (arith, pair-size e i j z some h l)

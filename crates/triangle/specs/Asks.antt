@@ -1,0 +1,37 @@
+-- What the functions ask of their arguments: numbers within the ranges of the cards' fields.
+use mathlib.Core.Path.{_≡_}
+use mathlib.Core.List.{List}
+use Prim.Native.Nat.{ℕ, _≤_, _<_}
+use lib.IntN.{ℤ, natAbs}
+use lib.ListN.{getD}
+use Rattle.paper.specs.Triangle.{Shape, Triangle, S}
+use Rattle.triangle.specs.Forms.{at}
+
+-- three coordinates
+abbrev pub OnGrid : List ℕ → Type 0
+OnGrid z = (a : ℕ) → a < 3 → getD z a 0 ≤ 4095
+
+pub record Placed (s : Shape) : Type 0 where
+  pub x : OnGrid (s .xs)
+  pub y : OnGrid (s .ys)
+
+pub record Sized (e : Triangle) : Type 0 where
+  pub placed : Placed (e .shape)
+  pub kx : e .kx ≤ 500000
+  pub ky : e .ky ≤ 500000
+  pub capacity : e .capacity ≤ 5000
+  pub thickness : e .thickness ≤ 4000
+
+-- and s is its S, which is not 0
+pub record Solid (e : Triangle) (s : ℕ) : Type 0 where
+  pub sized : Sized e
+  pub is : s ≡ S (e .shape)
+  pub some : 1 ≤ s
+
+pub record Step (ms : ℕ) : Type 0 where
+  pub least : 1 ≤ ms
+  pub most : ms ≤ 60000
+
+-- a square of numbers of size at most n
+pub record Small (n : ℕ) (q : List (List ℤ)) : Type 0 where
+  pub each : (i j : ℕ) → natAbs (at q i j) ≤ n

@@ -1,0 +1,32 @@
+-- What the code's structs and squares stand for.
+use mathlib.Core.Bool.{cond}
+use mathlib.Core.List.{List, [], _∷_, map}
+use Prim.Native.Nat.{ℕ}
+use lib.Dec.{leb}
+use lib.IntN.{ℤ, pos}
+use lib.ListN.{getD}
+use Rattle.whole.specs.Sums.{table}
+use Rattle.paper.specs.Triangle as paper
+use Rattle.paper.specs.declared.Node.{Node}
+use Rattle.paper.specs.declared.Answer.{Answer}
+use Rattle.paper.specs.declared.Answer.the-variants.{Done, Refused}
+use Rattle.paper.specs.declared.Refusal.the-variants.{Flat, Stiff}
+use Rattle.triangle.specs.declared.Shape.{Shape}
+use Rattle.triangle.specs.declared.Triangle.{Triangle}
+
+abbrev pub shapeOf : Shape → paper.Shape
+shapeOf s = record { corners = map (λ (n : Node). n .0) (s .corners); xs = s .x; ys = s .y }
+
+abbrev pub triangleOf : Triangle → paper.Triangle
+triangleOf e = record { shape = shapeOf (e .shape); kx = e .kx; ky = e .ky; capacity = e .capacity; thickness = e .thickness }
+
+-- the number in row i, column j of a square, and the square of a function
+abbrev pub at : List (List ℤ) → ℕ → ℕ → ℤ
+at q i j = getD (getD q i []) j (pos 0)
+
+unfoldable pub squareOf : (ℕ → ℕ → ℤ) → List (List ℤ)
+squareOf f = table 3 (f 0) ∷ table 3 (f 1) ∷ table 3 (f 2) ∷ []
+
+-- refusals 5 and 6 of a triangle that is element e
+unfoldable pub judgedAs : ℕ → paper.Triangle → ℕ → Answer
+judgedAs ms it e = cond (leb 1 (paper.S (it .shape))) (cond (paper.fair ms it) Done (Refused (Stiff e))) (Refused (Flat e))

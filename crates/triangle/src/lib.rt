@@ -1,0 +1,262 @@
+// One element: S, its squares, the loads of its corners, and refusals 5 and 6.
+use paper::Answer;
+use paper::Element;
+use paper::Node;
+use paper::Refusal;
+use paper::Ticks;
+ghost use mathlib.Core.Path.{_≡_};
+ghost use mathlib.Core.List.{List};
+ghost use Prim.Native.Nat.{ℕ, _+_, _*_, _^_, _<_, _≤_};
+ghost use lib.IntN.{ℤ, pos, natAbs, _+ℤ_, _-ℤ_};
+ghost use lib.ListN.{getD};
+ghost use Rattle.whole.specs.Nearest.{nearestN};
+ghost use Rattle.whole.specs.Sums.{table};
+ghost use Rattle.whole.specs.Packed.{cell};
+ghost use Rattle.paper.specs.Ticks.{top};
+ghost use Rattle.paper.specs.Triangle.{b, c, S, mass, pair, conductance, u, v, heatLoad, filmLoad, fair};
+ghost use Rattle.triangle.specs.Forms.{shapeOf, triangleOf, at, squareOf, judgedAs};
+ghost use Rattle.triangle.specs.Asks.{OnGrid, Placed, Sized, Solid, Step, Small};
+
+// An element's place: its corners and their coordinates.
+pub struct Shape {
+    pub corners: [Node; 3],
+    pub x: [u32; 3],
+    pub y: [u32; 3],
+}
+
+// And all that its matrices are made of.
+pub struct Triangle {
+    pub shape: Shape,
+    pub kx: u32,
+    pub ky: u32,
+    pub capacity: u32,
+    pub thickness: u32,
+}
+
+// ---- S, b and c
+
+fn apart(z: [u32; 3], i: usize, j: usize) -> i64
+    requires { ⌜ OnGrid z × (i < 3) × (j < 3) ⌝ }
+    ensures { λ r. ⌜ r ≡ pos (getD z i 0) -ℤ pos (getD z j 0) ⌝ }
+{
+    z[i] as i64 - z[j] as i64
+}
+
+// Either turning sense is accepted.
+fn either_sense(area: i64) -> u64
+    ensures { λ r. ⌜ r ≡ natAbs area ⌝ }
+{
+    whole::size(area)
+}
+
+pub fn twice_area(s: Shape) -> u64
+    requires { ⌜ Placed (shapeOf s) ⌝ }
+    ensures { λ r. ⌜ r ≡ S (shapeOf s) ⌝ }
+{
+    let x = s.x;
+    let y = s.y;
+    either_sense(apart(x, 1, 0) * apart(y, 2, 0) - apart(x, 2, 0) * apart(y, 1, 0))
+}
+
+// b1 = y2 - y3, and so round.
+fn b(s: Shape) -> [i64; 3]
+    requires { ⌜ Placed (shapeOf s) ⌝ }
+    ensures { λ r. ⌜ r ≡ table 3 (b (shapeOf s)) ⌝ }
+{
+    let y = s.y;
+    [apart(y, 1, 2), apart(y, 2, 0), apart(y, 0, 1)]
+}
+
+// c1 = x3 - x2, and so round.
+fn c(s: Shape) -> [i64; 3]
+    requires { ⌜ Placed (shapeOf s) ⌝ }
+    ensures { λ r. ⌜ r ≡ table 3 (c (shapeOf s)) ⌝ }
+{
+    let x = s.x;
+    [apart(x, 2, 1), apart(x, 0, 2), apart(x, 1, 0)]
+}
+
+// ---- conductance
+
+// Of corners i and j, where s is S.
+fn pair(e: Triangle, s: u64, i: usize, j: usize) -> i64
+    requires { ⌜ Solid (triangleOf e) s × (i < 3) × (j < 3) ⌝ }
+    ensures { λ r. ⌜ r ≡ pair (triangleOf e) i j ⌝ }
+{
+    let shape = e.shape;
+    let b = b(shape);
+    let c = c(shape);
+    let kx = e.kx as i64;
+    let ky = e.ky as i64;
+    let t = e.thickness as i64;
+    whole::nearest(
+        t * (kx * (b[i] * b[j]) + ky * (c[i] * c[j])),
+        (2_000 * s) as i64,
+    )
+}
+
+// A diagonal is minus the sum of its two rounded neighbours.
+fn conductance(e: Triangle, s: u64) -> [[i64; 3]; 3]
+    requires { ⌜ Solid (triangleOf e) s ⌝ }
+    ensures { λ r. ⌜ r ≡ squareOf (conductance (triangleOf e)) ⌝ }
+{
+    let p = pair(e, s, 0, 1);
+    let q = pair(e, s, 0, 2);
+    let r = pair(e, s, 1, 2);
+    [
+        [0 - (p + q), p, q],
+        [p, 0 - (p + r), r],
+        [q, r, 0 - (q + r)],
+    ]
+}
+
+// ---- capacity and film
+
+fn nearest(a: u64, q: u64) -> u64
+    requires { ⌜ (a ≤ 2 ^ 62) × (1 ≤ q) × (q < 2 ^ 63) ⌝ }
+    ensures { λ r. ⌜ r ≡ nearestN a q ⌝ }
+{
+    whole::nearest(a as i64, q as i64) as u64
+}
+
+// u over a step of so many ms, where s is S.
+fn capacity(e: Triangle, s: u64, ms: u32) -> u64
+    requires { ⌜ Sized (triangleOf e) × (s ≡ S (shapeOf (e .shape))) × Step ms ⌝ }
+    ensures { λ r. ⌜ r ≡ u ms (triangleOf e) ⌝ }
+{
+    let n = e.capacity as u64 * e.thickness as u64 * s;
+    nearest(n, 9_600 * ms as u64)
+}
+
+// v
+fn film(film: u32, s: Shape) -> u64
+    requires { ⌜ Placed (shapeOf s) × (film ≤ 100000) ⌝ }
+    ensures { λ r. ⌜ r ≡ v film (shapeOf s) ⌝ }
+{
+    nearest(film as u64 * twice_area(s), 9_600_000)
+}
+
+// 2w on the diagonal, w off it.
+fn mass(w: u64) -> [[i64; 3]; 3]
+    requires { ⌜ w ≤ 2 ^ 37 ⌝ }
+    ensures { λ r. ⌜ r ≡ squareOf (mass w) ⌝ }
+{
+    let d = (2 * w) as i64;
+    let o = w as i64;
+    [[d, o, o], [o, d, o], [o, o, d]]
+}
+
+// ---- squares
+
+fn plus_row(p: [i64; 3], q: [i64; 3]) -> [i64; 3]
+    requires { ⌜ ((k : ℕ) → natAbs (cell p k) + natAbs (cell q k) < 2 ^ 63) ⌝ }
+    ensures { λ r. ⌜ r ≡ table 3 (λ k. cell p k +ℤ cell q k) ⌝ }
+{
+    [p[0] + q[0], p[1] + q[1], p[2] + q[2]]
+}
+
+fn minus_row(p: [i64; 3], q: [i64; 3]) -> [i64; 3]
+    requires { ⌜ ((k : ℕ) → natAbs (cell p k) + natAbs (cell q k) < 2 ^ 63) ⌝ }
+    ensures { λ r. ⌜ r ≡ table 3 (λ k. cell p k -ℤ cell q k) ⌝ }
+{
+    [p[0] - q[0], p[1] - q[1], p[2] - q[2]]
+}
+
+pub fn plus(p: [[i64; 3]; 3], q: [[i64; 3]; 3]) -> [[i64; 3]; 3]
+    requires { ⌜ Small (2 ^ 60) p × Small (2 ^ 60) q ⌝ }
+    ensures { λ r. ⌜ r ≡ squareOf (λ i j. at p i j +ℤ at q i j) ⌝ }
+{
+    [
+        plus_row(p[0], q[0]),
+        plus_row(p[1], q[1]),
+        plus_row(p[2], q[2]),
+    ]
+}
+
+// As new minus old.
+pub fn minus(p: [[i64; 3]; 3], q: [[i64; 3]; 3]) -> [[i64; 3]; 3]
+    requires { ⌜ Small (2 ^ 60) p × Small (2 ^ 60) q ⌝ }
+    ensures { λ r. ⌜ r ≡ squareOf (λ i j. at p i j -ℤ at q i j) ⌝ }
+{
+    [
+        minus_row(p[0], q[0]),
+        minus_row(p[1], q[1]),
+        minus_row(p[2], q[2]),
+    ]
+}
+
+// ---- what a card adds
+
+// E adds conductance and capacity to A.
+pub fn element_square(e: Triangle, ms: u32) -> [[i64; 3]; 3]
+    requires { ⌜ Sized (triangleOf e) × (1 ≤ S (shapeOf (e .shape))) × Step ms ⌝ }
+    ensures { λ r. ⌜ r ≡ squareOf (λ i j. conductance (triangleOf e) i j +ℤ mass (u ms (triangleOf e)) i j) ⌝ }
+{
+    let s = twice_area(e.shape);
+    plus(conductance(e, s), mass(capacity(e, s, ms)))
+}
+
+// And capacity to P.
+pub fn capacity_square(e: Triangle, ms: u32) -> [[i64; 3]; 3]
+    requires { ⌜ Sized (triangleOf e) × Step ms ⌝ }
+    ensures { λ r. ⌜ r ≡ squareOf (mass (u ms (triangleOf e))) ⌝ }
+{
+    mass(capacity(e, twice_area(e.shape), ms))
+}
+
+// F adds film to A.
+pub fn film_square(mw: u32, s: Shape) -> [[i64; 3]; 3]
+    requires { ⌜ Placed (shapeOf s) × (mw ≤ 100000) ⌝ }
+    ensures { λ r. ⌜ r ≡ squareOf (mass (v mw (shapeOf s))) ⌝ }
+{
+    mass(film(mw, s))
+}
+
+// Loads of a corner: H, in µW, and F.
+pub fn heat_load(heat: u32) -> u64
+    requires { ⌜ heat ≤ 5000000 ⌝ }
+    ensures { λ r. ⌜ r ≡ heatLoad heat ⌝ }
+{
+    Ticks::KELVIN as u64 * heat as u64 / 3
+}
+
+pub fn film_load(mw: u32, ambient: u32, s: Shape) -> u64
+    requires { ⌜ Placed (shapeOf s) × (mw ≤ 100000) × (ambient ≤ top) ⌝ }
+    ensures { λ r. ⌜ r ≡ filmLoad mw ambient (shapeOf s) ⌝ }
+{
+    4 * film(mw, s) * ambient as u64
+}
+
+// ---- refusals 5 and 6
+
+const SOFT: u64 = 4_000_000;
+
+fn fair(e: Triangle, s: u64, ms: u32) -> bool
+    requires { ⌜ Solid (triangleOf e) s × Step ms ⌝ }
+    ensures { λ r. ⌜ r ≡ fair ms (triangleOf e) ⌝ }
+{
+    if SOFT < capacity(e, s, ms) {
+        return false;
+    }
+    if SOFT < whole::size(pair(e, s, 0, 1)) {
+        return false;
+    }
+    if SOFT < whole::size(pair(e, s, 0, 2)) {
+        return false;
+    }
+    whole::size(pair(e, s, 1, 2)) <= SOFT
+}
+
+pub fn judge(e: Triangle, ms: u32, number: Element) -> Answer
+    requires { ⌜ Sized (triangleOf e) × Step ms ⌝ }
+    ensures { λ r. ⌜ r ≡ judgedAs ms (triangleOf e) (number .0) ⌝ }
+{
+    let s = twice_area(e.shape);
+    if s == 0 {
+        return Answer::Refused(Refusal::Flat(number.0 as u32));
+    }
+    if fair(e, s, ms) {
+        return Answer::Done;
+    }
+    Answer::Refused(Refusal::Stiff(number.0 as u32))
+}
