@@ -23,7 +23,8 @@ use Rattle.paper.specs.Refusals.{when}
 use Rattle.paper.specs.Step.{warmed, addFrom}
 use Rattle.paper.specs.declared.Refusal.the-variants.{OffScale}
 use Rattle.paper.proofs.Scale.{on-scale-size}
-use Rattle.correction.specs.Asks.{Mild, Back, Added}
+use Rattle.lent.specs.Rows.{Mild}
+use Rattle.correction.specs.Asks.{Back, Added}
 
 -- ---- one temperature
 

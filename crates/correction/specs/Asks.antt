@@ -12,11 +12,7 @@ use Rattle.paper.specs.declared.Answer.{Answer}
 use Rattle.paper.specs.declared.Answer.the-variants.{Done, Refused}
 use Rattle.paper.specs.declared.Refusal.{Refusal}
 use Rattle.paper.specs.declared.Refusal.the-variants.{Bound, OffScale}
-
--- n temperatures
-pub record Mild (t : List ℤ) (n : ℕ) : Type 0 where
-  pub long : length t ≡ n
-  pub each : (j : ℕ) → j < n → natAbs (cell t j) ≤ 2 ^ 25
+use Rattle.lent.specs.Rows.{Mild}
 
 -- n numbers: y below i, and r from i on
 pub record Forth (ys : List ℤ) (i n : ℕ) : Type 0 where

@@ -9,8 +9,8 @@ ghost use lib.Signed.{_<ℤ_};
 ghost use Rattle.whole.specs.Nearest.{nearest};
 ghost use Rattle.whole.specs.Sums.{sum};
 ghost use Rattle.paper.specs.Step.{yAt, xAt};
-ghost use Rattle.lent.specs.Rows.{Sound};
-ghost use Rattle.correction.specs.Asks.{Mild, Forth, Back, Left, leftTerm, downTerm, Forwarded, Backed, Added, Corrected};
+ghost use Rattle.lent.specs.Rows.{Sound, Mild};
+ghost use Rattle.correction.specs.Asks.{Forth, Back, Left, leftTerm, downTerm, Forwarded, Backed, Added, Corrected};
 
 // ---- forward
 
