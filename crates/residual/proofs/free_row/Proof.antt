@@ -9,7 +9,7 @@ use lib.IntN.{_+ℤ_, +ℤ-idr}
 use mir.Syntax.{w64}
 use mir.Val.{toZ}
 use mir.Facts.{toZ-ofZ}
-use Rattle.whole.specs.Sums.{sumN}
+use Rattle.whole.specs.Sums.{sum as total, sumN}
 use Rattle.whole.specs.Packed.{cell, place, entry}
 use Rattle.whole.proofs.Calc.{rd}
 use Rattle.whole.proofs.Packed.{place-first, place-in}
