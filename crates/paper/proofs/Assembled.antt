@@ -1,8 +1,8 @@
 -- The matrices of a whole deck: symmetric, A the sum of its three kinds, and the conductances' rows sum to zero.
-use mathlib.Core.Path.{_≡_, refl, sym, ap, _∙_}
+use mathlib.Core.Path.{_≡_, refl, ap, _∙_}
 use mathlib.Core.Bool.{Bool, true, false, cond, _||_, or-comm}
-use mathlib.Core.List.{List, [], _∷_}
-use Prim.Native.Nat.{ℕ, zero, suc, _+_, _^_, _≤_, _<_}
+use mathlib.Core.List.{List}
+use Prim.Native.Nat.{ℕ, zero, suc, _^_, _<_}
 use lib.Dec.{eqb}
 use native.Mathlib.Omega.{arith}
 use borrow.Author.Tests.{eqb-true}
@@ -11,10 +11,10 @@ use lib.ListN.{getD}
 use Rattle.whole.specs.Sums.{sum}
 use Rattle.whole.proofs.Tests.{cond-same, cond-true, cond-false, eqb-swap}
 use Rattle.whole.proofs.Sums.{sum-ext, sum-plus, sum-none, sum-swap}
-use Rattle.paper.specs.Cards.{letterOf, field, letter, isCard, rows, nodes, stepOf}
+use Rattle.paper.specs.Cards.{letterOf, letter, isCard, rows, nodes}
 use Rattle.paper.specs.Judge.{judged}
-use Rattle.paper.specs.Triangle.{shapeAt, triangleAt, conductance, mass, u, v}
-use Rattle.paper.specs.Matrices.{spread, named, addsK, addsP, addsF, P, A, cleared}
+use Rattle.paper.specs.Triangle.{shapeAt, triangleAt, conductance}
+use Rattle.paper.specs.Matrices.{spread, addsK, addsP, addsF, P, A, cleared}
 use Rattle.paper.specs.declared.Answer.the-variants.{Done}
 use Rattle.paper.specs.declared.Kind.the-variants.{E, F}
 use Rattle.paper.proofs.Decks.{In, Is, Deck}

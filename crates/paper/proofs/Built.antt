@@ -1,13 +1,13 @@
 -- What a build that is accepted says of its slices.
-use mathlib.Core.Path.{_≡_, refl, sym, ap, _∙_}
+use mathlib.Core.Path.{_≡_, sym, ap, _∙_}
 use mathlib.Core.List.{List}
-use Prim.Native.Nat.{ℕ, _≤_, _<_}
+use Prim.Native.Nat.{ℕ, _<_}
 use native.Mathlib.Omega.{arith}
 use lib.IntN.{ℤ}
 use lib.ListN.{length}
 use Rattle.whole.specs.Packed.{tri, lower}
 use Rattle.whole.proofs.Packed.{length-lower}
-use Rattle.paper.specs.Refusals.{Outcome, refused, done, then, after}
+use Rattle.paper.specs.Refusals.{done}
 use Rattle.paper.specs.Cards.{rows, nodes, elements}
 use Rattle.paper.specs.Triangle.{shapeAt}
 use Rattle.paper.specs.Matrices.{P, A, fixed, cleared}

@@ -1,35 +1,32 @@
 -- DEMAND 3 of the calls themselves, whatever the slices held before and however long they are.
 use mathlib.Core.Path.{_≡_, refl, sym, ap, subst, _∙_}
-use mathlib.Core.Bool.{Bool, true, false, not, cond, _&&_, _||_}
-use mathlib.Core.List.{List, [], _∷_, _++_}
-use Prim.Native.Nat.{ℕ, zero, suc, _+_, _-_, _≤_, _<_}
-use native.Mathlib.Nat.{le-refl}
+use mathlib.Core.Bool.{Bool, true, false, _&&_}
+use mathlib.Core.List.{List, [], _∷_}
+use Prim.Native.Nat.{ℕ, _-_, _≤_}
 use native.Mathlib.Omega.{arith}
-use borrow.Author.Tests.{leb-true, le-leb}
-use lib.Dec.{eqb, leb}
+use borrow.Author.Tests.{le-leb}
+use lib.Dec.{leb}
 use lib.IntN.{ℤ, pos}
 use lib.ListN.{length, take, drop, replicate, length-append, length-replicate, take-append-drop}
-use lib.Seq.{take-at, drop-at, take-append-le}
+use lib.Seq.{take-at, take-append-le}
 use Rattle.whole.specs.Packed.{tri}
 use Rattle.whole.proofs.Tests.{and-told}
 use Rattle.whole.proofs.Packed.{tri-le}
-use Rattle.paper.specs.Refusals.{Outcome, refused, done, when, after, andThen, answerOf}
+use Rattle.paper.specs.Refusals.{Outcome, refused, done, after, andThen, answerOf}
 use Rattle.paper.specs.Cards.{nodes, put}
 use Rattle.paper.specs.Judge.{judged, newJudged}
 use Rattle.paper.specs.Building.{Slices, build}
 use Rattle.paper.specs.Replacing.{stirs, replaced}
-use Rattle.paper.specs.Lent.{foreign}
 use Rattle.paper.specs.Calls.{Lent, Exit, long, front, roomy, over, cut, enough, worked, inFactor, leaves, buildOutcome, replaceOutcome, buildCall, replaceCall}
 use Rattle.paper.specs.declared.Answer.{Answer}
 use Rattle.paper.specs.declared.Answer.the-variants.{Done, Refused}
 use Rattle.paper.specs.declared.Refusal.{Refusal}
-use Rattle.paper.specs.declared.Refusal.the-variants.{Short, Foreign}
+use Rattle.paper.specs.declared.Refusal.the-variants.{Short}
 use Rattle.paper.proofs.Outcomes.{done-refused, after-done, when-done}
-use Rattle.paper.proofs.Decks.{Deck, Change}
 use Rattle.paper.proofs.Judged.{deck}
 use Rattle.paper.proofs.NewCard.{change, stays}
 use Rattle.paper.proofs.Changed.{nodes-same}
-use Rattle.paper.proofs.Built.{Own, own, Sized, sized}
+use Rattle.paper.proofs.Built.{own, Sized, sized}
 use Rattle.paper.proofs.Lent.{own-pass}
 use Rattle.paper.proofs.Replaced.{least}
 use Rattle.paper.proofs.Demand3.{replacing-is-building, own-rows-stay, least-low}

@@ -1,22 +1,22 @@
 -- What a change of one card keeps, and what it moves.
-use mathlib.Core.Path.{_≡_, refl, sym, ap, _∙_}
-use mathlib.Core.Bool.{Bool, true, false, cond, _&&_, _||_}
-use mathlib.Core.List.{List, [], _∷_, _++_, map}
-use Prim.Native.Nat.{ℕ, zero, suc, _+_, _*_, _-_, _/_, _≤_, _<_}
+use mathlib.Core.Path.{_≡_, refl, ap, _∙_}
+use mathlib.Core.Bool.{_&&_}
+use mathlib.Core.List.{List}
+use Prim.Native.Nat.{ℕ, suc, _+_, _*_, _-_, _/_, _≤_, _<_}
 use native.Mathlib.Decide.{ℕ-discrete}
 use native.Mathlib.Omega.{arith}
 use borrow.Author.Tests.{eqb-true}
 use lib.Dec.{eqb}
-use lib.IntN.{ℤ, pos, _+ℤ_, _-ℤ_}
+use lib.IntN.{_+ℤ_, _-ℤ_}
 use lib.ListN.{length, getD}
 use Rattle.whole.specs.Sums.{sum, any}
 use Rattle.whole.proofs.Tests.{cond-same}
 use Rattle.whole.proofs.Sums.{sum-change, any-ext}
-use Rattle.paper.specs.Cards.{letterOf, field, letter, isCard, rows, nodes, materials, elements, materialRow, elementRow, stepOf, put}
-use Rattle.paper.specs.Triangle.{Shape, Triangle, shapeAt, triangleAt, elementJudged}
+use Rattle.paper.specs.Cards.{letterOf, field, letter, isCard, rows, nodes, materials, elements, elementRow, stepOf, put}
+use Rattle.paper.specs.Triangle.{shapeAt, triangleAt, elementJudged}
 use Rattle.paper.specs.Matrices.{named, addsK, addsP, addsF, addsA, P, A, fixed}
 use Rattle.paper.specs.declared.Kind.the-variants.{E, F}
-use Rattle.paper.proofs.Decks.{In, Is, loads, Load, heat, film, hold, Deck, Replaceable, element, load, Change}
+use Rattle.paper.proofs.Decks.{Is, heat, film, hold, Deck, Replaceable, element, load, Change}
 use Rattle.paper.proofs.Tables.{length-put, field-here, field-other}
 
 module _ (t : List ℕ) (c : ℕ) (card : List ℕ) (d : Deck t) (g : Change t c card) where

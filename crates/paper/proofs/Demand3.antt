@@ -1,28 +1,27 @@
 -- DEMAND 3 of the slices: on a deck's own, a replacement makes what a fresh build of the changed deck makes, and redoes no row above the least corner.
 use mathlib.Core.Path.{_≡_, refl, sym, ap, _∙_}
-use mathlib.Core.Bool.{Bool, true, false, cond, _||_}
-use mathlib.Core.List.{List, [], _∷_, _++_}
-use Prim.Native.Nat.{ℕ, zero, suc, _+_, _-_, _≤_, _<_}
+use mathlib.Core.Bool.{true, false, _||_}
+use mathlib.Core.List.{List, _++_}
+use Prim.Native.Nat.{ℕ, _+_, _-_, _≤_, _<_}
 use native.Mathlib.Omega.{arith}
 use lib.Dec.{eqb}
-use lib.IntN.{ℤ, pos, _-ℤ_}
 use lib.ListN.{length, take, drop}
 use lib.Seq.{take-at, length-take-le}
 use Rattle.whole.specs.Packed.{tri, lower, entry}
 use Rattle.whole.proofs.Tests.{never, cond-true, cond-false}
 use Rattle.whole.proofs.Packed.{tri-le}
-use Rattle.paper.specs.Refusals.{Outcome, refused, done, then, after}
-use Rattle.paper.specs.Cards.{letterOf, letter, nodes, materials, elements, elementRow, put}
+use Rattle.paper.specs.Refusals.{done}
+use Rattle.paper.specs.Cards.{letterOf, letter, nodes, materials, elements, put}
 use Rattle.paper.specs.Triangle.{elementJudged}
 use Rattle.paper.specs.Matrices.{addsK, addsP, addsF, addsA, fixed, cleared}
 use Rattle.paper.specs.Factor.{rowsFrom}
 use Rattle.paper.specs.Building.{Slices, build}
 use Rattle.paper.specs.Replacing.{elementOf, moved, redone, stirs, replaced}
-use Rattle.paper.specs.declared.Kind.the-variants.{E, F, H, T}
+use Rattle.paper.specs.declared.Kind.the-variants.{E, F}
 use Rattle.paper.proofs.Outcomes.{after-done, then-done, done-inj}
-use Rattle.paper.proofs.Decks.{Is, Load, heat, film, hold, Deck, Replaceable, element, load, Change}
+use Rattle.paper.proofs.Decks.{heat, film, hold, Deck, Replaceable, element, load, Change}
 use Rattle.paper.proofs.Update.{Kept, rows-keep}
-use Rattle.paper.proofs.Built.{Own, own, Sized, sized}
+use Rattle.paper.proofs.Built.{Own, own, sized}
 use Rattle.paper.proofs.Changed.{letter-same}
 use Rattle.paper.proofs.Replaced.{Touch, least, touch-E, touch-F, redone-is, kept-is, least-fits}
 

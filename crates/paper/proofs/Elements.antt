@@ -1,13 +1,12 @@
 -- One element that passes refusals 5 and 6: its corners are three nodes, and its squares are small.
 use mathlib.Core.Path.{_≡_, refl, sym, ap, subst, _∙_}
-use mathlib.Core.Bool.{Bool, true, false, cond, _&&_}
-use mathlib.Core.List.{List, [], _∷_, map}
-use Prim.Native.Nat.{ℕ, zero, suc, _+_, _-_, _*_, _/_, _≤_, _<_}
+use mathlib.Core.Bool.{true, _&&_}
+use mathlib.Core.List.{List}
+use Prim.Native.Nat.{ℕ, zero, suc, _+_, _-_, _*_, _≤_, _<_}
 use native.Mathlib.Nat.{mul-le-mul}
 use native.Mathlib.Decide.{ℕ-discrete}
 use native.Mathlib.Omega.{arith}
 use borrow.Author.Tests.{leb-true}
-use lib.Dec.{leb}
 use lib.IntN.{ℤ, pos, negℤ, natAbs, _+ℤ_, _-ℤ_, _*ℤ_, +ℤ-invr, zero-*ℤ, *ℤ-zero}
 use lib.ListN.{getD}
 use Rattle.whole.specs.Nearest.{nearestN}
@@ -18,8 +17,7 @@ use Rattle.whole.proofs.Tests.{and-told}
 use Rattle.paper.specs.Cards.{field, rows, nodes, materials, elements, elementRow, stepOf}
 use Rattle.paper.specs.Triangle.{Shape, Triangle, shapeAt, triangleAt, xAt, yAt, S, square, mass, pair, conductance, u, v, fair, soft, elementJudged}
 use Rattle.paper.specs.Building.{elementsFrom}
-use Rattle.paper.specs.declared.Answer.{Answer}
-use Rattle.paper.specs.declared.Answer.the-variants.{Done, Refused}
+use Rattle.paper.specs.declared.Answer.the-variants.{Done}
 use Rattle.paper.specs.declared.Refusal.the-variants.{Flat, Stiff}
 use Rattle.paper.proofs.Outcomes.{both-done, cond-done}
 use Rattle.paper.proofs.Decks.{Is, Deck}

@@ -1,8 +1,8 @@
 -- The numbers of a finished factor keep their bounds.
-use mathlib.Core.Path.{_≡_, refl, sym, ap, _∙_}
-use mathlib.Core.Bool.{Bool, true, false}
+use mathlib.Core.Path.{_≡_, refl, _∙_}
+use mathlib.Core.Bool.{true}
 use mathlib.Core.List.{List, [], _∷_, _++_}
-use Prim.Native.Nat.{ℕ, zero, suc, _+_, _-_, _^_, _≤_, _<_}
+use Prim.Native.Nat.{ℕ, zero, suc, _+_, _^_, _≤_, _<_}
 use native.Mathlib.Decide.{ℕ-discrete}
 use native.Mathlib.Omega.{arith}
 use borrow.Author.Tests.{leb-true}
@@ -12,7 +12,7 @@ use lib.ListN.{length, set, length-set}
 use lib.Seq.{getD-set-same, getD-set-other}
 use Rattle.whole.specs.Packed.{tri, cell}
 use Rattle.whole.proofs.Packed.{tri-below}
-use Rattle.paper.specs.Refusals.{Outcome, refused, done, when, then}
+use Rattle.paper.specs.Refusals.{Outcome, refused, done}
 use Rattle.paper.specs.Factor.{w, l, small, rowFrom, rowsFrom}
 use Rattle.paper.specs.declared.Refusal.the-variants.{Pivot, Bound}
 use Rattle.paper.proofs.Outcomes.{Ends, when-ends, then-ends, ends-map}

@@ -1,28 +1,25 @@
 -- What the judge of a table tells of a deck that it accepts.
 use mathlib.Core.Path.{_≡_, refl, sym, ap, subst, _∙_}
 use mathlib.Core.Bool.{Bool, true, false, not, cond, _&&_, _||_}
-use mathlib.Core.Logic.{⊎-elim}
-use mathlib.Core.List.{List, [], _∷_}
-use Prim.Native.Nat.{ℕ, zero, suc, _+_, _*_, _-_, _/_, _%_, _≤_, _<_}
+use mathlib.Core.List.{List}
+use Prim.Native.Nat.{ℕ, zero, suc, _+_, _*_, _-_, _%_, _≤_, _<_}
 use native.Mathlib.Decide.{ℕ-discrete, decLt}
 use native.Mathlib.Omega.{arith}
 use borrow.Author.Tests.{leb-true, ltb-true, ltb-false, le-ltb, eqb-true, eq-eqb, not-false}
 use lib.Dec.{eqb, leb, ltb}
 use lib.ListN.{length, getD}
 use Rattle.whole.proofs.Tests.{never, and-told, nor-told, if-told}
-use Rattle.paper.specs.Ticks.{top}
-use Rattle.paper.specs.Cards.{Between, _⋯_, within, letterOf, kindOf, order, cards, fields, inRange, kindAt, orderOf, countsOf, rowAt, field, letter, rows, nodes, materials, elements, materialRow, elementRow, stepOf, stepsOf}
+use Rattle.paper.specs.Cards.{Between, _⋯_, within, letterOf, kindOf, order, cards, fields, inRange, kindAt, orderOf, countsOf, rowAt, field, letter, rows, nodes, materials, elements, materialRow, elementRow}
 use Rattle.paper.specs.Judge.{load, stands, rises, clean, formed, ranged, judgeCard, judgeFrom, trailer, judgeRows, judged}
-use Rattle.paper.specs.Refusals.{andThen}
 use Rattle.paper.specs.declared.Answer.{Answer}
 use Rattle.paper.specs.declared.Answer.the-variants.{Done, Refused}
 use Rattle.paper.specs.declared.Refusal.the-variants.{Length, Trailer, Form, Range}
 use Rattle.paper.specs.declared.Counts.{Counts}
 use Rattle.paper.specs.declared.Kind.{Kind}
-use Rattle.paper.specs.declared.Kind.the-variants.{D, N, M, E, H, F, T, Z, Other}
+use Rattle.paper.specs.declared.Kind.the-variants.{D, N, M, E, H, F, T, Z}
 use Rattle.paper.proofs.Outcomes.{done-refused, both-done, cond-done}
 use Rattle.paper.proofs.Decks.{In, Is, loads, AmongLoads, Load, heat, film, hold, Deck}
-use Rattle.paper.proofs.Letters.{letter-of, kind-of, load-letter, load-order, load-not}
+use Rattle.paper.proofs.Letters.{letter-of, kind-of, load-letter}
 use Rattle.paper.proofs.Tables.{row-field}
 
 -- ---- cards in turn: each is judged after the order and the key of the one before it

@@ -1,17 +1,17 @@
 -- A deck's own slices pass refusal 10.
-use mathlib.Core.Path.{_≡_, refl, sym, ap, _∙_}
-use mathlib.Core.Bool.{Bool, true, false, not, _&&_, _||_}
+use mathlib.Core.Path.{_≡_, ap, _∙_}
+use mathlib.Core.Bool.{false, not}
 use mathlib.Core.List.{List}
-use Prim.Native.Nat.{ℕ, zero, suc, _+_, _^_, _≤_, _<_}
+use Prim.Native.Nat.{ℕ, _+_, _^_, _≤_, _<_}
 use native.Mathlib.Omega.{arith}
 use borrow.Author.Tests.{le-leb}
 use lib.IntN.{ℤ, natAbs}
-use Rattle.whole.specs.Sums.{sum, sumN, any}
+use Rattle.whole.specs.Sums.{sumN}
 use Rattle.whole.specs.Packed.{tri, cell, lower, entry}
 use Rattle.whole.proofs.Sums.{sumN-ext, any-none}
 use Rattle.whole.proofs.Packed.{lower-both, length-lower}
 use Rattle.paper.specs.Cards.{rows, nodes}
-use Rattle.paper.specs.Matrices.{addsP, addsA, P, A}
+use Rattle.paper.specs.Matrices.{P, A}
 use Rattle.paper.specs.Factor.{small, rowsFrom}
 use Rattle.paper.specs.Building.{Slices}
 use Rattle.paper.specs.Lent.{rowSize, heavy, badRow, noFactor, foreign}
@@ -24,7 +24,7 @@ use Rattle.paper.proofs.Built.{A′, Own}
 
 light : (n : ℕ) (xs : List ℤ) (f : ℕ → ℕ → ℤ) → xs ≡ lower n f → ((i j : ℕ) → f i j ≡ f j i) → ((i : ℕ) → i < n → sumN n (λ j. natAbs (f i j)) ≤ 2 ^ 33) → heavy n xs ≡ false
 unfolding heavy rowSize
-light n xs f e sy h = any-none n _ (λ i l. rw (le-leb (sumN n (λ j. natAbs (entry xs i j))) (2 ^ 33) (row i l)))
+light n xs f e sy h = any-none n _ (λ i l. ap not (le-leb (sumN n (λ j. natAbs (entry xs i j))) _ (row i l)))
   where
     row : (i : ℕ) → i < n → sumN n (λ j. natAbs (entry xs i j)) ≤ 2 ^ 33
     row i l =

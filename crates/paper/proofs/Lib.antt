@@ -1,5 +1,6 @@
 -- Theorems about document 01's definitions.
 pub mod Checked
+pub mod Edges
 pub mod Outcomes
 pub mod Decks
 pub mod Letters

@@ -1,28 +1,26 @@
 -- What refusals 3, 13 and 4 of a new card tell, and that the deck with it in its place is accepted as well.
 use mathlib.Core.Path.{_≡_, refl, sym, ap, subst, _∙_}
-use mathlib.Core.Bool.{Bool, true, false, not, cond, _&&_, _||_}
+use mathlib.Core.Bool.{true, _&&_, _||_}
 use mathlib.Core.List.{List}
-use Prim.Native.Nat.{ℕ, zero, suc, _+_, _*_, _-_, _/_, _%_, _≤_, _<_}
+use Prim.Native.Nat.{ℕ, zero, suc, _-_, _≤_, _<_}
 use native.Mathlib.Decide.{ℕ-discrete}
 use native.Mathlib.Omega.{arith}
 use borrow.Author.Tests.{leb-true, eqb-true, eq-eqb}
 use lib.Dec.{eqb, leb, ltb}
 use lib.ListN.{length, getD}
 use Rattle.whole.proofs.Tests.{and-told, or-told, if-told}
-use Rattle.paper.specs.Cards.{letterOf, kindOf, order, fields, inRange, kindAt, orderOf, countsOf, rowAt, field, letter, rows, put}
+use Rattle.paper.specs.Cards.{letterOf, kindOf, order, fields, inRange, kindAt, orderOf, rowAt, field, letter, rows, put}
 use Rattle.paper.specs.Judge as Judge
-use Rattle.paper.specs.Judge.{clean, stands, rises, judgeCard, trailer, judged, answers, newJudged}
-use Rattle.paper.specs.declared.Answer.{Answer}
-use Rattle.paper.specs.declared.Answer.the-variants.{Done, Refused}
+use Rattle.paper.specs.Judge.{clean, stands, rises, judgeCard, judged, answers, newJudged}
+use Rattle.paper.specs.declared.Answer.the-variants.{Done}
 use Rattle.paper.specs.declared.Refusal.the-variants.{Form, Range, Replacement}
 use Rattle.paper.specs.declared.Counts.{Counts}
-use Rattle.paper.specs.declared.Kind.{Kind}
 use Rattle.paper.specs.declared.Kind.the-variants.{E}
 use Rattle.paper.proofs.Outcomes.{cond-done}
-use Rattle.paper.proofs.Decks.{Is, Deck, Replaceable, element, load, Change}
+use Rattle.paper.proofs.Decks.{Deck, Replaceable, element, load, Change}
 use Rattle.paper.proofs.Letters.{letter-of, kind-of, load-letter}
 use Rattle.paper.proofs.Tables.{row-field, length-put, row-here, row-other}
-use Rattle.paper.proofs.Judged.{orderBefore, keyBefore, passes, Passed, passed, passing, counts, counts-are, Top, top-told, top-done, deck}
+use Rattle.paper.proofs.Judged.{orderBefore, keyBefore, passes, passed, passing, counts, counts-are, Top, top-told, top-done, deck}
 use Rattle.paper.proofs.Changed.{place, room, rows-same, last-same, nodes-same, materials-same, elements-same, letter-same, key-same}
 
 record Fits (t : List ℕ) (card : ℕ) (new : List ℕ) : Type 0 where

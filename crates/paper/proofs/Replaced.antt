@@ -1,27 +1,26 @@
 -- On a deck's own slices a replacement makes what a fresh build of the changed deck makes.
 use mathlib.Core.Path.{_≡_, refl, sym, ap, _∙_}
-use mathlib.Core.Bool.{Bool, true, false, cond, _&&_, _||_}
-use mathlib.Core.List.{List, [], _∷_, _++_, map}
-use Prim.Native.Nat.{ℕ, zero, suc, _+_, _*_, _-_, _≤_, _<_, min}
+use mathlib.Core.Bool.{_||_}
+use mathlib.Core.List.{List, _++_}
+use Prim.Native.Nat.{ℕ, zero, suc, _+_, _-_, _≤_, _<_}
 use native.Mathlib.Decide.{ℕ-discrete}
 use native.Mathlib.Omega.{arith}
 use borrow.Author.Tests.{ne-eqb}
-use lib.Dec.{eqb}
 use lib.IntN.{ℤ, pos, _+ℤ_, _-ℤ_, +ℤ-idr}
-use lib.ListN.{length, getD, take, drop}
+use lib.ListN.{length, take, drop}
 use Rattle.whole.specs.Sums.{sum}
 use Rattle.whole.specs.Packed.{tri, lower, entry}
 use Rattle.whole.proofs.Tests.{cond-same}
 use Rattle.whole.proofs.Packed.{lower-at, lower-ext, lower-take, length-lower, tri-le}
-use Rattle.paper.specs.Refusals.{Outcome, refused, done, then, andThen, after}
-use Rattle.paper.specs.Cards.{letterOf, field, letter, isCard, rows, nodes, materials, elements, elementRow, put}
+use Rattle.paper.specs.Refusals.{Outcome, done, then, andThen, after}
+use Rattle.paper.specs.Cards.{field, nodes, materials, elements, elementRow, put}
 use Rattle.paper.specs.Triangle.{shapeAt, triangleAt, elementJudged}
-use Rattle.paper.specs.Matrices.{spread, named, addsK, addsP, addsF, addsA, P, A, fixed, cleared}
+use Rattle.paper.specs.Matrices.{spread, addsK, addsP, addsF, addsA, P, A, fixed, cleared}
 use Rattle.paper.specs.Factor.{rowsFrom}
 use Rattle.paper.specs.Building.{Slices, elementsFrom, build}
 use Rattle.paper.specs.Replacing.{elementOf, leastRow, moved, redone}
 use Rattle.paper.specs.declared.Answer.{Answer}
-use Rattle.paper.specs.declared.Answer.the-variants.{Done, Refused}
+use Rattle.paper.specs.declared.Answer.the-variants.{Done}
 use Rattle.paper.specs.declared.Kind.the-variants.{E, F}
 use Rattle.paper.proofs.Outcomes.{both-done, andThen-Done}
 use Rattle.paper.proofs.Decks.{Is, Deck, Change}

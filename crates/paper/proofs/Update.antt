@@ -2,14 +2,13 @@
 use mathlib.Core.Path.{_≡_, refl, sym, ap, _∙_}
 use mathlib.Core.Bool.{Bool, true, false}
 use mathlib.Core.List.{List, [], _∷_, _++_}
-use Prim.Native.Nat.{ℕ, zero, suc, _+_, _-_, _≤_, _<_}
+use Prim.Native.Nat.{ℕ, zero, suc, _+_, _≤_, _<_}
 use native.Mathlib.Nat as NatL
 use native.Mathlib.Omega.{arith}
 use lib.IntN.{ℤ, pos, _-ℤ_, _*ℤ_}
 use lib.Signed.{leZ}
 use lib.ListN.{length, set, take, drop, length-set, take-append-drop, List·getD-append}
 use lib.Seq.{set-append-left, take-set-le, take-at, length-take-le}
-use Rattle.whole.specs.Sums.{sum}
 use Rattle.whole.specs.Packed.{tri, cell}
 use Rattle.whole.proofs.Sums.{sum-ext}
 use Rattle.whole.proofs.Packed.{tri-below, tri-le}

@@ -1,21 +1,21 @@
 -- The size of P and A of a deck whose elements pass refusals 5 and 6: each full row, of the whole sum or of its first cards, is at most 2^33.
-use mathlib.Core.Path.{_≡_, refl, sym, ap, _∙_}
+use mathlib.Core.Path.{_≡_, refl}
 use mathlib.Core.Bool.{Bool, true, false, cond}
 use mathlib.Core.List.{List}
 use Prim.Native.Nat.{ℕ, zero, suc, _+_, _*_, _-_, _^_, _≤_, _<_, min}
 use native.Mathlib.Omega.{arith}
-use borrow.Author.Tests.{eqb-true, eqb-false}
+use borrow.Author.Tests.{eqb-true}
 use lib.IntN.{ℤ, pos, natAbs, _+ℤ_}
 use Rattle.whole.specs.Sums.{sum, sumN}
 use Rattle.whole.proofs.Signs.{natAbs-plus}
 use Rattle.whole.proofs.Sums.{sumN-mono, sumN-plus, sumN-zero, sumN-swap, sumN-one, abs-sum}
 use Rattle.paper.specs.Cards.{letterOf, field, letter, isCard, rows, nodes, materials, elements, elementRow, stepOf}
 use Rattle.paper.specs.Triangle.{shapeAt, triangleAt, mass, conductance, u, v}
-use Rattle.paper.specs.Matrices.{spread, named, addsK, addsP, addsF, addsA, P, A}
+use Rattle.paper.specs.Matrices.{spread, named, addsK, addsP, addsF, addsA}
 use Rattle.paper.specs.Building.{elementsFrom}
 use Rattle.paper.specs.declared.Answer.the-variants.{Done}
 use Rattle.paper.specs.declared.Kind.the-variants.{E, F}
-use Rattle.paper.proofs.Decks.{Is, Deck}
+use Rattle.paper.proofs.Decks.{Deck}
 use Rattle.paper.proofs.Sizes.{spread-row}
 use Rattle.paper.proofs.Elements.{distinct, mass-row, conductance-row, S-size, v-size, coordinates-in, sound}
 

@@ -1,0 +1,2 @@
+-- A judged deck has what is asked of an element's numbers.
+pub mod Ranges
