@@ -10,8 +10,8 @@ use native.Mathlib.Numerals.{add-one}
 use native.Mathlib.Omega.{arith}
 use lib.Dec.{eqb}
 use lib.IntN.{ℤ, pos, natAbs, _+ℤ_, _-ℤ_, +ℤ-idl, +ℤ-idr}
-use lib.ListN.{length, getD, set, drop, length-append, length-drop, List·getD-append, drop-of-length-le}
-use lib.Seq.{getD-at, set-at, drop-cons}
+use lib.ListN.{length, getD, set, drop, length-set, length-append, length-drop, List·getD-append, drop-of-length-le}
+use lib.Seq.{getD-at, getD-set-same, getD-set-other, set-at, drop-cons, ext-getD}
 use borrow.Author.Tests.{eq-eqb, ne-eqb}
 use Rattle.whole.specs.Sums.{sum, sumN, any, firstFrom, table}
 use Rattle.whole.specs.Packed.{cell}
@@ -209,10 +209,13 @@ any-each n f e k l = go (f k) refl
     go false q = q
     go true q = absurd (true≢false (sym (any-one n f k l q) ∙ e))
 
+pub any-more : (n : ℕ) (f : ℕ → Bool) → any (n + 1) f ≡ any n f || f n
+unfolding any
+any-more n f = ap (λ (k : ℕ). any k f) (add-one n)
+
 -- none so far, nor this one
 pub any-next : (n : ℕ) (f : ℕ → Bool) → any n f ≡ false → f n ≡ false → any (n + 1) f ≡ false
-unfolding any
-any-next n f e h = ap (λ (k : ℕ). any k f) (add-one n) ∙ (λ i. e i || h i)
+any-next n f e h = any-more n f ∙ (λ i. e i || h i)
 
 -- ---- the first of which a test holds
 
@@ -268,6 +271,18 @@ pub table-ext : (n : ℕ) (f g : ℕ → ℤ) → ((k : ℕ) → k < n → f k �
 unfolding table
 table-ext zero f g h = refl
 table-ext (suc n) f g h = λ i. table-ext n f g (λ k l. h k (omega arith)) i ++ h n (omega arith) i ∷ []
+
+-- a list as a table of its numbers
+pub table-cells : (xs : List ℤ) (n : ℕ) → length xs ≡ n → table n (cell xs) ≡ xs
+table-cells xs n e = ext-getD (pos 0) (table n (cell xs)) xs (table-length n (cell xs) ∙ sym e) (λ i h. table-at n i (cell xs) (omega (arith, table-length n (cell xs))))
+
+-- a list with one number changed, as a table
+pub set-table : (xs : List ℤ) (k : ℕ) (v : ℤ) (g : ℕ → ℤ) → k < length xs → v ≡ g k → ((i : ℕ) → i < length xs → (i ≡ k → ⊥) → cell xs i ≡ g i) → set xs k v ≡ table (length xs) g
+set-table xs k v g h e f = ext-getD (pos 0) (set xs k v) (table (length xs) g) (length-set xs k v ∙ sym (table-length (length xs) g)) (λ i l. go i (omega (arith, length-set xs k v)) (ℕ-discrete i k))
+  where
+    go : (i : ℕ) → i < length xs → Dec (i ≡ k) → cell (set xs k v) i ≡ cell (table (length xs) g) i
+    go i l (yes q) = rw q (getD-set-same xs k v (pos 0) h ∙ e ∙ sym (table-at (length xs) k g h))
+    go i l (no q) = getD-set-other xs k i v (pos 0) q ∙ f i l q ∙ sym (table-at (length xs) i g l)
 
 -- a list that is filled from the front
 abbrev pub filled : (ℕ → ℤ) → List ℤ → ℕ → List ℤ
