@@ -5,7 +5,7 @@ use mathlib.Core.List.{List}
 use Prim.Native.Nat.{ℕ, zero, suc, _+_, _-_, _*_, _^_, _≤_, _<_}
 use native.Mathlib.Omega.{arith}
 use lib.Dec.{eqb}
-use lib.IntN.{ℤ, pos, negsuc}
+use lib.IntN.{ℤ, pos, negsuc, natAbs}
 use lib.ListN.{length, set}
 use mir.Syntax.{w64}
 use mir.Val.{toZ}
@@ -13,8 +13,9 @@ use mir.Facts.{toZ-pos}
 use borrow.Author.Tests.{eq-eqb, ne-eqb, eqb-true}
 use Rattle.whole.specs.Sums.{sumN, any, table}
 use Rattle.whole.specs.Packed.{cell}
-use Rattle.whole.proofs.Sums.{any-none, any-more, any-one, sumN-none, sumN-more, set-table, table-cells, table-at, table-ext, table-length}
+use Rattle.whole.proofs.Sums.{any-none, any-more, any-one, sumN-none, sumN-more, sumN-mono, sumN-once, set-table, table-cells, table-at, table-ext, table-length}
 use Rattle.whole.proofs.Tests.{and-told, or-false}
+use Rattle.paper.specs.Ticks.{top}
 use Rattle.paper.specs.Cards.{field, letter, isCard, rows, nodes, materials, elements}
 use Rattle.paper.specs.Matrices.{fixes, fixed, held}
 use Rattle.paper.specs.declared.Kind.the-variants.{T}
@@ -124,3 +125,31 @@ module _ {t : List ℕ} (d : Deck t) where
     pub hold-end : rows t ≤ row → f ≡ table (nodes t) (held t)
     unfolding held fixed
     hold-end h = let e : row ≡ rows t = omega (arith, w .inside) in w .so-far ∙ ap (λ (k : ℕ). table (nodes t) (heldBy t k)) e
+
+-- ---- the size of what a node is held at
+
+held-once : (t : List ℕ) → Deck t → (i : ℕ) → sumN (rows t) (values t i) ≤ top
+held-once t d i =
+    let a : sumN (rows t) (values t i) ≤ sumN (rows t) (λ k. cond (fixes t i k) top 0) = sumN-mono (rows t) (values t i) (λ k. cond (fixes t i k) top 0) each in
+    omega (arith, sumN-once (rows t) (fixes t i) top only)
+  where
+    each : (k : ℕ) → k < rows t → values t i k ≤ cond (fixes t i k) top 0
+    each k l = go (fixes t i k) refl
+      where
+        go : (b : Bool) → fixes t i k ≡ b → cond (fixes t i k) (field t k 2) 0 ≤ cond (fixes t i k) top 0
+        go true p = rw p (d .heldT k l (fixes-told d i k p .0))
+        go false p = rw p (omega arith)
+
+    only : (a b : ℕ) → a < rows t → b < rows t → fixes t i a ≡ true → fixes t i b ≡ true → a ≡ b
+    only a b l m p q =
+        let (x, u) = fixes-told d i a p in
+        let (y, w) = fixes-told d i b q in
+        d .once a b l m (hold x) (x ∙ sym y) (u ∙ sym w)
+
+pub held-size : (t : List ℕ) → Deck t → (i : ℕ) → natAbs (held t i) ≤ 2 ^ 25
+unfolding held
+held-size t d i = go (fixed t i)
+  where
+    go : (b : Bool) → natAbs (cond b (pos (sumN (rows t) (values t i))) (negsuc 0)) ≤ 2 ^ 25
+    go true = held-once t d i
+    go false = omega arith

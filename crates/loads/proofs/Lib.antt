@@ -1,4 +1,4 @@
 -- The laws of the walks over the H, F and T cards.
 mod Corners
 pub mod Walk
-mod Held
+pub mod Held
