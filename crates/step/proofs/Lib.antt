@@ -4,3 +4,4 @@ mod Corrections
 mod Copying
 mod Ends
 mod Refusing
+mod Running

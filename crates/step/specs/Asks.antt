@@ -9,7 +9,8 @@ use Rattle.paper.specs.Refusals.{Outcome, refused, done}
 use Rattle.paper.specs.Cards.{nodes}
 use Rattle.paper.specs.Matrices.{held}
 use Rattle.paper.specs.Step.{Settling, settled}
-use Rattle.paper.specs.Calls.{StepExit}
+use Rattle.paper.specs.Calls.{StepExit, RunExit}
+use Rattle.paper.specs.declared.Ran.{Ran}
 use Rattle.paper.specs.declared.Stepped.{Stepped}
 use Rattle.paper.specs.declared.Stepped.the-variants.{Settled, Refused}
 use Rattle.paper.proofs.Decks.{Deck}
@@ -68,5 +69,9 @@ pub record Exits (e : Stepped) (new old : List ℤ) (o : Outcome Settling) : Typ
   pub left-is : new ≡ leftOf old o
 
 pub record Returns (e : Stepped) (new : List ℤ) (x : StepExit) : Type 0 where
+  pub answer-is : e ≡ x .answer
+  pub left-is : new ≡ x .temperatures
+
+pub record Leaves (e : Ran) (new : List ℤ) (x : RunExit) : Type 0 where
   pub answer-is : e ≡ x .answer
   pub left-is : new ≡ x .temperatures

@@ -17,7 +17,7 @@ ghost use Rattle.paper.specs.declared.Answer.the-variants.{Done};
 ghost use Rattle.paper.specs.declared.Refusal.the-variants.{Foreign};
 ghost use Rattle.lent.specs.Rows.{lent};
 ghost use Rattle.residual.specs.Asks.{Weighed};
-ghost use Rattle.step.specs.Asks.{Cut, Own, Ready, Trying, ended, Exits, Returns};
+ghost use Rattle.step.specs.Asks.{Cut, Own, Ready, Trying, ended, Exits, Returns, Leaves};
 
 // ---- corrections
 
@@ -199,13 +199,7 @@ fn roomy(p: &[i64], a: &[i64], l: &[i64], old: &[i64], long: usize, n: usize) ->
     n <= old.len()
 }
 
-fn past_9(
-    table: &[u32],
-    p: &[i64],
-    a: &[i64],
-    factor: &[i64],
-    temperatures: &mut [i64],
-) -> Stepped
+fn past_9(table: &[u32], p: &[i64], a: &[i64], factor: &[i64], temperatures: &mut [i64]) -> Stepped
     requires { ⌜ judged (now table) ≡ Done ⌝ }
     ensures { λ e. ⌜ Returns e (now (temperatures .exit)) (stepCall (now (table .entry)) (lent (now (p .entry)) (now (a .entry)) (now (factor .entry))) (now (temperatures .entry))) ⌝ }
 {
@@ -242,4 +236,39 @@ pub fn step(
         return Stepped::Refused(why);
     }
     past_9(table, p, a, factor, &mut temperatures[..])
+}
+
+// k steps, as far as none is refused.
+fn steps(
+    table: &[u32],
+    p: &[i64],
+    a: &[i64],
+    factor: &[i64],
+    temperatures: &mut [i64],
+    k: u32,
+) -> Ran
+    ensures { λ e. ⌜ Leaves e (now (temperatures .exit)) (runFrom k 0 (now (table .entry)) (lent (now (p .entry)) (now (a .entry)) (now (factor .entry))) (now (temperatures .entry))) ⌝ }
+{
+    let mut count: u32 = 0;
+    while count < k {
+        let e = step(table, p, a, factor, &mut temperatures[..]);
+        if let Stepped::Refused(why) = e {
+            return Ran::Refused(why);
+        }
+        count += 1;
+    }
+    Ran::Finished(count)
+}
+
+// D's steps, from the temperatures lent.
+pub fn run(table: &[u32], p: &[i64], a: &[i64], factor: &[i64], temperatures: &mut [i64]) -> Ran
+    ensures { λ e. ⌜ e ≡ runCall (now (table .entry)) (lent (now (p .entry)) (now (a .entry)) (now (factor .entry))) (now (temperatures .entry)) .answer ⌝ }
+    ensures { λ e. ⌜ now (temperatures .exit) ≡ runCall (now (table .entry)) (lent (now (p .entry)) (now (a .entry)) (now (factor .entry))) (now (temperatures .entry)) .temperatures ⌝ }
+{
+    let verdict = cards::judge(table);
+    if let Answer::Refused(why) = verdict {
+        return Ran::Refused(why);
+    }
+    let k = element::field(table, 0, 3);
+    steps(table, p, a, factor, &mut temperatures[..], k)
 }

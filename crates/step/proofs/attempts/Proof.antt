@@ -1,16 +1,10 @@
+-- The invariant: r holds the residuals of t, and what is left of the corrections from here is the whole.
 use Rattle.step.proofs.attempts.Statement.{statement}
 use Rattle.step.proofs.attempts.Tie as tie
-use Rattle.step.proofs.attempts.Reads as reads
-use Rattle.step.proofs.attempts.Lts as lts
-use Rattle.correction.proofs.correct.Reads as correct-reads
-use Rattle.step.proofs.weigh.Reads as weigh-reads
-
 use borrow.Author.Needs.{needs}
 use mathlib.Core.Path.{_≡_, refl, sym, subst, _∙_}
-use mathlib.Core.List.{List}
 use Prim.Native.Nat.{ℕ, _-_}
 use native.Mathlib.Omega.{arith}
-use lib.IntN.{ℤ}
 use lib.ListN.{length}
 use Rattle.paper.specs.Step.{boardOf}
 use Rattle.lent.specs.Rows.{Mild}
@@ -24,84 +18,69 @@ Inv-loop table p a l fixed old t₀ r₀ n c₀ t r c = (length t ≡ length t�
 abbrev μ-loop : tie.MeasureT-loop
 μ-loop table p a l fixed old t₀ r₀ n c₀ t r c = 5 - c
 
--- src/lib.rt:58:5
 weigh-requires : tie.Need-weigh-requires Inv-loop μ-loop
 weigh-requires c κs = c .before .before .before .pre
 
--- src/lib.rt:60:5
 loop-holds : tie.Need-loop-holds Inv-loop μ-loop
 loop-holds c = (refl, refl, loop-start (subst (λ (m : ℕ). Mild (c .before .before .before .before .before .args .t .now) m) (count-is (c .before .before .before .before .before .pre .ready)) (c .before .before .before .before .before .pre .u-mild)) (c .before .weigh .ensures))
 
--- src/lib.rt:61:13
 correct-requires : tie.Need-correct-requires Inv-loop μ-loop
 correct-requires c κs =
     let q = c .before .before .before .before .before .before .before .before .pre .ready in let v = c .before .before .loop in
     (q .sound, subst (λ (m : ℕ). Mild (v .t) m) (sym (count-is q)) (v .inv .2 .mild), subst (λ (m : ℕ). Forth (v .r) 0 m) (sym (count-is q)) (loop-forth (v .inv .2) (fair q)))
 
--- src/lib.rt:62:32
 enum-known-v : tie.Need-enum-known-v Inv-loop μ-loop
 enum-known-v c = search needs
 
--- src/lib.rt:63:13
 same-length : tie.Need-same-length Inv-loop μ-loop
 same-length c = c .before .before .before .before .before .correct .kept .1 .0 ∙ c .before .before .before .before .before .before .before .before .loop .inv .0
 
--- src/lib.rt:63:13
 same-length-2 : tie.Need-same-length-2 Inv-loop μ-loop
 same-length-2 c = c .before .before .before .before .before .correct .kept .1 .1 .0 ∙ c .before .before .before .before .before .before .before .before .loop .inv .1 ∙ c .before .before .before .before .before .before .before .before .before .before .weigh .kept .1 .1 .1 .1 .1 .1 .1 .0
 
--- src/lib.rt:63:13
 returns : tie.Need-returns Inv-loop μ-loop
 returns c = loop-refused (c .before .before .before .before .before .before .before .before .loop .inv .2) (count-is (c .before .before .before .before .before .before .before .before .before .before .before .before .before .before .pre .ready)) (c .before .before .before .before .before .correct .result) (c .before .before .before .before .before .correct .last .1 .0) (c .before .before .before .before .before .correct .ensures) _ (c .before .v .given .1) (c .before .before .before .before .before .correct .last .1 .0)
 
 enum-told : tie.Need-enum-told Inv-loop μ-loop
 enum-told c = search needs
 
--- src/lib.rt:65:13
 weigh-requires-2 : tie.Need-weigh-requires-2 Inv-loop μ-loop
 weigh-requires-2 c κs =
     again (c .before .before .before .before .before .before .before .before .before .before .before .before .before .before .before .pre) (loop-mild (c .before .before .before .before .before .before .before .before .before .loop .inv .2) (count-is (c .before .before .before .before .before .before .before .before .before .before .before .before .before .before .before .pre .ready)) (c .before .before .before .before .before .before .correct .result) (c .before .before .before .before .before .before .correct .last .1 .0) (c .before .before .before .before .before .before .correct .ensures) (c .before .before .enum-told .given .1))
     (c .before .before .before .before .before .before .correct .kept .1 .1 .0 ∙ c .before .before .before .before .before .before .before .before .before .loop .inv .1 ∙ c .before .before .before .before .before .before .before .before .before .before .before .weigh .kept .1 .1 .1 .1 .1 .1 .1 .0 ∙ c .before .before .before .before .before .before .before .before .before .before .before .before .before .before .before .pre .r-long)
 
--- src/lib.rt:67:13
 same-length-3 : tie.Need-same-length-3 Inv-loop μ-loop
 same-length-3 c = c .before .before .before .before .before .before .before .before .before .correct .kept .1 .0 ∙ c .before .before .before .before .before .before .before .before .before .before .before .before .loop .inv .0
 
--- src/lib.rt:67:13
 same-length-4 : tie.Need-same-length-4 Inv-loop μ-loop
 same-length-4 c = c .before .before .weigh2 .kept .1 .1 .1 .1 .1 .1 .1 .0 ∙ c .before .before .before .before .before .before .before .before .before .correct .kept .1 .1 .0 ∙ c .before .before .before .before .before .before .before .before .before .before .before .before .loop .inv .1 ∙ c .before .before .before .before .before .before .before .before .before .before .before .before .before .before .weigh .kept .1 .1 .1 .1 .1 .1 .1 .0
 
--- src/lib.rt:67:13
 returns-2 : tie.Need-returns-2 Inv-loop μ-loop
 returns-2 c =
     loop-settled (c .before .before .before .before .before .before .before .before .before .before .before .before .loop .inv .2) (count-is (c .before .before .before .before .before .before .before .before .before .before .before .before .before .before .before .before .before .before .pre .ready)) (c .before .before .before .before .before .before .before .before .before .correct .result) (c .before .before .before .before .before .before .before .before .before .correct .last .1 .0) (c .before .before .before .before .before .before .before .before .before .correct .ensures) (c .before .before .before .before .before .enum-told .given .1) (c .before .before .weigh2 .result) (c .before .before .weigh2 .last .1 .1 .1 .1 .1 .1 .1 .0) (c .before .before .weigh2 .ensures) (c .if1 .taken)
 
--- src/lib.rt:70:13
 same-length-5 : tie.Need-same-length-5 Inv-loop μ-loop
 same-length-5 c = c .before .before .before .before .before .before .before .before .before .before .correct .kept .1 .0 ∙ c .before .before .before .before .before .before .before .before .before .before .before .before .before .loop .inv .0
 
--- src/lib.rt:70:13
 same-length-6 : tie.Need-same-length-6 Inv-loop μ-loop
 same-length-6 c = c .before .before .before .weigh2 .kept .1 .1 .1 .1 .1 .1 .1 .0 ∙ c .before .before .before .before .before .before .before .before .before .before .correct .kept .1 .1 .0 ∙ c .before .before .before .before .before .before .before .before .before .before .before .before .before .loop .inv .1 ∙ c .before .before .before .before .before .before .before .before .before .before .before .before .before .before .before .weigh .kept .1 .1 .1 .1 .1 .1 .1 .0
 
--- src/lib.rt:70:13
 returns-3 : tie.Need-returns-3 Inv-loop μ-loop
 returns-3 c =
     loop-last (c .before .before .before .before .before .before .before .before .before .before .before .before .before .loop .inv .2) (count-is (c .before .before .before .before .before .before .before .before .before .before .before .before .before .before .before .before .before .before .before .pre .ready)) (c .before .before .before .before .before .before .before .before .before .before .correct .result) (c .before .before .before .before .before .before .before .before .before .before .correct .last .1 .0) (c .before .before .before .before .before .before .before .before .before .before .correct .ensures) (c .before .before .before .before .before .before .enum-told .given .1) (c .before .before .before .weigh2 .result) (c .before .before .before .weigh2 .last .1 .1 .1 .1 .1 .1 .1 .0) (c .before .before .before .weigh2 .ensures) (c .before .if1 .left) (c .if2 .taken)
 
--- src/lib.rt:72:9
 add-c : tie.Need-add-c Inv-loop μ-loop
 add-c c = omega (arith, c .before .before .before .before .before .before .before .before .before .before .before .before .before .loop .inv .2 .most)
 
--- src/lib.rt:60:5
 loop-less : tie.Need-loop-less Inv-loop μ-loop
 loop-less c = omega (arith, c .before .before .before .before .before .before .before .before .before .before .before .before .before .loop .inv .2 .most)
 
--- src/lib.rt:60:5
 loop-again : tie.Need-loop-again Inv-loop μ-loop
-loop-again c =
-    (c .before .before .before .before .before .before .before .before .before .before .correct .kept .1 .0 ∙ c .before .before .before .before .before .before .before .before .before .before .before .before .before .loop .inv .0, c .before .before .before .weigh2 .kept .1 .1 .1 .1 .1 .1 .1 .0 ∙ c .before .before .before .before .before .before .before .before .before .before .correct .kept .1 .1 .0 ∙ c .before .before .before .before .before .before .before .before .before .before .before .before .before .loop .inv .1,
-    loop-on (c .before .before .before .before .before .before .before .before .before .before .before .before .before .loop .inv .2) (count-is (c .before .before .before .before .before .before .before .before .before .before .before .before .before .before .before .before .before .before .before .pre .ready)) (c .before .before .before .before .before .before .before .before .before .before .correct .result) (c .before .before .before .before .before .before .before .before .before .before .correct .last .1 .0) (c .before .before .before .before .before .before .before .before .before .before .correct .ensures) (c .before .before .before .before .before .before .enum-told .given .1) (c .before .before .before .weigh2 .result) (c .before .before .before .weigh2 .last .1 .1 .1 .1 .1 .1 .1 .0) (c .before .before .before .weigh2 .ensures) (c .before .if1 .left) (c .if2 .left))
+loop-again c = (
+  c .before .before .before .before .before .before .before .before .before .before .correct .kept .1 .0 ∙ c .before .before .before .before .before .before .before .before .before .before .before .before .before .loop .inv .0,
+  c .before .before .before .weigh2 .kept .1 .1 .1 .1 .1 .1 .1 .0 ∙ c .before .before .before .before .before .before .before .before .before .before .correct .kept .1 .1 .0 ∙ c .before .before .before .before .before .before .before .before .before .before .before .before .before .loop .inv .1,
+  loop-on (c .before .before .before .before .before .before .before .before .before .before .before .before .before .loop .inv .2) (count-is (c .before .before .before .before .before .before .before .before .before .before .before .before .before .before .before .before .before .before .before .pre .ready)) (c .before .before .before .before .before .before .before .before .before .before .correct .result) (c .before .before .before .before .before .before .before .before .before .before .correct .last .1 .0) (c .before .before .before .before .before .before .before .before .before .before .correct .ensures) (c .before .before .before .before .before .before .enum-told .given .1) (c .before .before .before .weigh2 .result) (c .before .before .before .weigh2 .last .1 .1 .1 .1 .1 .1 .1 .0) (c .before .before .before .weigh2 .ensures) (c .before .if1 .left) (c .if2 .left),
+)
 
 pub attempts-spec : {M : Type 1} → statement M
 attempts-spec =

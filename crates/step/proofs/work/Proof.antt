@@ -1,11 +1,7 @@
+-- Each array has room for n numbers.
 use borrow.Author.Needs.{needs}
 use Rattle.step.proofs.work.Statement.{statement}
 use Rattle.step.proofs.work.Tie as tie
-use Rattle.step.proofs.work.Reads as reads
-use Rattle.step.proofs.work.Lts as lts
-use Rattle.step.proofs.prepared.Reads as prepared-reads
-
--- src/lib.rt:156:9
 use mathlib.Core.Path.{refl}
 use lib.IntN.{pos}
 use lib.ListN.{replicate}
@@ -14,49 +10,38 @@ use Rattle.step.proofs.Ends.{part-long}
 sub-prepared : tie.Need-sub-prepared
 sub-prepared c = search needs
 
--- src/lib.rt:156:9
 part-fixed-start : tie.Need-part-fixed-start
 part-fixed-start c = search needs
 
--- src/lib.rt:156:9
 part-fixed-end : tie.Need-part-fixed-end
 part-fixed-end c = search needs
 
--- src/lib.rt:158:9
 sub-prepared-2 : tie.Need-sub-prepared-2
 sub-prepared-2 c = search needs
 
--- src/lib.rt:158:9
 part-t-start : tie.Need-part-t-start
 part-t-start c = search needs
 
--- src/lib.rt:158:9
 part-t-end : tie.Need-part-t-end
 part-t-end c = search needs
 
--- src/lib.rt:159:9
 sub-prepared-3 : tie.Need-sub-prepared-3
 sub-prepared-3 c = search needs
 
--- src/lib.rt:159:9
 part-r-start : tie.Need-part-r-start
 part-r-start c = search needs
 
--- src/lib.rt:159:9
 part-r-end : tie.Need-part-r-end
 part-r-end c = search needs
 
--- src/lib.rt:151:5
 prepared-requires : tie.Need-prepared-requires
 prepared-requires c κs =
     let n = c .before .before .before .before .before .args .n in let few = c .before .before .before .before .before .pre .sound .rows .few in
     (c .before .before .before .before .before .pre, part-long (replicate 96 (pos 0)) n refl few, part-long (replicate 96 (pos 0)) n refl few, part-long (replicate 96 (pos 0)) n refl few)
 
--- src/lib.rt:144:1
 same-length : tie.Need-same-length
 same-length c = search needs
 
--- src/lib.rt:144:1
 returns : tie.Need-returns
 returns c = search needs
 
