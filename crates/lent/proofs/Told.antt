@@ -1,5 +1,5 @@
--- What lent numbers that refusal 10 lets pass are: the bounds of a step and of a replacement.
-use mathlib.Core.Path.{_≡_, refl, sym, ap, _∙_}
+-- What lent numbers that refusals 10 and 11 let pass are: the bounds of a step and of a replacement.
+use mathlib.Core.Path.{_≡_, sym, subst}
 use mathlib.Core.Bool.{Bool, true, false, not, _||_}
 use mathlib.Core.List.{List}
 use Prim.Native.Nat.{ℕ, _+_, _^_, _≤_, _<_}
@@ -7,16 +7,21 @@ use native.Mathlib.Omega.{arith}
 use lib.Dec.{leb, T}
 use lib.IntN.{ℤ, pos, natAbs}
 use lib.Signed.{leZ, _≤ℤ_, _<ℤ_}
+use lib.ListN.{length, take}
+use lib.Seq.{getD-take, length-take-le}
 use borrow.Author.Tests.{leb-true, not-false}
 use Rattle.whole.specs.Sums.{sumN, any}
 use Rattle.whole.specs.Packed.{tri, cell, entry}
 use Rattle.whole.proofs.Linear.{zarith}
-use Rattle.whole.proofs.Sums.{sumN-upto, sumN-one, any-each}
+use Rattle.whole.proofs.Sums.{sumN-upto, sumN-one, any-each, first-none}
 use Rattle.whole.proofs.Tests.{and-told, nor-told}
+use Rattle.paper.specs.Ticks.{onScale}
 use Rattle.paper.specs.Building.{Slices}
 use Rattle.paper.specs.Factor.{small}
 use Rattle.paper.specs.Lent.{rowSize, heavy, pivot, badRow, noFactor, foreign}
-use Rattle.lent.specs.Rows.{Rows, Light, Sound}
+use Rattle.paper.specs.Step.{offScale}
+use Rattle.paper.proofs.Scale.{on-scale-size}
+use Rattle.lent.specs.Rows.{Rows, Light, Sound, Mild}
 
 pub light : (m : List ℤ) (n : ℕ) → Rows m n → heavy n m ≡ false → Light m n
 unfolding heavy
@@ -69,3 +74,11 @@ foreign-told n s e =
     let (b, f) = nor-told (heavy n (s .p) || heavy n (s .a)) (noFactor n (s .factor)) e in
     let (p, a) = nor-told (heavy n (s .p)) (heavy n (s .a)) b in
     (p, a, f)
+
+-- temperatures on the scale
+pub mild : (n : ℕ) (t : List ℤ) → n ≤ length t → offScale n t ≡ 0 → Mild (take n t) n
+unfolding offScale
+mild n t h e = record {
+  long = length-take-le n t h;
+  each = λ j k. subst (λ (z : ℤ). natAbs z ≤ 2 ^ 25) (sym (getD-take n t j (pos 0) k)) (on-scale-size (cell t j) (not-false _ (first-none n 0 (λ i. not (onScale (cell t i))) e j (omega arith) (omega arith))));
+}

@@ -1,4 +1,5 @@
--- A lent triangle of n rows: room for it, and the bounds that refusal 10 leaves.
+-- What is lent of n nodes: room for n rows, and the bounds that refusals 10 and 11 leave.
+use mathlib.Core.Path.{_≡_}
 use Prim.Native.Nat.{ℕ, _+_, _^_, _≤_, _<_}
 use mathlib.Core.List.{List}
 use lib.IntN.{ℤ, pos, natAbs}
@@ -30,3 +31,8 @@ pub record Sound (l : List ℤ) (n : ℕ) : Type 0 where
   pub low : (i k : ℕ) → i < n → k < i → natAbs (cell l (tri i + k)) ≤ 2 ^ 24
   pub least : (i : ℕ) → i < n → pos 16 ≤ℤ cell l (tri i + i)
   pub most : (i : ℕ) → i < n → natAbs (cell l (tri i + i)) ≤ 2 ^ 38
+
+-- n temperatures
+pub record Mild (t : List ℤ) (n : ℕ) : Type 0 where
+  pub long : length t ≡ n
+  pub each : (j : ℕ) → j < n → natAbs (cell t j) ≤ 2 ^ 25

@@ -1,4 +1,6 @@
-// Refusal 10: lent numbers that no build gives. The numbers may be of any size, the least i64 too.
+// Refusals 10 and 11: lent numbers that no build gives, and temperatures off the scale. The numbers may be of any size, the
+// least i64 too.
+use paper::Ticks;
 ghost use mathlib.Core.Path.{_≡_};
 ghost use mathlib.Core.Bool.{not};
 ghost use Prim.Native.Nat.{ℕ, _+_, _^_, _≤_, _<_};
@@ -9,6 +11,7 @@ ghost use Rattle.whole.specs.Sums.{any};
 ghost use Rattle.whole.specs.Packed.{tri, place, cell};
 ghost use Rattle.paper.specs.Factor.{small};
 ghost use Rattle.paper.specs.Lent.{rowSize, heavy, pivot, badRow, noFactor, foreign};
+ghost use Rattle.paper.specs.Step.{offScale};
 ghost use Rattle.lent.specs.Rows.{InRow, Rows, lent};
 
 // Where row i starts.
@@ -115,4 +118,19 @@ pub fn foreign(p: &[i64], a: &[i64], factor: &[i64], n: usize) -> bool
         return true;
     }
     no_factor(factor, n)
+}
+
+// Refusal 11: the lowest node off the scale, from 1, or 0.
+pub fn off_scale(t: &[i64], n: usize) -> u32
+    requires { ⌜ (n ≤ 96) × (n ≤ length (now t)) ⌝ }
+    ensures { λ r. ⌜ r ≡ offScale n (now (t .entry)) ⌝ }
+{
+    let mut i = 0;
+    while i < n {
+        if !Ticks::on_scale(t[i]) {
+            return (i + 1) as u32;
+        }
+        i += 1;
+    }
+    0
 }

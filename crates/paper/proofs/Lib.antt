@@ -23,6 +23,7 @@ pub mod Replaced
 pub mod Demand3
 pub mod Calls
 pub mod Refused
+pub mod Scale
 pub mod Judging
 pub mod Fields
 pub mod CardText

@@ -82,6 +82,14 @@ product-size a b h k = let p : a * b ≤ 2 ^ 62 = mul-le-mul {n₂ = 2 ^ 24} {m�
 pub scaled-size : (l y : ℤ) → natAbs l ≤ 2 ^ 24 → natAbs y ≤ 2 ^ 38 → natAbs (nearest (l *ℤ y) (2 ^ 20)) ≤ 2 ^ 42
 scaled-size l y h k = rw (nearest-size, natAbs-times) (product-size (natAbs l) (natAbs y) h k)
 
+-- and where the product passes 64 bits
+wide-product : (a b : ℕ) → a ≤ 2 ^ 24 → b ≤ 2 ^ 52 → nearestN (a * b) (2 ^ 20) ≤ 2 ^ 56
+unfolding nearestN
+wide-product a b h k = let p : a * b ≤ 2 ^ 76 = mul-le-mul {n₂ = 2 ^ 24} {m₂ = 2 ^ 52} h k in omega arith
+
+pub wide-size : (l y : ℤ) → natAbs l ≤ 2 ^ 24 → natAbs y ≤ 2 ^ 52 → natAbs (nearest (l *ℤ y) (2 ^ 20)) ≤ 2 ^ 56
+wide-size l y h k = rw (nearest-size, natAbs-times) (wide-product (natAbs l) (natAbs y) h k)
+
 -- ---- the shift that floors, of a number that is first made one less where it is negative
 
 shift-neg : (a : ℕ) → suc a ≤ 2 ^ 62 → shrZ (negsuc a +ℤ pos 524288 +ℤ negsuc 0) (2 ^ 20) ≡ negℤ (pos (nearestN (suc a) (2 ^ 20)))

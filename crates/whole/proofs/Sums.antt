@@ -4,14 +4,14 @@ use mathlib.Core.Bool.{Bool, true, false, cond, _||_, true≢false}
 use mathlib.Core.Logic.{⊎-elim}
 use mathlib.Core.List.{List, [], _∷_, _++_, append-assoc, append-nil}
 use Prim.Native.Nat.{ℕ, zero, suc, _+_, _-_, _*_, _≤_, _<_}
-use native.Mathlib.Nat.{eq-or-lt-of-le, le-of-suc-le-suc, add-mul, suc-mul}
+use native.Mathlib.Nat.{eq-or-lt-of-le, le-of-suc-le-suc, add-zero, add-mul, suc-mul}
 use native.Mathlib.Decide.{ℕ-discrete}
 use native.Mathlib.Numerals.{add-one}
 use native.Mathlib.Omega.{arith}
 use lib.Dec.{eqb}
 use lib.IntN.{ℤ, pos, natAbs, _+ℤ_, _-ℤ_, +ℤ-idl, +ℤ-idr}
-use lib.ListN.{length, getD, set, drop, replicate, length-append, length-replicate, getD-replicate, List·getD-append, drop-of-length-le}
-use lib.Seq.{getD-at, set-at, drop-cons, ext-getD}
+use lib.ListN.{length, getD, set, drop, replicate, length-set, length-append, length-replicate, length-drop, getD-replicate, List·getD-append, drop-of-length-le}
+use lib.Seq.{getD-at, getD-set-same, getD-set-other, set-at, drop-cons, ext-getD}
 use borrow.Author.Tests.{eq-eqb, ne-eqb}
 use Rattle.whole.specs.Sums.{sum, sumN, any, firstFrom, table}
 use Rattle.whole.specs.Packed.{cell}
@@ -209,10 +209,47 @@ any-each n f e k l = go (f k) refl
     go false q = q
     go true q = absurd (true≢false (sym (any-one n f k l q) ∙ e))
 
+pub any-more : (n : ℕ) (f : ℕ → Bool) → any (n + 1) f ≡ any n f || f n
+unfolding any
+any-more n f = ap (λ (k : ℕ). any k f) (add-one n)
+
 -- none so far, nor this one
 pub any-next : (n : ℕ) (f : ℕ → Bool) → any n f ≡ false → f n ≡ false → any (n + 1) f ≡ false
-unfolding any
-any-next n f e h = ap (λ (k : ℕ). any k f) (add-one n) ∙ (λ i. e i || h i)
+any-next n f e h = any-more n f ∙ (λ i. e i || h i)
+
+-- ---- the first of which a test holds
+
+-- the place that was found, or else this one
+abbrev pub orElse : ℕ → ℕ → ℕ
+orElse zero b = b
+orElse (suc a) b = suc a
+
+pub first-ext : (n i : ℕ) (f g : ℕ → Bool) → ((k : ℕ) → i ≤ k → k < i + n → f k ≡ g k) → firstFrom n i f ≡ firstFrom n i g
+unfolding firstFrom
+first-ext zero i f g h = refl
+first-ext (suc n) i f g h = λ j. cond (h i (omega arith) (omega arith) j) (suc i) (first-ext n (suc i) f g (λ k a b. h k (omega arith) (omega arith)) j)
+
+-- one more at the end
+pub first-more : (n i : ℕ) (f : ℕ → Bool) → firstFrom (n + 1) i f ≡ orElse (firstFrom n i f) (cond (f (i + n)) (suc (i + n)) 0)
+unfolding firstFrom
+first-more zero i f = rw (add-zero i)
+first-more (suc n) i f =
+    ap (λ (k : ℕ). firstFrom k i f) (add-one (suc n)) ∙ go (f i) (sym (ap (λ (k : ℕ). firstFrom k (suc i) f) (add-one n)) ∙ first-more n (suc i) f)
+  where
+    go : (b : Bool) → firstFrom (suc n) (suc i) f ≡ orElse (firstFrom n (suc i) f) (cond (f (suc i + n)) (suc (suc i + n)) 0)
+        → cond b (suc i) (firstFrom (suc n) (suc i) f) ≡ orElse (cond b (suc i) (firstFrom n (suc i) f)) (cond (f (i + suc n)) (suc (i + suc n)) 0)
+    go true e = refl
+    go false e = let q : suc i + n ≡ i + suc n = omega arith in e ∙ ap (λ (k : ℕ). orElse (firstFrom n (suc i) f) (cond (f k) (suc k) 0)) q
+
+-- where there is none, it holds of none
+pub first-none : (n i : ℕ) (f : ℕ → Bool) → firstFrom n i f ≡ 0 → (k : ℕ) → i ≤ k → k < i + n → f k ≡ false
+unfolding firstFrom
+first-none zero i f e k h l = absurd (omega arith)
+first-none (suc n) i f e k h l = go (f i) refl e (λ q m. first-none n (suc i) f q k m (omega arith))
+  where
+    go : (b : Bool) → f i ≡ b → cond b (suc i) (firstFrom n (suc i) f) ≡ 0 → (firstFrom n (suc i) f ≡ 0 → suc i ≤ k → f k ≡ false) → f k ≡ false
+    go true p q later = absurd (omega arith)
+    go false p q later = ⊎-elim (λ z. ap f (sym z) ∙ p) (λ m. later q m) (eq-or-lt-of-le h)
 
 -- ---- tables
 
@@ -235,12 +272,19 @@ unfolding table
 table-ext zero f g h = refl
 table-ext (suc n) f g h = λ i. table-ext n f g (λ k l. h k (omega arith)) i ++ h n (omega arith) i ∷ []
 
--- a list is the table of its numbers, and a table of one number repeats it
-pub table-eta : (xs : List ℤ) → table (length xs) (cell xs) ≡ xs
-table-eta xs =
-    ext-getD (pos 0) (table (length xs) (cell xs)) xs (table-length (length xs) (cell xs))
-    (λ k l. table-at (length xs) k (cell xs) (omega (arith, table-length (length xs) (cell xs))))
+-- a list as a table of its numbers
+pub table-cells : (xs : List ℤ) (n : ℕ) → length xs ≡ n → table n (cell xs) ≡ xs
+table-cells xs n e = ext-getD (pos 0) (table n (cell xs)) xs (table-length n (cell xs) ∙ sym e) (λ i h. table-at n i (cell xs) (omega (arith, table-length n (cell xs))))
 
+-- a list with one number changed, as a table
+pub set-table : (xs : List ℤ) (k : ℕ) (v : ℤ) (g : ℕ → ℤ) → k < length xs → v ≡ g k → ((i : ℕ) → i < length xs → (i ≡ k → ⊥) → cell xs i ≡ g i) → set xs k v ≡ table (length xs) g
+set-table xs k v g h e f = ext-getD (pos 0) (set xs k v) (table (length xs) g) (length-set xs k v ∙ sym (table-length (length xs) g)) (λ i l. go i (omega (arith, length-set xs k v)) (ℕ-discrete i k))
+  where
+    go : (i : ℕ) → i < length xs → Dec (i ≡ k) → cell (set xs k v) i ≡ cell (table (length xs) g) i
+    go i l (yes q) = rw q (getD-set-same xs k v (pos 0) h ∙ e ∙ sym (table-at (length xs) k g h))
+    go i l (no q) = getD-set-other xs k i v (pos 0) q ∙ f i l q ∙ sym (table-at (length xs) i g l)
+
+-- a table of one number repeats it
 pub table-same : (n : ℕ) (v : ℤ) → table n (λ k. v) ≡ replicate n v
 table-same n v =
     ext-getD (pos 0) (table n (λ k. v)) (replicate n v) (table-length n (λ k. v) ∙ sym (length-replicate n v))
@@ -276,6 +320,14 @@ filled-more f s i h =
     ∙ set-at (table i f) (cell s i) (drop (suc i) s) (f i) i (table-length i f)
     ∙ sym (append-assoc (table i f) (f i ∷ []) (drop (suc i) s))
     ∙ ap (λ (k : ℕ). filled f s k) (sym (add-one i))
+
+-- the next place is as it was
+pub filled-next : (f : ℕ → ℤ) (s : List ℤ) (i : ℕ) → i < length s → cell (filled f s i) i ≡ cell s i
+filled-next f s i h =
+    ap (λ (d : List ℤ). cell (table i f ++ d) i) (drop-cons s i (pos 0) h) ∙ getD-at (table i f) (cell s i) (drop (suc i) s) (pos 0) i (table-length i f)
+
+pub filled-length : (f : ℕ → ℤ) (s : List ℤ) (i : ℕ) → i ≤ length s → length (filled f s i) ≡ length s
+filled-length f s i h = omega (arith, length-append (table i f) (drop i s), table-length i f, length-drop i s)
 
 pub filled-end : (f : ℕ → ℤ) (s : List ℤ) (n : ℕ) → length s ≡ n → filled f s n ≡ table n f
 filled-end f s n e = ap (λ (d : List ℤ). table n f ++ d) (drop-of-length-le s {i = n} (omega arith)) ∙ append-nil (table n f)

@@ -21,6 +21,10 @@ pub nor-told : (a b : Bool) → a || b ≡ false → (a ≡ false) × (b ≡ fal
 nor-told false b e = (refl, e)
 nor-told true b e = never (sym e)
 
+pub or-false : (a : Bool) → a || false ≡ a
+or-false true = refl
+or-false false = refl
+
 -- if a then b
 pub if-told : (a b : Bool) → not a || b ≡ true → a ≡ true → b ≡ true
 if-told true b e f = e

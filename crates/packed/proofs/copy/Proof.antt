@@ -11,7 +11,7 @@ use lib.ListN.{length, set, drop, length-append, length-drop}
 use Rattle.whole.specs.Sums.{table}
 use Rattle.whole.specs.Packed.{cell}
 use Rattle.whole.proofs.Signs.{got}
-use Rattle.whole.proofs.Sums.{filled, filled-none, filled-more, filled-end, table-length, table-eta}
+use Rattle.whole.proofs.Sums.{filled, filled-none, filled-more, filled-end, table-length, table-cells}
 
 abbrev Inv-loop : tie.InvT-loop
 Inv-loop from to₀ k₀ to k = (k ≤ length from) × (length to₀ ≡ length from) × (to ≡ filled (cell from) to₀ k)
@@ -56,7 +56,7 @@ same-length c = long (c .before .before .args .from .now) (c .before .before .ar
 returns : tie.Need-returns Inv-loop μ-loop
 returns c =
     let k : length (c .before .before .args .from .now) ≡ c .before .loop .k = omega arith in
-    c .before .loop .inv .2 ∙ filled-end (cell (c .before .before .args .from .now)) (c .before .before .args .to .now) (c .before .loop .k) (c .before .loop .inv .1 ∙ k) ∙ ap (λ (n : ℕ). table n (cell (c .before .before .args .from .now))) (sym k) ∙ table-eta (c .before .before .args .from .now)
+    c .before .loop .inv .2 ∙ filled-end (cell (c .before .before .args .from .now)) (c .before .before .args .to .now) (c .before .loop .k) (c .before .loop .inv .1 ∙ k) ∙ ap (λ (n : ℕ). table n (cell (c .before .before .args .from .now))) (sym k) ∙ table-cells (c .before .before .args .from .now) (length (c .before .before .args .from .now)) refl
 
 pub copy-spec : {M : Type 1} → statement M
 copy-spec =

@@ -1,0 +1,16 @@
+-- t and x/256 to the nearest.
+use Rattle.correction.proofs.warmed.Statement.{statement}
+use Rattle.correction.proofs.warmed.Tie as tie
+use Rattle.correction.proofs.Adding.{divided-asks, warmed-asks, warmed-is}
+
+nearest-requires : tie.Need-nearest-requires
+nearest-requires c κs = divided-asks (c .args .x) (c .pre .1)
+
+plus-requires : tie.Need-plus-requires
+plus-requires c κs = warmed-asks (c .before .args .t) (c .before .args .x) (c .before .pre .0) (c .before .pre .1) (c .nearest .result) (c .nearest .ensures)
+
+returns : tie.Need-returns
+returns c = warmed-is (c .before .before .args .t) (c .before .before .args .x) (c .before .before .pre .0) (c .before .before .pre .1) (c .before .nearest .result) (c .before .nearest .ensures) (c .plus .result) (c .plus .ensures)
+
+pub warmed-spec : {M : Type 1} → statement M
+warmed-spec = tie.close (tie.spec nearest-requires plus-requires returns)

@@ -1,0 +1,70 @@
+-- What the parts of a correction ask of each other: the bounds on what a list holds, and what each leaves.
+use mathlib.Core.Path.{_≡_}
+use mathlib.Core.List.{List}
+use Prim.Native.Nat.{ℕ, zero, suc, _+_, _^_, _≤_, _<_}
+use lib.IntN.{ℤ, natAbs, _*ℤ_}
+use lib.ListN.{length}
+use Rattle.whole.specs.Packed.{tri, cell}
+use Rattle.paper.specs.Refusals.{Outcome, refused, done}
+use Rattle.paper.specs.Factor.{R}
+use Rattle.paper.specs.Step.{forwardFrom, backFrom, addFrom, correct}
+use Rattle.paper.specs.declared.Answer.{Answer}
+use Rattle.paper.specs.declared.Answer.the-variants.{Done, Refused}
+use Rattle.paper.specs.declared.Refusal.{Refusal}
+use Rattle.paper.specs.declared.Refusal.the-variants.{Bound, OffScale}
+use Rattle.lent.specs.Rows.{Mild}
+
+-- n numbers: y below i, and r from i on
+pub record Forth (ys : List ℤ) (i n : ℕ) : Type 0 where
+  pub long : length ys ≡ n
+  pub upto : i ≤ n
+  pub below : (j : ℕ) → j < i → natAbs (cell ys j) ≤ 2 ^ 52
+  pub above : (j : ℕ) → i ≤ j → j < n → natAbs (cell ys j) ≤ 2 ^ 60
+
+-- n numbers: y below i, and x from i on
+pub record Back (xs : List ℤ) (i n : ℕ) : Type 0 where
+  pub long : length xs ≡ n
+  pub upto : i ≤ n
+  pub below : (j : ℕ) → j < i → natAbs (cell xs j) ≤ 2 ^ 52
+  pub above : (j : ℕ) → i ≤ j → j < n → natAbs (cell xs j) ≤ 2 ^ 36
+
+-- the terms of the two sums: along a row of the factor, and down a column below its diagonal
+abbrev pub leftTerm : List ℤ → ℕ → List ℤ → ℕ → ℤ
+leftTerm l at ys k = R (cell l (at + k) *ℤ cell ys k)
+
+abbrev pub downTerm : List ℤ → ℕ → List ℤ → ℕ → ℤ
+downTerm l i xs k = R (cell l (tri (suc i + k) + i) *ℤ cell xs (suc i + k))
+
+-- n numbers l from `at` on, and as many y
+pub record Left (l : List ℤ) (at : ℕ) (ys : List ℤ) (n : ℕ) : Type 0 where
+  pub few : n ≤ 96
+  pub room : at + n ≤ length l
+  pub long : n ≤ length ys
+  pub low : (k : ℕ) → k < n → natAbs (cell l (at + k)) ≤ 2 ^ 24
+  pub each : (k : ℕ) → k < n → natAbs (cell ys k) ≤ 2 ^ 52
+
+-- a row that was refused, from 1, or 0 and the list
+abbrev pub outAt : (ℕ → Refusal) → ℕ → List ℤ → Outcome (List ℤ)
+outAt why zero xs = done xs
+outAt why (suc i) xs = refused (why (suc i))
+
+pub record Forwarded (row : ℕ) (l : List ℤ) (n : ℕ) (ys zs : List ℤ) : Type 0 where
+  pub out : outAt Bound row zs ≡ forwardFrom l n 0 ys
+  pub ok : row ≡ 0 → Back zs n n
+
+pub record Backed (row : ℕ) (l : List ℤ) (n : ℕ) (ys zs : List ℤ) : Type 0 where
+  pub out : outAt Bound row zs ≡ backFrom l n n ys
+  pub ok : row ≡ 0 → Back zs 0 n
+
+pub record Added (node : ℕ) (x : List ℤ) (n : ℕ) (t u : List ℤ) : Type 0 where
+  pub out : outAt OffScale node u ≡ addFrom x n 0 t
+  pub ok : node ≡ 0 → Mild u n
+
+-- an answer with the list that is left where it is no refusal
+abbrev pub outOf : Answer → List ℤ → Outcome (List ℤ)
+outOf Done t = done t
+outOf (Refused r) t = refused r
+
+pub record Corrected (v : Answer) (l : List ℤ) (n : ℕ) (t r u : List ℤ) : Type 0 where
+  pub out : outOf v u ≡ correct l n t r
+  pub ok : v ≡ Done → Mild u n

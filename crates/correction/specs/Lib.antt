@@ -1,0 +1,2 @@
+-- What the parts of a correction ask and answer.
+pub mod Asks

@@ -1,0 +1,155 @@
+-- The temperature of each T card at its node, and the walk over them.
+use mathlib.Core.Path.{_≡_, refl, sym, ap, subst, _∙_}
+use mathlib.Core.Bool.{Bool, true, false, cond, _&&_, _||_}
+use mathlib.Core.List.{List}
+use Prim.Native.Nat.{ℕ, zero, suc, _+_, _-_, _*_, _^_, _≤_, _<_}
+use native.Mathlib.Omega.{arith}
+use lib.Dec.{eqb}
+use lib.IntN.{ℤ, pos, negsuc, natAbs}
+use lib.ListN.{length, set}
+use mir.Syntax.{w64}
+use mir.Val.{toZ}
+use mir.Facts.{toZ-pos}
+use borrow.Author.Tests.{eq-eqb, ne-eqb, eqb-true}
+use Rattle.whole.specs.Sums.{sumN, any, table}
+use Rattle.whole.specs.Packed.{cell}
+use Rattle.whole.proofs.Sums.{any-none, any-more, any-one, sumN-none, sumN-more, sumN-mono, sumN-once, set-table, table-cells, table-at, table-ext, table-length}
+use Rattle.whole.proofs.Tests.{and-told, or-false}
+use Rattle.paper.specs.Ticks.{top}
+use Rattle.paper.specs.Cards.{field, letter, isCard, rows, nodes, materials, elements}
+use Rattle.paper.specs.Matrices.{fixes, fixed, held}
+use Rattle.paper.specs.declared.Kind.the-variants.{T}
+use Rattle.paper.proofs.Decks.{Deck, Is, Load, hold}
+use Rattle.loads.specs.Asks.{Each, AtRow}
+
+-- what a row leaves
+abbrev pub after : List ℕ → List ℤ → ℕ → ℕ → ℤ
+after t f row i = cond (fixes t i row) (pos (field t row 2)) (cell f i)
+
+module _ {t : List ℕ} {f : List ℤ} {row : ℕ} (q : AtRow t f row) where
+  d : Deck t
+  d = q .each .deck
+
+  -- no T: nothing changes
+  pub hold-none : (Is T t row → ⊥) → f ≡ table (nodes t) (after t f row)
+  hold-none n =
+      sym (table-cells f (nodes t) (q .each .long))
+      ∙ table-ext (nodes t) (cell f) (after t f row) (λ i h. sym (ap (λ (b : Bool). cond (b && eqb (field t row 1) (suc i)) (pos (field t row 2)) (cell f i)) (ne-eqb (letter t row) 84 n)))
+
+  module _ (e : Is T t row) where
+    pub node-small : field t row 1 ≤ 96
+    node-small = omega (arith, d .ofT row (q .inside) e, d .someN)
+
+    pub node-some : 1 ≤ field t row 1
+    node-some = d .ofT row (q .inside) e .0
+
+    pub node-in : field t row 1 - 1 < length f
+    node-in = omega (arith, d .ofT row (q .inside) e, q .each .long)
+
+    pub hold-is : (k z : ℕ) → k ≡ field t row 1 → z ≡ field t row 2 → set f (k - 1) (toZ w64 z) ≡ table (nodes t) (after t f row)
+    hold-is k z ek ez =
+        let p : toZ w64 z ≡ pos (field t row 2) = toZ-pos w64 (omega (arith, d .heldT row (q .inside) e)) ∙ ap pos ez in
+        let m : field t row 1 ≡ suc (k - 1) = omega (arith, node-some) in
+        set-table f (k - 1) (toZ w64 z) (after t f row) (omega (arith, node-in))
+        (p ∙ (λ j. cond (sym (eq-eqb (letter t row) 84 e) j && sym (eq-eqb (field t row 1) (suc (k - 1)) m) j) (pos (field t row 2)) (cell f (k - 1))))
+        (λ i l n. (λ j. cond (sym (eq-eqb (letter t row) 84 e) j && sym (ne-eqb (field t row 1) (suc i) (λ x. n (omega arith))) j) (pos (field t row 2)) (cell f i)))
+        ∙ ap (λ (m : ℕ). table m (after t f row)) (q .each .long)
+
+-- ---- the walk
+
+-- what the rows before this one hold
+abbrev values : List ℕ → ℕ → ℕ → ℕ
+values t i k = cond (fixes t i k) (field t k 2) 0
+
+abbrev pub heldBy : List ℕ → ℕ → ℕ → ℤ
+heldBy t row i = cond (any row (fixes t i)) (pos (sumN row (values t i))) (negsuc 0)
+
+pub record HoldInv (t : List ℕ) (f : List ℤ) (row : ℕ) : Type 0 where
+  pub inside : row ≤ rows t
+  pub so-far : f ≡ table (nodes t) (heldBy t row)
+
+module _ {t : List ℕ} (d : Deck t) where
+  fixes-told : (i k : ℕ) → fixes t i k ≡ true → (Is T t k) × (field t k 1 ≡ suc i)
+  fixes-told i k e =
+      let (a, b) = and-told (isCard T t k) (eqb (field t k 1) (suc i)) e in
+      (eqb-true (letter t k) 84 a, eqb-true (field t k 1) (suc i) b)
+
+  before : (i row : ℕ) → row < nodes t + materials t + elements t + 1 → fixes t i row ≡ false
+  before i row l = ap (λ (b : Bool). b && eqb (field t row 1) (suc i)) (ne-eqb (letter t row) 84 (λ e. omega (arith, d .inT row (omega (arith, d .all)) e)))
+
+  -- one T card names a node: if this one does, none before it did
+  alone : (i row : ℕ) → row < rows t → fixes t i row ≡ true → (k : ℕ) → k < row → fixes t i k ≡ false
+  alone i row h e k l = go (fixes t i k) refl
+    where
+      go : (b : Bool) → fixes t i k ≡ b → fixes t i k ≡ false
+      go false p = p
+      go true p =
+          let (a, x) = fixes-told i k p in
+          let (b, y) = fixes-told i row e in
+          absurd (let z = d .once k row (omega arith) h (hold a) (a ∙ sym b) (x ∙ sym y) in omega arith)
+
+  step : (i row : ℕ) → row < rows t → cond (fixes t i row) (pos (field t row 2)) (heldBy t row i) ≡ heldBy t (row + 1) i
+  step i row h = go (fixes t i row) refl
+    where
+      go : (b : Bool) → fixes t i row ≡ b → cond (fixes t i row) (pos (field t row 2)) (heldBy t row i) ≡ heldBy t (row + 1) i
+      go true p =
+          let none : sumN row (values t i) ≡ 0 = sumN-none row (values t i) (λ k l. ap (λ (b : Bool). cond b (field t k 2) 0) (alone i row h p k l)) in
+          let one : sumN (row + 1) (values t i) ≡ field t row 2 = sumN-more row (values t i) ∙ (λ j. none j + cond (p j) (field t row 2) 0) ∙ omega arith in
+          ap (λ (b : Bool). cond b (pos (field t row 2)) (heldBy t row i)) p
+          ∙ sym (λ j. cond (any-one (row + 1) (fixes t i) row (omega arith) p j) (pos (one j)) (negsuc 0))
+      go false p =
+          let more : any (row + 1) (fixes t i) ≡ any row (fixes t i) = any-more row (fixes t i) ∙ ap (λ (b : Bool). any row (fixes t i) || b) p ∙ or-false (any row (fixes t i)) in
+          let same : sumN (row + 1) (values t i) ≡ sumN row (values t i) = sumN-more row (values t i) ∙ ap (λ (b : Bool). sumN row (values t i) + cond b (field t row 2) 0) p ∙ omega arith in
+          ap (λ (b : Bool). cond b (pos (field t row 2)) (heldBy t row i)) p ∙ (λ j. cond (sym more j) (pos (sym same j)) (negsuc 0))
+
+  pub hold-start : (f : List ℤ) (m row : ℕ) → m ≡ nodes t → f ≡ table m (λ i. negsuc 0) → row ≡ nodes t + materials t + elements t + 1 → HoldInv t f row
+  hold-start f m row em ef ew = record {
+    inside = omega (arith, d .all);
+    so-far = ef ∙ ap (λ (k : ℕ). table k (λ i. negsuc 0)) em
+        ∙ table-ext (nodes t) (λ i. negsuc 0) (heldBy t row) (λ i h. sym (ap (λ (b : Bool). cond b (pos (sumN row (values t i))) (negsuc 0)) (any-none row (fixes t i) (λ k l. before i k (omega arith)))));
+  }
+
+  module _ {f : List ℤ} {row : ℕ} (w : HoldInv t f row) where
+    pub held-long : length f ≡ nodes t
+    held-long = ap length (w .so-far) ∙ table-length (nodes t) (heldBy t row)
+
+    pub hold-room : row < rows t → AtRow t f row
+    hold-room h = record { each = record { deck = d; long = held-long }; inside = h }
+
+    pub hold-next : row < rows t → {s : List ℤ} → s ≡ table (nodes t) (after t f row) → HoldInv t s (row + 1)
+    hold-next h {s} e = record {
+      inside = omega arith;
+      so-far = e ∙ table-ext (nodes t) (after t f row) (heldBy t (row + 1)) (λ i l. ap (λ (z : ℤ). cond (fixes t i row) (pos (field t row 2)) z) (ap (λ (x : List ℤ). cell x i) (w .so-far) ∙ table-at (nodes t) i (heldBy t row) l) ∙ step i row h);
+    }
+
+    pub hold-end : rows t ≤ row → f ≡ table (nodes t) (held t)
+    unfolding held fixed
+    hold-end h = let e : row ≡ rows t = omega (arith, w .inside) in w .so-far ∙ ap (λ (k : ℕ). table (nodes t) (heldBy t k)) e
+
+-- ---- the size of what a node is held at
+
+held-once : (t : List ℕ) → Deck t → (i : ℕ) → sumN (rows t) (values t i) ≤ top
+held-once t d i =
+    let a : sumN (rows t) (values t i) ≤ sumN (rows t) (λ k. cond (fixes t i k) top 0) = sumN-mono (rows t) (values t i) (λ k. cond (fixes t i k) top 0) each in
+    omega (arith, sumN-once (rows t) (fixes t i) top only)
+  where
+    each : (k : ℕ) → k < rows t → values t i k ≤ cond (fixes t i k) top 0
+    each k l = go (fixes t i k) refl
+      where
+        go : (b : Bool) → fixes t i k ≡ b → cond (fixes t i k) (field t k 2) 0 ≤ cond (fixes t i k) top 0
+        go true p = rw p (d .heldT k l (fixes-told d i k p .0))
+        go false p = rw p (omega arith)
+
+    only : (a b : ℕ) → a < rows t → b < rows t → fixes t i a ≡ true → fixes t i b ≡ true → a ≡ b
+    only a b l m p q =
+        let (x, u) = fixes-told d i a p in
+        let (y, w) = fixes-told d i b q in
+        d .once a b l m (hold x) (x ∙ sym y) (u ∙ sym w)
+
+pub held-size : (t : List ℕ) → Deck t → (i : ℕ) → natAbs (held t i) ≤ 2 ^ 25
+unfolding held
+held-size t d i = go (fixed t i)
+  where
+    go : (b : Bool) → natAbs (cond b (pos (sumN (rows t) (values t i))) (negsuc 0)) ≤ 2 ^ 25
+    go true = held-once t d i
+    go false = omega arith

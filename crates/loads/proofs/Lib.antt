@@ -1,0 +1,4 @@
+-- The laws of the walks over the H, F and T cards.
+mod Corners
+pub mod Walk
+pub mod Held

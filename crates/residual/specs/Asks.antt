@@ -1,0 +1,57 @@
+-- What the residual pass asks: the bounds of refusals 10 and 11 and of a judged deck. What it sums, term by term.
+use mathlib.Core.Path.{_≡_}
+use mathlib.Core.Bool.{cond}
+use mathlib.Core.List.{List}
+use Prim.Native.Nat.{ℕ, _^_, _≤_, _<_}
+use lib.IntN.{ℤ, pos, natAbs, _+ℤ_, _-ℤ_, _*ℤ_}
+use lib.Signed.{leZ}
+use lib.ListN.{length}
+use Rattle.whole.specs.Sums.{sum}
+use Rattle.whole.specs.Packed.{cell, entry}
+use Rattle.paper.specs.Step.{Board, isFixed, residuals, unsettled}
+use Rattle.lent.specs.Rows.{Light, Mild}
+
+pub record Fair (b : Board) : Type 0 where
+  pub p-light : Light (b .p) (b .n)
+  pub a-light : Light (b .a) (b .n)
+  pub loads-long : length (b .loads) ≡ b .n
+  pub loads-small : (i : ℕ) → i < b .n → natAbs (cell (b .loads) i) ≤ 2 ^ 57
+  pub fixed-mild : Mild (b .fixed) (b .n)
+  pub old-mild : Mild (b .old) (b .n)
+
+-- what a node's column is taken times: the T card's temperature, or the node's own
+abbrev pub heldOr : ℤ → ℤ → ℤ
+heldOr f t = cond (leZ (pos 0) f) f t
+
+-- one term of a free row: P times the old temperature, less A times that
+unfoldable pub mixed : List ℤ → List ℤ → List ℤ → List ℤ → List ℤ → ℕ → ℕ → ℤ
+mixed p a f old t i j = entry p i j *ℤ cell old j -ℤ entry a i j *ℤ heldOr (cell f j) (cell t j)
+
+-- and of its bound
+unfoldable pub share : ℤ → ℤ → ℕ
+share f a = cond (leZ (pos 0) f) 0 (natAbs a)
+
+-- the residual of row i, whose node has this load
+unfoldable pub rowResidual : List ℤ → List ℤ → List ℤ → List ℤ → List ℤ → ℤ → ℕ → ℕ → ℤ
+rowResidual p a f old t load i n =
+    cond (isFixed f i) (pos (2 ^ 20) *ℤ cell f i -ℤ pos (2 ^ 20) *ℤ cell t i) (load +ℤ sum n (mixed p a f old t i))
+
+pub record InRow (p a f old t : List ℤ) (load : ℤ) (i n : ℕ) : Type 0 where
+  pub here : i < n
+  pub p-light : Light p n
+  pub a-light : Light a n
+  pub fixed-mild : Mild f n
+  pub old-mild : Mild old n
+  pub t-mild : Mild t n
+  pub load-small : natAbs load ≤ 2 ^ 57
+
+pub record Term (s p o a h : ℤ) : Type 0 where
+  pub s-ok : natAbs s ≤ 2 ^ 60
+  pub p-ok : natAbs p ≤ 2 ^ 33
+  pub o-ok : natAbs o ≤ 2 ^ 25
+  pub a-ok : natAbs a ≤ 2 ^ 33
+  pub h-ok : natAbs h ≤ 2 ^ 25
+
+pub record Weighed (row : ℕ) (b : Board) (t r : List ℤ) : Type 0 where
+  pub unsettled-is : row ≡ unsettled b (residuals b t)
+  pub residuals-are : r ≡ residuals b t
