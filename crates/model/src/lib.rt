@@ -71,7 +71,7 @@ fn room(table: &[u32], p: &[i64], a: &[i64], factor: &[i64], work: &[i64]) -> bo
     requires { ⌜ Deck (now table) ⌝ }
     ensures { λ r. ⌜ r ≡ enough (now (table .entry)) (lent (now (p .entry)) (now (a .entry)) (now (factor .entry)) (now (work .entry))) ⌝ }
 {
-    let k = packed::start(element::nodes(table));
+    let k = whole::start(element::nodes(table));
     if p.len() < k {
         return false;
     }
@@ -106,7 +106,7 @@ pub fn build(
     if let Answer::Refused(r) = element::judge_elements(table) {
         return Answer::Refused(r);
     }
-    let k = packed::start(element::nodes(table));
+    let k = whole::start(element::nodes(table));
     made(
         table,
         &mut p[0..k],

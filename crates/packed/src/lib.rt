@@ -49,27 +49,15 @@ pub fn copy(from: &[i64], to: &mut [i64])
 
 // ---- places
 
-// Of row i, from 0.
-pub fn start(i: usize) -> usize
-    requires { ⌜ i ≤ 96 ⌝ }
-    ensures { λ r. ⌜ r ≡ tri i ⌝ }
-{
-    i * (i + 1) / 2
-}
-
 fn place(i: usize, j: usize) -> usize
     requires { ⌜ (i < 96) × (j < 96) ⌝ }
     ensures { λ r. ⌜ r ≡ place i j ⌝ }
 {
-    if j <= i { start(i) + j } else { start(j) + i }
-}
-
-// Of the next column in row i of the full matrix, after the place of column j.
-fn after(at: usize, i: usize, j: usize) -> usize
-    requires { ⌜ (at ≡ place i j) × (i < 96) × (j < 96) ⌝ }
-    ensures { λ r. ⌜ r ≡ place i (j + 1) ⌝ }
-{
-    if j < i { at + 1 } else { at + j + 1 }
+    if j <= i {
+        whole::start(i) + j
+    } else {
+        whole::start(j) + i
+    }
 }
 
 // ---- a square added
@@ -220,14 +208,14 @@ fn clear_node(xs: &mut [i64], n: usize, node: Node)
     ensures { λ _. ⌜ now (xs .exit) ≡ lower n (cleared (λ k. eqb (node .0) (suc k)) (entry (now (xs .entry)))) ⌝ }
 {
     let i = node.0 as usize - 1;
-    let mut at = start(i);
+    let mut at = whole::start(i);
     let mut j = 0;
     while j < n {
         xs[at] = 0;
-        at = after(at, i, j);
+        at = whole::next(at, i, j);
         j += 1;
     }
-    xs[start(i) + i] = 1_048_576;
+    xs[whole::start(i) + i] = 1_048_576;
 }
 
 // The node that a T card in a row fixes.

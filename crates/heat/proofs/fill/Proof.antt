@@ -1,7 +1,5 @@
 use Rattle.heat.proofs.fill.Statement.{statement}
 use Rattle.heat.proofs.fill.Tie as tie
-use Rattle.heat.proofs.fill.Reads as reads
-use Rattle.heat.proofs.fill.Lts as lts
 use borrow.Author.Needs.{needs}
 use mathlib.Core.Path.{_≡_, _∙_}
 use Prim.Native.Nat.{_-_, _≤_}
@@ -14,39 +12,30 @@ Inv-loop temperatures₀ start i₀ temperatures i = (i ≤ length temperatures�
 abbrev μ-loop : tie.MeasureT-loop
 μ-loop temperatures₀ start i₀ temperatures i = length temperatures₀ - i
 
--- src/main.rt:29:5
 loop-holds : tie.Need-loop-holds Inv-loop μ-loop
 loop-holds c = search needs
 
--- src/main.rt:30:27
 cast-temperatures : tie.Need-cast-temperatures Inv-loop μ-loop
 cast-temperatures c = search needs
 
--- src/main.rt:30:9
 mul-t4 : tie.Need-mul-t4 Inv-loop μ-loop
 mul-t4 c = search needs
 
--- src/main.rt:30:9
 slice-set-from-temperatures : tie.Need-slice-set-from-temperatures Inv-loop μ-loop
 slice-set-from-temperatures c = search needs
 
--- src/main.rt:31:9
 add-i : tie.Need-add-i Inv-loop μ-loop
 add-i c = search needs
 
--- src/main.rt:29:5
 loop-less : tie.Need-loop-less Inv-loop μ-loop
 loop-less c = omega (arith, c .before .loop .inv .1)
 
--- src/main.rt:29:5
 loop-again : tie.Need-loop-again Inv-loop μ-loop
 loop-again c = (omega (arith, c .before .loop .inv .1), simp length-set (c .before .loop .inv .1))
 
--- src/main.rt:27:1
 same-length : tie.Need-same-length Inv-loop μ-loop
 same-length c = search needs
 
--- src/main.rt:27:1
 returns : tie.Need-returns Inv-loop μ-loop
 returns c = search needs
 

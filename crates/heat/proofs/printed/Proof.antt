@@ -1,9 +1,5 @@
 use Rattle.heat.proofs.printed.Statement.{statement}
 use Rattle.heat.proofs.printed.Tie as tie
-use Rattle.heat.proofs.printed.Reads as reads
-use Rattle.heat.proofs.printed.Lts as lts
-use Rattle.heat.proofs.line.Reads as line-reads
-use Rattle.whole.proofs.size.Reads as size-reads
 use borrow.Author.Needs.{needs}
 use Prim.Native.Nat.{_-_, _≤_}
 use native.Mathlib.Omega.{arith}
@@ -15,55 +11,42 @@ Inv-loop temperatures steps i₀ t4 t5 i = i ≤ length temperatures
 abbrev μ-loop : tie.MeasureT-loop
 μ-loop temperatures steps i₀ t4 t5 i = length temperatures - i
 
--- src/main.rt:38:5
 loop-holds : tie.Need-loop-holds Inv-loop μ-loop
 loop-holds c = search needs
 
--- src/main.rt:39:14
 slice-aggregate-line : tie.Need-slice-aggregate-line Inv-loop μ-loop
 slice-aggregate-line c = search needs
 
--- src/main.rt:39:20
 add-line : tie.Need-add-line Inv-loop μ-loop
 add-line c = search needs
 
--- src/main.rt:39:46
 mul-size : tie.Need-mul-size Inv-loop μ-loop
 mul-size c = search needs
 
--- src/main.rt:39:46
 shared-slice-copy-out-size : tie.Need-shared-slice-copy-out-size Inv-loop μ-loop
 shared-slice-copy-out-size c = search needs
 
--- src/main.rt:39:34
 size-requires : tie.Need-size-requires Inv-loop μ-loop
 size-requires c κs = search needs
 
--- src/main.rt:39:9
 line-requires : tie.Need-line-requires Inv-loop μ-loop
 line-requires c κs = search needs
 
--- src/main.rt:40:9
 add-i : tie.Need-add-i Inv-loop μ-loop
 add-i c = search needs
 
--- src/main.rt:38:5
 loop-less : tie.Need-loop-less Inv-loop μ-loop
 loop-less c = search needs
 
--- src/main.rt:38:5
 loop-again : tie.Need-loop-again Inv-loop μ-loop
 loop-again c = search needs
 
--- src/main.rt:42:10
 slice-aggregate-line-2 : tie.Need-slice-aggregate-line-2 Inv-loop μ-loop
 slice-aggregate-line-2 c = search needs
 
--- src/main.rt:42:5
 line-requires-2 : tie.Need-line-requires-2 Inv-loop μ-loop
 line-requires-2 c κs = search needs
 
--- src/main.rt:36:1
 returns : tie.Need-returns Inv-loop μ-loop
 returns c = search needs
 

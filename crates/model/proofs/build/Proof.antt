@@ -1,15 +1,6 @@
 use borrow.Author.Needs.{needs}
 use Rattle.model.proofs.build.Statement.{statement}
 use Rattle.model.proofs.build.Tie as tie
-use Rattle.model.proofs.build.Reads as reads
-use Rattle.model.proofs.build.Lts as lts
-use Rattle.cards.proofs.judge.Reads as judge-reads
-use Rattle.element.proofs.judge_elements.Reads as judge-elements-reads
-use Rattle.element.proofs.nodes.Reads as nodes-reads
-use Rattle.model.proofs.made.Reads as made-reads
-use Rattle.model.proofs.room.Reads as room-reads
-use Rattle.packed.proofs.start.Reads as start-reads
--- src/lib.rt:94:33
 use mathlib.Core.Path.{_≡_, sym, ap, subst, _∙_}
 use native.Mathlib.Omega.{arith}
 use borrow.Author.Tests.{not-true, not-false}
@@ -25,67 +16,52 @@ use Rattle.model.proofs.Leaving.{told, no-deck, no-room, no-element, bu
 judge-requires : tie.Need-judge-requires
 judge-requires c κs = search needs
 
--- src/lib.rt:94:28
 enum-known-r : tie.Need-enum-known-r
 enum-known-r c = search needs
 
--- src/lib.rt:95:9
 returns : tie.Need-returns
 returns c = told (no-deck (c .before .before .before .before .before .args .table .now) (lent (c .before .before .before .before .before .args .p .now) (c .before .before .before .before .before .args .a .now) (c .before .before .before .before .before .args .factor .now) (c .before .before .before .before .before .args .work .now)) (c .before .r .given .0 .0) (sym (c .before .before .before .judge .ensures) ∙ c .before .r .given .1))
 
 enum-told : tie.Need-enum-told
 enum-told c = search needs
 
--- src/lib.rt:97:9
 room-requires : tie.Need-room-requires
 room-requires c κs = deck (c .before .before .before .before .before .before .before .before .args .table .now) (sym (c .before .before .before .before .before .before .judge .ensures) ∙ c .before .before .before .before .enum-told .given .1)
 
--- src/lib.rt:98:9
 same-length : tie.Need-same-length
 same-length c = search needs
 
--- src/lib.rt:98:9
 same-length-2 : tie.Need-same-length-2
 same-length-2 c = search needs
 
--- src/lib.rt:98:9
 same-length-3 : tie.Need-same-length-3
 same-length-3 c = search needs
 
--- src/lib.rt:98:9
 same-length-4 : tie.Need-same-length-4
 same-length-4 c = search needs
 
--- src/lib.rt:98:9
 returns-2 : tie.Need-returns-2
 returns-2 c =
     told (no-room (c .before .before .before .before .before .before .before .before .before .before .args .table .now) (lent (c .before .before .before .before .before .before .before .before .before .before .args .p .now) (c .before .before .before .before .before .before .before .before .before .before .args .a .now) (c .before .before .before .before .before .before .before .before .before .before .args .factor .now) (c .before .before .before .before .before .before .before .before .before .before .args .work .now)) (sym (c .before .before .before .before .before .before .before .before .judge .ensures) ∙ c .before .before .before .before .before .before .enum-told .given .1) (sym (c .before .room .ensures) ∙ not-true _ (c .if1 .taken)))
 
--- src/lib.rt:100:33
 judge-elements-requires : tie.Need-judge-elements-requires
 judge-elements-requires c κs = deck (c .before .before .before .before .before .before .before .before .before .before .args .table .now) (sym (c .before .before .before .before .before .before .before .before .judge .ensures) ∙ c .before .before .before .before .before .before .enum-told .given .1)
 
--- src/lib.rt:100:28
 enum-known-r-2 : tie.Need-enum-known-r-2
 enum-known-r-2 c = search needs
 
--- src/lib.rt:101:9
 same-length-5 : tie.Need-same-length-5
 same-length-5 c = search needs
 
--- src/lib.rt:101:9
 same-length-6 : tie.Need-same-length-6
 same-length-6 c = search needs
 
--- src/lib.rt:101:9
 same-length-7 : tie.Need-same-length-7
 same-length-7 c = search needs
 
--- src/lib.rt:101:9
 same-length-8 : tie.Need-same-length-8
 same-length-8 c = search needs
 
--- src/lib.rt:101:9
 returns-3 : tie.Need-returns-3
 returns-3 c =
     told (no-element (c .before .before .before .before .before .before .before .before .before .before .before .before .before .before .args .table .now) (lent (c .before .before .before .before .before .before .before .before .before .before .before .before .before .before .args .p .now) (c .before .before .before .before .before .before .before .before .before .before .before .before .before .before .args .a .now) (c .before .before .before .before .before .before .before .before .before .before .before .before .before .before .args .factor .now) (c .before .before .before .before .before .before .before .before .before .before .before .before .before .before .args .work .now)) (sym (c .before .before .before .before .before .before .before .before .before .before .before .before .judge .ensures) ∙ c .before .before .before .before .before .before .before .before .before .before .enum-told .given .1) (sym (c .before .before .before .before .before .room .ensures) ∙ not-false _ (c .before .before .before .before .if1 .left)) (c .before .r2 .given .0 .0) (sym (c .before .before .before .judge-elements .ensures) ∙ c .before .r2 .given .1))
@@ -93,63 +69,48 @@ returns-3 c =
 enum-told-2 : tie.Need-enum-told-2
 enum-told-2 c = search needs
 
--- src/lib.rt:103:27
 nodes-requires : tie.Need-nodes-requires
 nodes-requires c κs = deck (c .before .before .before .before .before .before .before .before .before .before .before .before .before .args .table .now) (sym (c .before .before .before .before .before .before .before .before .before .before .before .judge .ensures) ∙ c .before .before .before .before .before .before .before .before .before .enum-told .given .1)
 
--- src/lib.rt:103:9
 start-requires : tie.Need-start-requires
 start-requires c κs = omega (arith, c .nodes .ensures, deck (c .before .before .before .before .before .before .before .before .before .before .before .before .before .before .args .table .now) (sym (c .before .before .before .before .before .before .before .before .before .before .before .before .judge .ensures) ∙ c .before .before .before .before .before .before .before .before .before .before .enum-told .given .1) .someN)
 
--- src/lib.rt:104:17
 sub-made : tie.Need-sub-made
 sub-made c = search needs
 
--- src/lib.rt:104:17
 part-made-start : tie.Need-part-made-start
 part-made-start c = search needs
 
--- src/lib.rt:104:17
 part-made-end : tie.Need-part-made-end
 part-made-end c = omega (arith, c .start .ensures, ap tri (c .before .nodes .ensures), roomy-told (c .before .before .before .before .before .before .before .before .before .before .before .before .before .before .before .args .table .now) (lent (c .before .before .before .before .before .before .before .before .before .before .before .before .before .before .before .args .p .now) (c .before .before .before .before .before .before .before .before .before .before .before .before .before .before .before .args .a .now) (c .before .before .before .before .before .before .before .before .before .before .before .before .before .before .before .args .factor .now) (c .before .before .before .before .before .before .before .before .before .before .before .before .before .before .before .args .work .now)) (sym (c .before .before .before .before .before .before .room .ensures) ∙ not-false _ (c .before .before .before .before .before .if1 .left)))
 
--- src/lib.rt:104:31
 sub-made-2 : tie.Need-sub-made-2
 sub-made-2 c = search needs
 
--- src/lib.rt:104:31
 part-made-start-2 : tie.Need-part-made-start-2
 part-made-start-2 c = search needs
 
--- src/lib.rt:104:31
 part-made-end-2 : tie.Need-part-made-end-2
 part-made-end-2 c = omega (arith, c .before .start .ensures, ap tri (c .before .before .nodes .ensures), roomy-told (c .before .before .before .before .before .before .before .before .before .before .before .before .before .before .before .before .args .table .now) (lent (c .before .before .before .before .before .before .before .before .before .before .before .before .before .before .before .before .args .p .now) (c .before .before .before .before .before .before .before .before .before .before .before .before .before .before .before .before .args .a .now) (c .before .before .before .before .before .before .before .before .before .before .before .before .before .before .before .before .args .factor .now) (c .before .before .before .before .before .before .before .before .before .before .before .before .before .before .before .before .args .work .now)) (sym (c .before .before .before .before .before .before .before .room .ensures) ∙ not-false _ (c .before .before .before .before .before .before .if1 .left)))
 
--- src/lib.rt:104:45
 sub-made-3 : tie.Need-sub-made-3
 sub-made-3 c = search needs
 
--- src/lib.rt:104:45
 part-made-start-3 : tie.Need-part-made-start-3
 part-made-start-3 c = search needs
 
--- src/lib.rt:104:45
 part-made-end-3 : tie.Need-part-made-end-3
 part-made-end-3 c = omega (arith, c .before .before .start .ensures, ap tri (c .before .before .before .nodes .ensures), roomy-told (c .before .before .before .before .before .before .before .before .before .before .before .before .before .before .before .before .before .args .table .now) (lent (c .before .before .before .before .before .before .before .before .before .before .before .before .before .before .before .before .before .args .p .now) (c .before .before .before .before .before .before .before .before .before .before .before .before .before .before .before .before .before .args .a .now) (c .before .before .before .before .before .before .before .before .before .before .before .before .before .before .before .before .before .args .factor .now) (c .before .before .before .before .before .before .before .before .before .before .before .before .before .before .before .before .before .args .work .now)) (sym (c .before .before .before .before .before .before .before .before .room .ensures) ∙ not-false _ (c .before .before .before .before .before .before .before .if1 .left)))
 
--- src/lib.rt:104:64
 sub-made-4 : tie.Need-sub-made-4
 sub-made-4 c = search needs
 
--- src/lib.rt:104:64
 part-made-start-4 : tie.Need-part-made-start-4
 part-made-start-4 c = search needs
 
--- src/lib.rt:104:64
 part-made-end-4 : tie.Need-part-made-end-4
 part-made-end-4 c = omega (arith, c .before .before .before .start .ensures, ap tri (c .before .before .before .before .nodes .ensures), roomy-told (c .before .before .before .before .before .before .before .before .before .before .before .before .before .before .before .before .before .before .args .table .now) (lent (c .before .before .before .before .before .before .before .before .before .before .before .before .before .before .before .before .before .before .args .p .now) (c .before .before .before .before .before .before .before .before .before .before .before .before .before .before .before .before .before .before .args .a .now) (c .before .before .before .before .before .before .before .before .before .before .before .before .before .before .before .before .before .before .args .factor .now) (c .before .before .before .before .before .before .before .before .before .before .before .before .before .before .before .before .before .before .args .work .now)) (sym (c .before .before .before .before .before .before .before .before .before .room .ensures) ∙ not-false _ (c .before .before .before .before .before .before .before .before .if1 .left)))
 
--- src/lib.rt:104:5
 made-requires : tie.Need-made-requires
 made-requires c κs =
     let t = c .before .before .before .before .before .before .before .before .before .before .before .before .before .before .before .before .before .before .before .args .table .now in
@@ -158,23 +119,18 @@ made-requires c κs =
       lengths t z (c .before .before .before .before .start .result) (c .before .before .before .before .start .ensures ∙ ap tri (c .before .before .before .before .before .nodes .ensures)) (roomy-told t z (sym (c .before .before .before .before .before .before .before .before .before .before .room .ensures) ∙ not-false _ (c .before .before .before .before .before .before .before .before .before .if1 .left))),
     )
 
--- src/lib.rt:87:1
 same-length-9 : tie.Need-same-length-9
 same-length-9 c = search needs
 
--- src/lib.rt:87:1
 same-length-10 : tie.Need-same-length-10
 same-length-10 c = search needs
 
--- src/lib.rt:87:1
 same-length-11 : tie.Need-same-length-11
 same-length-11 c = search needs
 
--- src/lib.rt:87:1
 same-length-12 : tie.Need-same-length-12
 same-length-12 c = search needs
 
--- src/lib.rt:87:1
 returns-4 : tie.Need-returns-4
 returns-4 c =
     let t = c .before .before .before .before .before .before .before .before .before .before .before .before .before .before .before .before .before .before .before .before .before .before .before .before .args .table .now in

@@ -1,13 +1,6 @@
 use borrow.Author.Needs.{needs}
 use Rattle.model.proofs.factored.Statement.{statement}
 use Rattle.model.proofs.factored.Tie as tie
-use Rattle.model.proofs.factored.Reads as reads
-use Rattle.model.proofs.factored.Lts as lts
-use Rattle.element.proofs.nodes.Reads as nodes-reads
-use Rattle.factor.proofs.factor.Reads as factor-reads
-use Rattle.model.proofs.prepare.Reads as prepare-reads
-use Rattle.packed.proofs.zero.Reads as zero-reads
--- src/lib.rt:35:5
 use mathlib.Core.Path.{_≡_, sym, ap, subst, _∙_}
 use mathlib.Core.List.{List}
 use Prim.Native.Nat.{ℕ}
@@ -25,29 +18,23 @@ use Rattle.model.proofs.Stages.{whole-ready, factor-is, factored-refuse
 prepare-requires : tie.Need-prepare-requires
 prepare-requires c κs = search needs
 
--- src/lib.rt:36:66
 nodes-requires : tie.Need-nodes-requires
 nodes-requires c κs = search needs
 
--- src/lib.rt:36:33
 factor-requires : tie.Need-factor-requires
 factor-requires c κs =
     let t = c .before .before .before .before .before .before .args .table .now in
     subst (λ (k : ℕ). Ready (c .before .before .before .prepare .last .1 .0) 0 k) (sym (c .nodes .ensures)) (whole-ready t (c .before .before .before .prepare .last .1 .0) (c .before .before .before .before .before .before .pre .0) (c .before .before .before .prepare .ensures))
 
--- src/lib.rt:36:28
 enum-known-r : tie.Need-enum-known-r
 enum-known-r c = search needs
 
--- src/lib.rt:37:9
 zero-requires : tie.Need-zero-requires
 zero-requires c κs = search needs
 
--- src/lib.rt:38:9
 same-length : tie.Need-same-length
 same-length c = search needs
 
--- src/lib.rt:38:9
 returns : tie.Need-returns
 returns c =
     let t = c .before .before .before .before .before .before .before .before .before .before .before .before .before .before .args .table .now in
@@ -59,11 +46,9 @@ returns c =
 enum-told : tie.Need-enum-told
 enum-told c = search needs
 
--- src/lib.rt:31:1
 same-length-2 : tie.Need-same-length-2
 same-length-2 c = search needs
 
--- src/lib.rt:31:1
 returns-2 : tie.Need-returns-2
 returns-2 c =
     let t = c .before .before .before .before .before .before .before .before .before .before .args .table .now in

@@ -1,11 +1,6 @@
 use borrow.Author.Needs.{needs}
 use Rattle.model.proofs.hand_over.Statement.{statement}
 use Rattle.model.proofs.hand_over.Tie as tie
-use Rattle.model.proofs.hand_over.Reads as reads
-use Rattle.model.proofs.hand_over.Lts as lts
-use Rattle.packed.proofs.copy.Reads as copy-reads
-use Rattle.packed.proofs.zero.Reads as zero-reads
--- src/lib.rt:49:18
 use mathlib.Core.Path.{_∙_}
 use lib.ListN.{length-drop}
 use Rattle.whole.proofs.Fill.{tail-is}
@@ -13,35 +8,27 @@ use Rattle.whole.proofs.Fill.{tail-is}
 mul-copy : tie.Need-mul-copy
 mul-copy c = search needs
 
--- src/lib.rt:49:18
 sub-copy : tie.Need-sub-copy
 sub-copy c = search needs
 
--- src/lib.rt:49:18
 part-copy-start : tie.Need-part-copy-start
 part-copy-start c = search needs
 
--- src/lib.rt:49:18
 part-copy-end : tie.Need-part-copy-end
 part-copy-end c = search needs
 
--- src/lib.rt:49:5
 copy-requires : tie.Need-copy-requires
 copy-requires c κs = search needs
 
--- src/lib.rt:50:5
 zero-requires : tie.Need-zero-requires
 zero-requires c κs = search needs
 
--- src/lib.rt:43:1
 same-length : tie.Need-same-length
 same-length c = search needs
 
--- src/lib.rt:43:1
 same-length-2 : tie.Need-same-length-2
 same-length-2 c = search needs
 
--- src/lib.rt:43:1
 returns : tie.Need-returns
 returns c = (c .before .before .before .before .copy .ensures ∙ tail-is (c .before .before .before .before .before .before .before .before .args .start) (c .before .before .before .before .before .before .before .before .args .work .now), search needs)
 

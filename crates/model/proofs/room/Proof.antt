@@ -1,11 +1,6 @@
 use borrow.Author.Needs.{needs}
 use Rattle.model.proofs.room.Statement.{statement}
 use Rattle.model.proofs.room.Tie as tie
-use Rattle.model.proofs.room.Reads as reads
-use Rattle.model.proofs.room.Lts as lts
-use Rattle.element.proofs.nodes.Reads as nodes-reads
-use Rattle.packed.proofs.start.Reads as start-reads
--- src/lib.rt:74:27
 use mathlib.Core.Path.{ap, _∙_}
 use Rattle.whole.specs.Packed.{tri}
 use Rattle.model.specs.Asks.{lent}
@@ -14,23 +9,18 @@ use Rattle.model.proofs.Leaving.{no-p, no-a, no-f, by-work}
 nodes-requires : tie.Need-nodes-requires
 nodes-requires c κs = search needs
 
--- src/lib.rt:74:9
 start-requires : tie.Need-start-requires
 start-requires c κs = search needs
 
--- src/lib.rt:76:9
 returns : tie.Need-returns
 returns c = no-p (c .before .before .before .before .args .table .now) (c .before .start .result) (c .before .start .ensures ∙ ap tri (c .before .before .nodes .ensures)) (lent (c .before .before .before .before .args .p .now) (c .before .before .before .before .args .a .now) (c .before .before .before .before .args .factor .now) (c .before .before .before .before .args .work .now)) (c .if1 .taken)
 
--- src/lib.rt:79:9
 returns-2 : tie.Need-returns-2
 returns-2 c = no-a (c .before .before .before .before .before .args .table .now) (c .before .before .start .result) (c .before .before .start .ensures ∙ ap tri (c .before .before .before .nodes .ensures)) (lent (c .before .before .before .before .before .args .p .now) (c .before .before .before .before .before .args .a .now) (c .before .before .before .before .before .args .factor .now) (c .before .before .before .before .before .args .work .now)) (c .before .if1 .left) (c .if2 .taken)
 
--- src/lib.rt:82:9
 returns-3 : tie.Need-returns-3
 returns-3 c = no-f (c .before .before .before .before .before .before .args .table .now) (c .before .before .before .start .result) (c .before .before .before .start .ensures ∙ ap tri (c .before .before .before .before .nodes .ensures)) (lent (c .before .before .before .before .before .before .args .p .now) (c .before .before .before .before .before .before .args .a .now) (c .before .before .before .before .before .before .args .factor .now) (c .before .before .before .before .before .before .args .work .now)) (c .before .before .if1 .left) (c .before .if2 .left) (c .if3 .taken)
 
--- src/lib.rt:70:1
 returns-4 : tie.Need-returns-4
 returns-4 c = by-work (c .before .before .before .before .before .before .args .table .now) (c .before .before .before .start .result) (c .before .before .before .start .ensures ∙ ap tri (c .before .before .before .before .nodes .ensures)) (lent (c .before .before .before .before .before .before .args .p .now) (c .before .before .before .before .before .before .args .a .now) (c .before .before .before .before .before .before .args .factor .now) (c .before .before .before .before .before .before .args .work .now)) (c .before .before .if1 .left) (c .before .if2 .left) (c .if3 .left)
 

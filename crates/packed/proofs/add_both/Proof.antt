@@ -1,14 +1,6 @@
 use borrow.Author.Needs.{needs}
 use Rattle.packed.proofs.add_both.Statement.{statement}
 use Rattle.packed.proofs.add_both.Tie as tie
-use Rattle.packed.proofs.add_both.Reads as reads
-use Rattle.packed.proofs.add_both.Lts as lts
-use Rattle.element.proofs.field.Reads as field-reads
-use Rattle.element.proofs.triangle_at.Reads as triangle-at-reads
-use Rattle.packed.proofs.add_square.Reads as add-square-reads
-use Rattle.triangle.proofs.capacity_square.Reads as capacity-square-reads
-use Rattle.triangle.proofs.element_square.Reads as element-square-reads
--- src/lib.rt:162:9
 use mathlib.Core.Path.{ap, sym, subst, _∙_}
 use Prim.Native.Nat.{_≤_}
 use Rattle.paper.specs.Triangle as paper
@@ -21,11 +13,9 @@ use Rattle.packed.proofs.Assembling.{element, area, p-takes, p-gives, e
 triangle-at-requires : tie.Need-triangle-at-requires
 triangle-at-requires c κs = search needs
 
--- src/lib.rt:163:9
 field-requires : tie.Need-field-requires
 field-requires c κs = search needs
 
--- src/lib.rt:164:9
 capacity-square-requires : tie.Need-capacity-square-requires
 unfolding paper.triangleAt
 capacity-square-requires c κs =
@@ -35,7 +25,6 @@ capacity-square-requires c κs =
       subst Step (sym (c .field .ensures)) (step-of t (c .before .before .before .pre .0 .sound .deck)),
     )
 
--- src/lib.rt:165:9
 element-square-requires : tie.Need-element-square-requires
 unfolding paper.triangleAt
 element-square-requires c κs =
@@ -47,7 +36,6 @@ element-square-requires c κs =
       subst Step (sym (c .before .field .ensures)) (step-of t (c .before .before .before .before .pre .1 .sound .deck)),
     )
 
--- src/lib.rt:168:5
 add-square-requires : tie.Need-add-square-requires
 unfolding paper.triangleAt
 add-square-requires c κs =
@@ -55,7 +43,6 @@ add-square-requires c κs =
     (ap (λ (x : paper.Triangle). x .shape .corners) (c .before .before .before .before .before .before .triangle-at .ensures))
     (c .before .before .before .before .capacity-square .ensures ∙ (λ d. squareOf (paper.mass (paper.u (c .before .before .before .before .before .field .ensures d) (c .before .before .before .before .before .before .triangle-at .ensures d)))))
 
--- src/lib.rt:169:5
 add-square-requires-2 : tie.Need-add-square-requires-2
 unfolding paper.triangleAt
 add-square-requires-2 c κs =
@@ -63,15 +50,12 @@ add-square-requires-2 c κs =
     (ap (λ (x : paper.Triangle). x .shape .corners) (c .before .before .before .before .before .before .before .before .before .triangle-at .ensures))
     (c .before .before .before .before .before .before .element-square .ensures ∙ (λ d. squareOf (stiff (c .before .before .before .before .before .before .before .before .field .ensures d) (c .before .before .before .before .before .before .before .before .before .triangle-at .ensures d))))
 
--- src/lib.rt:157:1
 same-length : tie.Need-same-length
 same-length c = search needs
 
--- src/lib.rt:157:1
 same-length-2 : tie.Need-same-length-2
 same-length-2 c = search needs
 
--- src/lib.rt:157:1
 returns : tie.Need-returns
 unfolding paper.triangleAt
 returns c = (

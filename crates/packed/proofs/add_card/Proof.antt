@@ -1,12 +1,6 @@
 use borrow.Author.Needs.{needs}
 use Rattle.packed.proofs.add_card.Statement.{statement}
 use Rattle.packed.proofs.add_card.Tie as tie
-use Rattle.packed.proofs.add_card.Reads as reads
-use Rattle.packed.proofs.add_card.Lts as lts
-use Rattle.element.proofs.field.Reads as field-reads
-use Rattle.packed.proofs.add_both.Reads as add-both-reads
-use Rattle.packed.proofs.add_film.Reads as add-film-reads
--- src/lib.rt:178:9
 use mathlib.Core.Path.{_∙_}
 use Rattle.paper.specs.Cards.{nodes}
 use Rattle.paper.specs.Matrices.{addsP, addsA}
@@ -16,38 +10,30 @@ use Rattle.packed.proofs.Squares.{unchanged}
 field-requires : tie.Need-field-requires
 field-requires c κs = search needs
 
--- src/lib.rt:180:9
 add-both-requires : tie.Need-add-both-requires
 add-both-requires c κs = search needs
 
--- src/lib.rt:181:9
 same-length : tie.Need-same-length
 same-length c = search needs
 
--- src/lib.rt:181:9
 same-length-2 : tie.Need-same-length-2
 same-length-2 c = search needs
 
--- src/lib.rt:181:9
 returns : tie.Need-returns
 returns c = search needs
 
--- src/lib.rt:184:9
 add-film-requires : tie.Need-add-film-requires
 add-film-requires c κs = search needs
 
--- src/lib.rt:173:1
 same-length-3 : tie.Need-same-length-3
 same-length-3 c = search needs
 
--- src/lib.rt:173:1
 returns-2 : tie.Need-returns-2
 returns-2 c =
     let t = c .before .before .before .before .before .before .before .args .table .now in
     let row = c .before .before .before .before .before .before .before .args .row in
     (unchanged (nodes t) (c .before .before .before .before .before .before .before .args .p .now) (addsP t row) (c .before .before .before .before .before .before .before .pre .0 .long) (λ i j. other-adds-P t row i j (λ e. c .before .before .before .before .if1 .left (c .before .before .before .before .before .field .ensures ∙ e))), search needs)
 
--- src/lib.rt:173:1
 returns-3 : tie.Need-returns-3
 returns-3 c =
     let t = c .before .before .before .before .args .table .now in

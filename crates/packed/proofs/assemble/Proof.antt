@@ -1,9 +1,5 @@
 use Rattle.packed.proofs.assemble.Statement.{statement}
 use Rattle.packed.proofs.assemble.Tie as tie
-use Rattle.packed.proofs.assemble.Reads as reads
-use Rattle.packed.proofs.assemble.Lts as lts
-use Rattle.packed.proofs.add_card.Reads as add-card-reads
-use Rattle.packed.proofs.zero.Reads as zero-reads
 use borrow.Author.Needs.{needs}
 use mathlib.Core.Path.{_≡_, sym, ap, _∙_}
 use Prim.Native.Nat.{_-_, _≤_}
@@ -21,25 +17,20 @@ Inv-loop table p₀ a₀ row₀ p a row = (row ≤ rows table) × (p ≡ partly 
 abbrev μ-loop : tie.MeasureT-loop
 μ-loop table p₀ a₀ row₀ p a row = rows table - row
 
--- src/lib.rt:194:5
 zero-requires : tie.Need-zero-requires Inv-loop μ-loop
 zero-requires c κs = search needs
 
--- src/lib.rt:195:5
 zero-requires-2 : tie.Need-zero-requires-2 Inv-loop μ-loop
 zero-requires-2 c κs = search needs
 
--- src/lib.rt:197:5
 loop-holds : tie.Need-loop-holds Inv-loop μ-loop
 loop-holds c =
     let t = c .before .before .before .before .before .before .before .args .table .now in
     (omega arith, walk-none (nodes t) (addsP t) (c .before .before .before .before .before .before .before .args .p .now) (c .before .before .before .before .zero .last .0) (c .before .before .before .before .before .before .before .pre .1) (c .before .before .before .before .zero .ensures), walk-none (nodes t) (addsA t) (c .before .before .before .before .before .before .before .args .a .now) (c .before .zero2 .last .0) (c .before .before .before .before .before .before .before .pre .2) (c .before .zero2 .ensures))
 
--- src/lib.rt:197:11
 mul-loop : tie.Need-mul-loop Inv-loop μ-loop
 mul-loop c = omega (arith, c .loop .inv .0, c .before .before .before .before .before .before .before .before .pre .0 .deck .few)
 
--- src/lib.rt:198:9
 add-card-requires : tie.Need-add-card-requires Inv-loop μ-loop
 add-card-requires c κs =
     let t = c .before .before .before .before .before .before .before .before .before .before .before .args .table .now in (
@@ -47,15 +38,12 @@ add-card-requires c κs =
       walk-card t (addsA t) (c .before .before .before .loop .row) (c .before .before .before .loop .a) (c .before .before .before .before .before .before .before .before .before .before .before .pre .0) (omega (arith, c .before .before .before .before .before .before .before .before .before .before .before .pre .0 .deck .whole)) (c .before .before .before .loop .inv .2) (λ i j. part-A t (c .before .before .before .before .before .before .before .before .before .before .before .pre .0 .deck) (c .before .before .before .before .before .before .before .before .before .before .before .pre .0 .passed) (c .before .before .before .loop .row) i j (c .before .before .before .loop .inv .0)),
     )
 
--- src/lib.rt:199:9
 add-row : tie.Need-add-row Inv-loop μ-loop
 add-row c = omega (arith, c .before .before .before .before .before .before .loop .inv .0, c .before .before .before .before .before .before .before .before .before .before .before .before .before .before .pre .0 .deck .few)
 
--- src/lib.rt:197:5
 loop-less : tie.Need-loop-less Inv-loop μ-loop
 loop-less c = omega (arith, c .before .before .before .before .before .before .before .before .before .before .before .before .before .before .pre .0 .deck .whole)
 
--- src/lib.rt:197:5
 loop-again : tie.Need-loop-again Inv-loop μ-loop
 loop-again c =
     let t = c .before .before .before .before .before .before .before .before .before .before .before .before .before .before .args .table .now in (
@@ -64,15 +52,12 @@ loop-again c =
       walk-more (nodes t) (c .before .before .before .before .before .before .loop .row) (addsA t) (c .before .before .before .before .before .before .loop .a) (c .before .before .add-card .last .1 .1 .1 .0) (c .before .before .before .before .before .before .loop .inv .2) (c .before .before .add-card .ensures .1),
     )
 
--- src/lib.rt:189:1
 same-length : tie.Need-same-length Inv-loop μ-loop
 same-length c = ap length (c .before .loop .inv .1) ∙ length-lower _ _ ∙ sym (c .before .before .before .before .before .before .before .before .before .pre .1)
 
--- src/lib.rt:189:1
 same-length-2 : tie.Need-same-length-2 Inv-loop μ-loop
 same-length-2 c = ap length (c .before .loop .inv .2) ∙ length-lower _ _ ∙ sym (c .before .before .before .before .before .before .before .before .before .pre .2)
 
--- src/lib.rt:189:1
 returns : tie.Need-returns Inv-loop μ-loop
 unfolding P A
 returns c =

@@ -46,8 +46,8 @@ slice-set-of-xs c =
     let i = c .before .before .before .before .args .node .0 - 1 in
     omega (arith, c .before .loop .inv .1, place-in i (c .before .loop .j) (c .before .before .before .before .args .n) (omega (arith, c .before .before .before .before .pre .among)) (omega (arith, c .loop-test .taken, c .before .before .before .before .pre)), long (c .before .before .before .before .args .n) i (c .before .loop .j) (c .before .before .before .before .args .xs .now) (c .before .loop .xs) (c .before .loop .inv .2))
 
-after-requires : tie.Need-after-requires Inv-loop μ-loop
-after-requires c κs = (c .before .loop .inv .1, omega (arith, c .before .before .before .before .pre .among, c .before .before .before .before .pre .few), omega (arith, c .loop-test .taken, c .before .before .before .before .pre .few))
+next-requires : tie.Need-next-requires Inv-loop μ-loop
+next-requires c κs = (c .before .loop .inv .1, omega (arith, c .before .before .before .before .pre .among, c .before .before .before .before .pre .few), omega (arith, c .loop-test .taken, c .before .before .before .before .pre .few))
 
 add-j : tie.Need-add-j Inv-loop μ-loop
 add-j c = omega (arith, c .before .loop-test .taken, c .before .before .before .before .before .pre .few)
@@ -59,7 +59,7 @@ loop-again : tie.Need-loop-again Inv-loop μ-loop
 loop-again c =
     let i = c .before .before .before .before .before .args .node .0 - 1 in (
       omega (arith, c .before .loop-test .taken),
-      c .after .ensures,
+      c .next .ensures,
       ap (λ (p : ℕ). set (c .before .before .loop .xs) p (pos 0)) (c .before .before .loop .inv .1) ∙ sweep-more (c .before .before .before .before .before .args .n) i (c .before .before .loop .j) (c .before .before .before .before .before .args .xs .now) (c .before .before .loop .xs) (c .before .before .loop .inv .2),
     )
 
@@ -109,7 +109,7 @@ clear-node-spec =
     loop-holds
     mul-xs
     slice-set-of-xs
-    after-requires
+    next-requires
     add-j
     loop-less
     loop-again
