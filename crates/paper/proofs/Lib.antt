@@ -24,6 +24,7 @@ pub mod Demand3
 pub mod Calls
 pub mod Refused
 pub mod Scale
+pub mod Settled
 pub mod Judging
 pub mod Fields
 pub mod CardText

@@ -1,0 +1,138 @@
+-- What an accepted step promises: every residual of its temperatures is within its row's bound, after 1 to 4 corrections.
+use mathlib.Core.Path.{_≡_, refl, sym, ap, subst, _∙_}
+use mathlib.Core.Bool.{Bool, true, not, _&&_}
+use mathlib.Core.List.{List, _++_}
+use Prim.Native.Nat.{ℕ, zero, suc, _+_, _≤_, _<_}
+use native.Mathlib.Omega.{arith}
+use lib.Dec.{leb}
+use lib.IntN.{ℤ, pos, natAbs, _+ℤ_, _-ℤ_, _*ℤ_}
+use lib.ListN.{length, set, take, drop, length-set, List·getD-append}
+use lib.Seq.{length-take-le}
+use borrow.Author.Tests.{leb-true, not-false}
+use Rattle.whole.specs.Sums.{sum}
+use Rattle.whole.specs.Packed.{cell}
+use Rattle.whole.proofs.Sums.{sum-ext, first-none, table-at}
+use Rattle.whole.proofs.Tests.{and-told}
+use Rattle.paper.specs.Ticks.{onScale}
+use Rattle.paper.specs.Refusals.{Outcome, refused, done, when, then, after}
+use Rattle.paper.specs.Cards.{nodes}
+use Rattle.paper.specs.Judge.{judged}
+use Rattle.paper.specs.Building.{Slices}
+use Rattle.paper.specs.Lent.{foreign}
+use Rattle.paper.specs.Step.{Board, boardOf, A′, rightSide, residual, residuals, rowBound, warmed, forwardFrom, backFrom, addFrom, correct, unsettled, Settling, settled, unless, attempts, stepped, offScale}
+use Rattle.paper.specs.Calls.{front, roomy, endsStep, onwards, stepOutcome, stepCall}
+use Rattle.paper.specs.declared.Refusal.the-variants.{Short, Foreign, OffScale, Unsettled}
+use Rattle.paper.specs.declared.Stepped.{Stepped}
+use Rattle.paper.specs.declared.Stepped.the-variants.{Settled, Refused}
+use Rattle.paper.proofs.Outcomes.{after-done, when-done, done-inj, Ends, ends-all, ends-map, when-ends, then-ends, then-done}
+
+abbrev pub Within : Board → List ℤ → Type 0
+Within b t = (i : ℕ) → i < b .n → natAbs (residual b t i) ≤ rowBound (b .a) (b .fixed) (b .n) i
+
+-- no row is left
+pub all-within : (b : Board) (t : List ℤ) → unsettled b (residuals b t) ≡ 0 → Within b t
+unfolding residuals unsettled
+all-within b t e i h =
+    let f = first-none (b .n) 0 (λ k. not (leb (natAbs (cell (residuals b t) k)) (rowBound (b .a) (b .fixed) (b .n) k))) e i (omega arith) (omega arith) in
+    subst (λ (z : ℤ). natAbs z ≤ rowBound (b .a) (b .fixed) (b .n) i) (table-at (b .n) i (residual b t) h) (leb-true _ _ (not-false _ f))
+
+-- ---- a correction keeps the number of temperatures
+
+add-long : (x : List ℤ) (k i : ℕ) (t : List ℤ) → Ends (λ u. length u ≡ length t) (addFrom x k i t)
+unfolding addFrom
+add-long x zero i t = refl
+add-long x (suc k) i t =
+    when-ends (λ u. length u ≡ length t) (onScale (warmed x t i)) (OffScale (suc i)) (addFrom x k (suc i) (set t i (warmed x t i)))
+    (λ _. ends-map (λ u. length u ≡ length (set t i (warmed x t i))) (λ u. length u ≡ length t) (addFrom x k (suc i) (set t i (warmed x t i))) (λ u e. e ∙ length-set t i (warmed x t i)) (add-long x k (suc i) (set t i (warmed x t i))))
+
+correct-long : (l : List ℤ) (n : ℕ) (t r : List ℤ) → Ends (λ u. length u ≡ length t) (correct l n t r)
+unfolding correct
+correct-long l n t r =
+    then-ends (λ _. Unit {0}) (λ u. length u ≡ length t) (forwardFrom l n 0 r) _ (ends-all (forwardFrom l n 0 r))
+    (λ y _. then-ends (λ _. Unit {0}) (λ u. length u ≡ length t) (backFrom l n n y) _ (ends-all (backFrom l n n y)) (λ x _. add-long x n 0 t))
+
+-- ---- the corrections
+
+pub record Settles (b : Board) (c₀ k : ℕ) (t : List ℤ) (s : Settling) : Type 0 where
+  pub within : Within b (s .temperatures)
+  pub least : c₀ ≤ s .corrections
+  pub most : s .corrections ≤ c₀ + k
+  pub long : length (s .temperatures) ≡ length t
+
+-- settled at once, or what the rest says
+at-once : (b : Board) (k c : ℕ) (t u : List ℤ) (s : Settling) (row : ℕ) (again : ℕ → Outcome Settling) → length u ≡ length t → unsettled b (residuals b u) ≡ row
+    → ((m : ℕ) → again m ≡ done s → Settles b c k t s) → unless row (settled c u) again ≡ done s → Settles b c k t s
+at-once b k c t u s zero again g q f e =
+    let z : record { corrections = c; temperatures = u } ≡ s = done-inj e in
+    subst (Settles b c k t) z (record { within = all-within b u q; least = omega arith; most = omega arith; long = g })
+at-once b k c t u s (suc row) again g q f e = f (suc row) e
+
+pub attempts-settle : (b : Board) (l : List ℤ) (k c : ℕ) (t r : List ℤ) (s : Settling) → attempts b l k c t r ≡ done s → Settles b c k t s
+unfolding attempts
+attempts-settle b l zero c t r s e =
+    let (u, _, g, h) = then-done (λ u. length u ≡ length t) (correct l (b .n) t r) _ s (correct-long l (b .n) t r) e in
+    at-once b 0 c t u s (unsettled b (residuals b u)) (λ row. refused (Unsettled row)) h refl (λ m q. absurd (let z : _≡_ {A = ℕ} 0 1 = cc in omega arith)) g
+attempts-settle b l (suc k) c t r s e =
+    let (u, _, g, h) = then-done (λ u. length u ≡ length t) (correct l (b .n) t r) _ s (correct-long l (b .n) t r) e in
+    at-once b (suc k) c t u s (unsettled b (residuals b u)) (λ row. attempts b l k (suc c) u (residuals b u)) h refl
+    (λ m q. let w = attempts-settle b l k (suc c) u (residuals b u) s q in record { within = w .within; least = omega (arith, w .least); most = omega (arith, w .most); long = w .long ∙ h }) g
+
+-- ---- the call
+
+-- a residual looks at the first n temperatures only
+residual-front : (b : Board) (t u : List ℤ) (i : ℕ) → ((j : ℕ) → j < b .n → cell t j ≡ cell u j) → residual b t i ≡ residual b u i
+unfolding residual
+residual-front b t u i h = ap (λ (z : ℤ). rightSide b i -ℤ z) (sum-ext (b .n) (λ j. A′ (b .a) (b .fixed) i j *ℤ cell t j) (λ j. A′ (b .a) (b .fixed) i j *ℤ cell u j) (λ j l. ap (λ (z : ℤ). A′ (b .a) (b .fixed) i j *ℤ z) (h j l)))
+
+on-told : (node : ℕ) (o : Outcome Settling) (s : Settling) → onwards node o ≡ done s → o ≡ done s
+on-told zero o s e = e
+on-told (suc node) o s e = absurd (let z : _≡_ {A = ℕ} 0 1 = cc in omega arith)
+
+pub record Accepted (b : Board) (c : ℕ) (new : List ℤ) : Type 0 where
+  pub within : Within b new
+  pub least : 1 ≤ c
+  pub most : c ≤ 4
+
+-- the board of a step of lent slices
+abbrev pub boardAt : List ℕ → Slices → List ℤ → Board
+boardAt t s old = boardOf t (front t (s .p)) (front t (s .a)) (take (nodes t) old)
+
+module _ (t : List ℕ) (s : Slices) (old : List ℤ) where
+  -- the corrections of an accepted step, and room for the temperatures
+  record Made (o : Settling) : Type 0 where
+    settles : Settles (boardAt t s old) 1 3 (take (nodes t) old) o
+    room : nodes t ≤ length old
+
+  made : (o : Settling) → stepOutcome t s old ≡ done o → Made o
+  unfolding stepOutcome stepped boardOf
+  made o e =
+      let (_, e₁) = after-done (judged t) _ o e in
+      let (r, e₂) = when-done (roomy t (s .p) && roomy t (s .a) && roomy t (s .factor) && leb (nodes t) (length old)) Short _ o e₁ in
+      let (_, e₃) = when-done (not (foreign (nodes t) (record { p = front t (s .p); a = front t (s .a); factor = front t (s .factor) }))) Foreign _ o e₂ in
+      let e₄ = on-told (offScale (nodes t) old) _ o e₃ in
+      let (_, n) = and-told (roomy t (s .p) && roomy t (s .a) && roomy t (s .factor)) (leb (nodes t) (length old)) r in
+      record {
+        settles = attempts-settle (boardAt t s old) (front t (s .factor)) 3 1 (take (nodes t) old) (residuals (boardAt t s old) (take (nodes t) old)) o e₄;
+        room = leb-true (nodes t) (length old) n;
+      }
+
+  front-same : (o : Settling) → Made o → (j : ℕ) → j < nodes t → cell (o .temperatures) j ≡ cell (o .temperatures ++ drop (nodes t) old) j
+  front-same o m j h =
+      sym (List·getD-append (o .temperatures) (drop (nodes t) old) (pos 0) j (omega (arith, m .settles .long, length-take-le (nodes t) old (m .room))))
+
+  -- THEOREM. An accepted step leaves every node's residual within its row's bound.
+  pub accepted : (c : ℕ) → stepCall t s old .answer ≡ Settled c → Accepted (boardAt t s old) c (stepCall t s old .temperatures)
+  unfolding stepCall boardOf
+  accepted c e = go (stepOutcome t s old) refl e
+    where
+      go : (o : Outcome Settling) → stepOutcome t s old ≡ o → endsStep (nodes t) old o .answer ≡ Settled c → Accepted (boardAt t s old) c (endsStep (nodes t) old o .temperatures)
+      go (refused r) q z = absurd (let x : _≡_ {A = ℕ} 0 1 = cc in omega arith)
+      go (done o) q z =
+          let m = made o q in
+          let w = m .settles in
+          let k : o .corrections ≡ c = cc in
+          record {
+            within = λ i h. subst (λ (x : ℤ). natAbs x ≤ rowBound (boardAt t s old .a) (boardAt t s old .fixed) (boardAt t s old .n) i) (residual-front (boardAt t s old) (o .temperatures) (o .temperatures ++ drop (nodes t) old) i (front-same o m)) (w .within i h);
+            least = omega (arith, w .least);
+            most = omega (arith, w .most);
+          }
