@@ -4,3 +4,4 @@ pub mod Outcomes
 pub mod Decks
 pub mod Matrices
 pub mod Replacing
+pub mod Step
