@@ -1,4 +1,5 @@
 // Build and replace.
+mod card;
 use paper::Answer;
 use paper::Element;
 use paper::Material;
