@@ -132,8 +132,17 @@ module _ (t : List ℕ) (z : Lent) where
             let long-f : length f ≡ long t = ends-done (Kept 0 x) (rowsFrom (nodes t) 0 x) f (rows-keep 0 (nodes t) 0 x (omega arith)) e .long ∙ length-lower (nodes t) (cleared (fixed t) (A t)) in
             rw (ok, room, sound, e, length-lower (nodes t) (P t), length-lower (nodes t) (A t), long-f, length-replicate (long t) (pos 0))
         ended (refused r) e =
-            rw (ok, room, sound, e, inside-told (factorOf t) r (rows-inside (nodes t) 0 (lower (nodes t) (cleared (fixed t) (A t)))) e, length-replicate (long t) (pos 0),
-              take-append-drop (long t) (z .p), take-append-drop (long t) (z .a), take-append-drop (long t) (z .factor))
+            rw (
+              ok,
+              room,
+              sound,
+              e,
+              inside-told (factorOf t) r (rows-inside (nodes t) 0 (lower (nodes t) (cleared (fixed t) (A t)))) e,
+              length-replicate (long t) (pos 0),
+              take-append-drop (long t) (z .p),
+              take-append-drop (long t) (z .a),
+              take-append-drop (long t) (z .factor),
+            )
 
 -- the parts lent to the last stage, k long, and what it left in them
 pub built-told : (t : List ℕ) (z : Lent) (k : ℕ) {r : Answer} {p a f w : List ℤ} → judged t ≡ Done → enough t z ≡ true → elementsFrom (elements t) 1 t ≡ Done → k ≡ long t
@@ -205,5 +214,17 @@ module _ (t : List ℕ) (z : Lent) (card : ℕ) (new : List ℕ) where
               redone-ended (done f) e l =
                   rw (ok, fit, room, tame, stir, sound, e, length-lower, length-lower, l, length-replicate (long t) (pos 0))
               redone-ended (refused r) e l =
-                  rw (ok, fit, room, tame, stir, sound, e, inside-told _ r (rows-inside _ _ _) e, length-replicate (long t) (pos 0),
-                    take-append-drop (long t) (z .p), take-append-drop (long t) (z .a), take-append-drop (long t) (z .factor))
+                  rw (
+                    ok,
+                    fit,
+                    room,
+                    tame,
+                    stir,
+                    sound,
+                    e,
+                    inside-told _ r (rows-inside _ _ _) e,
+                    length-replicate (long t) (pos 0),
+                    take-append-drop (long t) (z .p),
+                    take-append-drop (long t) (z .a),
+                    take-append-drop (long t) (z .factor),
+                  )

@@ -1,3 +1,4 @@
+pub mod Forming
 pub mod Leaving
 pub mod Moving
 pub mod Redoing

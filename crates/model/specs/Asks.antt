@@ -1,6 +1,6 @@
 -- What the stages of build and replace ask of, and say to, each other. Slices here are of the matrix length.
 use mathlib.Core.Path.{_≡_}
-use mathlib.Core.Bool.{false}
+use mathlib.Core.Bool.{true, false}
 use mathlib.Core.List.{List, _++_}
 use Prim.Native.Nat.{ℕ, _-_}
 use lib.IntN.{ℤ, pos}
@@ -11,7 +11,7 @@ use Rattle.paper.specs.Cards.{nodes, put}
 use Rattle.paper.specs.Matrices.{P, A, addsP, addsA, fixed, cleared}
 use Rattle.paper.specs.Factor.{rowsFrom}
 use Rattle.paper.specs.Triangle.{elementJudged}
-use Rattle.paper.specs.Replacing.{elementOf, moved}
+use Rattle.paper.specs.Replacing.{elementOf, moved, stirs}
 use Rattle.paper.specs.Building.{Slices}
 use Rattle.paper.specs.Lent.{foreign}
 use Rattle.paper.specs.Calls.{Lent}
@@ -74,6 +74,13 @@ factorFrom t a factor row card =
 -- finished rows above row m, and what stands below them
 abbrev pub laid : ℕ → List ℤ → List ℤ → List ℤ
 laid m factor xs = take (tri m) factor ++ drop (tri m) xs
+
+-- a card that may stand for the E or F card in a row of an accepted deck
+pub record Stirring (t : List ℕ) (row : ℕ) (card : List ℕ) : Type 0 where
+  pub deck : Deck t
+  pub change : Change t row card
+  pub deck′ : Deck (put t row card)
+  pub stir : stirs t row ≡ true
 
 -- what it asks of slices of the matrix length: an accepted deck and card, numbers that pass refusal 10, a new form that passes 5 and 6
 pub record Redoes (t : List ℕ) (row : ℕ) (card : List ℕ) (p a f w : List ℤ) : Type 0 where

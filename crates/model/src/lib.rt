@@ -1,5 +1,7 @@
 // Build and replace.
 mod card;
+mod form;
+
 use paper::Answer;
 use paper::Element;
 use paper::Material;
@@ -85,7 +87,13 @@ fn room(table: &[u32], p: &[i64], a: &[i64], factor: &[i64], work: &[i64]) -> bo
     k <= work.len()
 }
 
-pub fn build(table: &[u32], p: &mut [i64], a: &mut [i64], factor: &mut [i64], work: &mut [i64]) -> Answer
+pub fn build(
+    table: &[u32],
+    p: &mut [i64],
+    a: &mut [i64],
+    factor: &mut [i64],
+    work: &mut [i64],
+) -> Answer
     ensures { λ r. ⌜ r ≡ buildCall (now (table .entry)) (lent (now (p .entry)) (now (a .entry)) (now (factor .entry)) (now (work .entry))) .answer ⌝ }
     ensures { λ r. ⌜ now (p .exit) ≡ buildCall (now (table .entry)) (lent (now (p .entry)) (now (a .entry)) (now (factor .entry)) (now (work .entry))) .lent .p ⌝ }
     ensures { λ r. ⌜ now (a .exit) ≡ buildCall (now (table .entry)) (lent (now (p .entry)) (now (a .entry)) (now (factor .entry)) (now (work .entry))) .lent .a ⌝ }
@@ -102,5 +110,11 @@ pub fn build(table: &[u32], p: &mut [i64], a: &mut [i64], factor: &mut [i64], wo
         return Answer::Refused(r);
     }
     let k = packed::start(element::nodes(table));
-    made(table, &mut p[0..k], &mut a[0..k], &mut factor[0..k], &mut work[0..k])
+    made(
+        table,
+        &mut p[0..k],
+        &mut a[0..k],
+        &mut factor[0..k],
+        &mut work[0..k],
+    )
 }

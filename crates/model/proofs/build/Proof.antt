@@ -9,7 +9,6 @@ use Rattle.element.proofs.nodes.Reads as nodes-reads
 use Rattle.model.proofs.made.Reads as made-reads
 use Rattle.model.proofs.room.Reads as room-reads
 use Rattle.packed.proofs.start.Reads as start-reads
-
 -- src/lib.rt:94:33
 use mathlib.Core.Path.{_≡_, sym, ap, subst, _∙_}
 use native.Mathlib.Omega.{arith}
@@ -154,9 +153,10 @@ part-made-end-4 c = omega (arith, c .before .before .before .start .ensures, ap 
 made-requires : tie.Need-made-requires
 made-requires c κs =
     let t = c .before .before .before .before .before .before .before .before .before .before .before .before .before .before .before .before .before .before .before .args .table .now in
-    let z = lent (c .before .before .before .before .before .before .before .before .before .before .before .before .before .before .before .before .before .before .before .args .p .now) (c .before .before .before .before .before .before .before .before .before .before .before .before .before .before .before .before .before .before .before .args .a .now) (c .before .before .before .before .before .before .before .before .before .before .before .before .before .before .before .before .before .before .before .args .factor .now) (c .before .before .before .before .before .before .before .before .before .before .before .before .before .before .before .before .before .before .before .args .work .now) in
-    (record { deck = deck t (sym (c .before .before .before .before .before .before .before .before .before .before .before .before .before .before .before .before .before .judge .ensures) ∙ c .before .before .before .before .before .before .before .before .before .before .before .before .before .before .before .enum-told .given .1); passed = sym (c .before .before .before .before .before .before .before .before .judge-elements .ensures) ∙ c .before .before .before .before .before .before .enum-told2 .given .1 },
-    lengths t z (c .before .before .before .before .start .result) (c .before .before .before .before .start .ensures ∙ ap tri (c .before .before .before .before .before .nodes .ensures)) (roomy-told t z (sym (c .before .before .before .before .before .before .before .before .before .before .room .ensures) ∙ not-false _ (c .before .before .before .before .before .before .before .before .before .if1 .left))))
+    let z = lent (c .before .before .before .before .before .before .before .before .before .before .before .before .before .before .before .before .before .before .before .args .p .now) (c .before .before .before .before .before .before .before .before .before .before .before .before .before .before .before .before .before .before .before .args .a .now) (c .before .before .before .before .before .before .before .before .before .before .before .before .before .before .before .before .before .before .before .args .factor .now) (c .before .before .before .before .before .before .before .before .before .before .before .before .before .before .before .before .before .before .before .args .work .now) in (
+      record { deck = deck t (sym (c .before .before .before .before .before .before .before .before .before .before .before .before .before .before .before .before .before .judge .ensures) ∙ c .before .before .before .before .before .before .before .before .before .before .before .before .before .before .before .enum-told .given .1); passed = sym (c .before .before .before .before .before .before .before .before .judge-elements .ensures) ∙ c .before .before .before .before .before .before .enum-told2 .given .1 },
+      lengths t z (c .before .before .before .before .start .result) (c .before .before .before .before .start .ensures ∙ ap tri (c .before .before .before .before .before .nodes .ensures)) (roomy-told t z (sym (c .before .before .before .before .before .before .before .before .before .before .room .ensures) ∙ not-false _ (c .before .before .before .before .before .before .before .before .before .if1 .left))),
+    )
 
 -- src/lib.rt:87:1
 same-length-9 : tie.Need-same-length-9

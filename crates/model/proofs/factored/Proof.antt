@@ -7,7 +7,6 @@ use Rattle.element.proofs.nodes.Reads as nodes-reads
 use Rattle.factor.proofs.factor.Reads as factor-reads
 use Rattle.model.proofs.prepare.Reads as prepare-reads
 use Rattle.packed.proofs.zero.Reads as zero-reads
-
 -- src/lib.rt:35:5
 use mathlib.Core.Path.{_≡_, sym, ap, subst, _∙_}
 use mathlib.Core.List.{List}

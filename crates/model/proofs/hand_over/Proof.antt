@@ -5,7 +5,6 @@ use Rattle.model.proofs.hand_over.Reads as reads
 use Rattle.model.proofs.hand_over.Lts as lts
 use Rattle.packed.proofs.copy.Reads as copy-reads
 use Rattle.packed.proofs.zero.Reads as zero-reads
-
 -- src/lib.rt:49:18
 use mathlib.Core.Path.{_∙_}
 use lib.ListN.{length-drop}

@@ -6,7 +6,6 @@ use Rattle.model.proofs.made.Lts as lts
 use Rattle.model.proofs.factored.Reads as factored-reads
 use Rattle.model.proofs.hand_over.Reads as hand-over-reads
 use Rattle.packed.proofs.assemble.Reads as assemble-reads
-
 -- src/lib.rt:58:33
 use mathlib.Core.Path.{subst, _∙_}
 use Rattle.whole.specs.Packed.{tri}

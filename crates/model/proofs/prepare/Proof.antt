@@ -5,7 +5,6 @@ use Rattle.model.proofs.prepare.Reads as reads
 use Rattle.model.proofs.prepare.Lts as lts
 use Rattle.packed.proofs.assemble_a.Reads as assemble-a-reads
 use Rattle.packed.proofs.clear_fixed.Reads as clear-fixed-reads
-
 -- src/lib.rt:26:5
 use mathlib.Core.Path.{_∙_}
 use Rattle.paper.specs.Cards.{nodes}

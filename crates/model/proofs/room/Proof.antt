@@ -5,7 +5,6 @@ use Rattle.model.proofs.room.Reads as reads
 use Rattle.model.proofs.room.Lts as lts
 use Rattle.element.proofs.nodes.Reads as nodes-reads
 use Rattle.packed.proofs.start.Reads as start-reads
-
 -- src/lib.rt:74:27
 use mathlib.Core.Path.{ap, _∙_}
 use Rattle.whole.specs.Packed.{tri}

@@ -8,7 +8,6 @@ use Rattle.element.proofs.triangle_at.Reads as triangle-at-reads
 use Rattle.packed.proofs.add_square.Reads as add-square-reads
 use Rattle.triangle.proofs.capacity_square.Reads as capacity-square-reads
 use Rattle.triangle.proofs.element_square.Reads as element-square-reads
-
 -- src/lib.rt:162:9
 use mathlib.Core.Path.{ap, sym, subst, _∙_}
 use Prim.Native.Nat.{_≤_}
@@ -75,15 +74,16 @@ same-length-2 c = search needs
 -- src/lib.rt:157:1
 returns : tie.Need-returns
 unfolding paper.triangleAt
-returns c =
-    (p-gives (c .before .before .before .before .before .before .before .before .before .before .before .before .before .args .table .now) (c .before .before .before .before .before .before .before .before .before .before .before .before .before .args .row) (c .before .before .before .before .before .before .before .before .before .before .before .before .before .args .p .now) (c .before .before .before .before .before .before .before .before .before .before .before .before .before .pre .0) (c .before .before .before .before .before .before .before .before .before .before .before .triangle-at .result .shape .corners) (c .before .before .before .before .before .before .before .before .before .capacity-square .result) (c .before .before .before .before .before .before .before .before .before .before .before .before .before .pre .2)
-    (ap (λ (x : paper.Triangle). x .shape .corners) (c .before .before .before .before .before .before .before .before .before .before .before .triangle-at .ensures))
-    (c .before .before .before .before .before .before .before .before .before .capacity-square .ensures ∙ (λ d. squareOf (paper.mass (paper.u (c .before .before .before .before .before .before .before .before .before .before .field .ensures d) (c .before .before .before .before .before .before .before .before .before .before .before .triangle-at .ensures d)))))
-    (c .before .before .before .before .add-square .ensures),
-    e-gives (c .before .before .before .before .before .before .before .before .before .before .before .before .before .args .table .now) (c .before .before .before .before .before .before .before .before .before .before .before .before .before .args .row) (c .before .before .before .before .before .before .before .before .before .before .before .before .before .args .a .now) (c .before .before .before .before .before .before .before .before .before .before .before .before .before .pre .1) (c .before .before .before .before .before .before .before .before .before .before .before .triangle-at .result .shape .corners) (c .before .before .before .before .before .before .before .before .element-square .result) (c .before .before .before .before .before .before .before .before .before .before .before .before .before .pre .2)
-    (ap (λ (x : paper.Triangle). x .shape .corners) (c .before .before .before .before .before .before .before .before .before .before .before .triangle-at .ensures))
-    (c .before .before .before .before .before .before .before .before .element-square .ensures ∙ (λ d. squareOf (stiff (c .before .before .before .before .before .before .before .before .before .before .field .ensures d) (c .before .before .before .before .before .before .before .before .before .before .before .triangle-at .ensures d))))
-    (c .before .add-square2 .ensures))
+returns c = (
+  p-gives (c .before .before .before .before .before .before .before .before .before .before .before .before .before .args .table .now) (c .before .before .before .before .before .before .before .before .before .before .before .before .before .args .row) (c .before .before .before .before .before .before .before .before .before .before .before .before .before .args .p .now) (c .before .before .before .before .before .before .before .before .before .before .before .before .before .pre .0) (c .before .before .before .before .before .before .before .before .before .before .before .triangle-at .result .shape .corners) (c .before .before .before .before .before .before .before .before .before .capacity-square .result) (c .before .before .before .before .before .before .before .before .before .before .before .before .before .pre .2)
+      (ap (λ (x : paper.Triangle). x .shape .corners) (c .before .before .before .before .before .before .before .before .before .before .before .triangle-at .ensures))
+      (c .before .before .before .before .before .before .before .before .before .capacity-square .ensures ∙ (λ d. squareOf (paper.mass (paper.u (c .before .before .before .before .before .before .before .before .before .before .field .ensures d) (c .before .before .before .before .before .before .before .before .before .before .before .triangle-at .ensures d)))))
+      (c .before .before .before .before .add-square .ensures),
+  e-gives (c .before .before .before .before .before .before .before .before .before .before .before .before .before .args .table .now) (c .before .before .before .before .before .before .before .before .before .before .before .before .before .args .row) (c .before .before .before .before .before .before .before .before .before .before .before .before .before .args .a .now) (c .before .before .before .before .before .before .before .before .before .before .before .before .before .pre .1) (c .before .before .before .before .before .before .before .before .before .before .before .triangle-at .result .shape .corners) (c .before .before .before .before .before .before .before .before .element-square .result) (c .before .before .before .before .before .before .before .before .before .before .before .before .before .pre .2)
+      (ap (λ (x : paper.Triangle). x .shape .corners) (c .before .before .before .before .before .before .before .before .before .before .before .triangle-at .ensures))
+      (c .before .before .before .before .before .before .before .before .element-square .ensures ∙ (λ d. squareOf (stiff (c .before .before .before .before .before .before .before .before .before .before .field .ensures d) (c .before .before .before .before .before .before .before .before .before .before .before .triangle-at .ensures d))))
+      (c .before .add-square2 .ensures),
+)
 
 pub add-both-spec : {M : Type 1} → statement M
 add-both-spec =

@@ -6,7 +6,6 @@ use Rattle.packed.proofs.add_card.Lts as lts
 use Rattle.element.proofs.field.Reads as field-reads
 use Rattle.packed.proofs.add_both.Reads as add-both-reads
 use Rattle.packed.proofs.add_film.Reads as add-film-reads
-
 -- src/lib.rt:178:9
 use mathlib.Core.Path.{_∙_}
 use Rattle.paper.specs.Cards.{nodes}
@@ -52,9 +51,10 @@ returns-2 c =
 returns-3 : tie.Need-returns-3
 returns-3 c =
     let t = c .before .before .before .before .args .table .now in
-    let row = c .before .before .before .before .args .row in
-    (unchanged (nodes t) (c .before .before .before .before .args .p .now) (addsP t row) (c .before .before .before .before .pre .0 .long) (λ i j. other-adds-P t row i j (λ e. c .before .if1 .left (c .before .before .field .ensures ∙ e))),
-    unchanged (nodes t) (c .before .before .before .before .args .a .now) (addsA t row) (c .before .before .before .before .pre .1 .long) (λ i j. other-adds-A t row i j (λ e. c .before .if1 .left (c .before .before .field .ensures ∙ e)) (λ e. c .if2 .left (c .before .before .field .ensures ∙ e))))
+    let row = c .before .before .before .before .args .row in (
+      unchanged (nodes t) (c .before .before .before .before .args .p .now) (addsP t row) (c .before .before .before .before .pre .0 .long) (λ i j. other-adds-P t row i j (λ e. c .before .if1 .left (c .before .before .field .ensures ∙ e))),
+      unchanged (nodes t) (c .before .before .before .before .args .a .now) (addsA t row) (c .before .before .before .before .pre .1 .long) (λ i j. other-adds-A t row i j (λ e. c .before .if1 .left (c .before .before .field .ensures ∙ e)) (λ e. c .if2 .left (c .before .before .field .ensures ∙ e))),
+    )
 
 pub add-card-spec : {M : Type 1} → statement M
 add-card-spec =

@@ -4,7 +4,6 @@ use Rattle.packed.proofs.assemble.Reads as reads
 use Rattle.packed.proofs.assemble.Lts as lts
 use Rattle.packed.proofs.add_card.Reads as add-card-reads
 use Rattle.packed.proofs.zero.Reads as zero-reads
-
 use borrow.Author.Needs.{needs}
 use mathlib.Core.Path.{_≡_, sym, ap, _∙_}
 use Prim.Native.Nat.{_-_, _≤_}
@@ -43,9 +42,10 @@ mul-loop c = omega (arith, c .loop .inv .0, c .before .before .before .before .b
 -- src/lib.rt:198:9
 add-card-requires : tie.Need-add-card-requires Inv-loop μ-loop
 add-card-requires c κs =
-    let t = c .before .before .before .before .before .before .before .before .before .before .before .args .table .now in
-    (walk-card t (addsP t) (c .before .before .before .loop .row) (c .before .before .before .loop .p) (c .before .before .before .before .before .before .before .before .before .before .before .pre .0) (omega (arith, c .before .before .before .before .before .before .before .before .before .before .before .pre .0 .deck .whole)) (c .before .before .before .loop .inv .1) (λ i j. part-P t (c .before .before .before .before .before .before .before .before .before .before .before .pre .0 .deck) (c .before .before .before .before .before .before .before .before .before .before .before .pre .0 .passed) (c .before .before .before .loop .row) i j (c .before .before .before .loop .inv .0)),
-    walk-card t (addsA t) (c .before .before .before .loop .row) (c .before .before .before .loop .a) (c .before .before .before .before .before .before .before .before .before .before .before .pre .0) (omega (arith, c .before .before .before .before .before .before .before .before .before .before .before .pre .0 .deck .whole)) (c .before .before .before .loop .inv .2) (λ i j. part-A t (c .before .before .before .before .before .before .before .before .before .before .before .pre .0 .deck) (c .before .before .before .before .before .before .before .before .before .before .before .pre .0 .passed) (c .before .before .before .loop .row) i j (c .before .before .before .loop .inv .0)))
+    let t = c .before .before .before .before .before .before .before .before .before .before .before .args .table .now in (
+      walk-card t (addsP t) (c .before .before .before .loop .row) (c .before .before .before .loop .p) (c .before .before .before .before .before .before .before .before .before .before .before .pre .0) (omega (arith, c .before .before .before .before .before .before .before .before .before .before .before .pre .0 .deck .whole)) (c .before .before .before .loop .inv .1) (λ i j. part-P t (c .before .before .before .before .before .before .before .before .before .before .before .pre .0 .deck) (c .before .before .before .before .before .before .before .before .before .before .before .pre .0 .passed) (c .before .before .before .loop .row) i j (c .before .before .before .loop .inv .0)),
+      walk-card t (addsA t) (c .before .before .before .loop .row) (c .before .before .before .loop .a) (c .before .before .before .before .before .before .before .before .before .before .before .pre .0) (omega (arith, c .before .before .before .before .before .before .before .before .before .before .before .pre .0 .deck .whole)) (c .before .before .before .loop .inv .2) (λ i j. part-A t (c .before .before .before .before .before .before .before .before .before .before .before .pre .0 .deck) (c .before .before .before .before .before .before .before .before .before .before .before .pre .0 .passed) (c .before .before .before .loop .row) i j (c .before .before .before .loop .inv .0)),
+    )
 
 -- src/lib.rt:199:9
 add-row : tie.Need-add-row Inv-loop μ-loop
@@ -58,10 +58,11 @@ loop-less c = omega (arith, c .before .before .before .before .before .before .b
 -- src/lib.rt:197:5
 loop-again : tie.Need-loop-again Inv-loop μ-loop
 loop-again c =
-    let t = c .before .before .before .before .before .before .before .before .before .before .before .before .before .before .args .table .now in
-    (omega (arith, c .before .before .before .before .before .before .before .before .before .before .before .before .before .before .pre .0 .deck .whole),
-    walk-more (nodes t) (c .before .before .before .before .before .before .loop .row) (addsP t) (c .before .before .before .before .before .before .loop .p) (c .before .before .add-card .last .1 .1 .0) (c .before .before .before .before .before .before .loop .inv .1) (c .before .before .add-card .ensures .0),
-    walk-more (nodes t) (c .before .before .before .before .before .before .loop .row) (addsA t) (c .before .before .before .before .before .before .loop .a) (c .before .before .add-card .last .1 .1 .1 .0) (c .before .before .before .before .before .before .loop .inv .2) (c .before .before .add-card .ensures .1))
+    let t = c .before .before .before .before .before .before .before .before .before .before .before .before .before .before .args .table .now in (
+      omega (arith, c .before .before .before .before .before .before .before .before .before .before .before .before .before .before .pre .0 .deck .whole),
+      walk-more (nodes t) (c .before .before .before .before .before .before .loop .row) (addsP t) (c .before .before .before .before .before .before .loop .p) (c .before .before .add-card .last .1 .1 .0) (c .before .before .before .before .before .before .loop .inv .1) (c .before .before .add-card .ensures .0),
+      walk-more (nodes t) (c .before .before .before .before .before .before .loop .row) (addsA t) (c .before .before .before .before .before .before .loop .a) (c .before .before .add-card .last .1 .1 .1 .0) (c .before .before .before .before .before .before .loop .inv .2) (c .before .before .add-card .ensures .1),
+    )
 
 -- src/lib.rt:189:1
 same-length : tie.Need-same-length Inv-loop μ-loop
