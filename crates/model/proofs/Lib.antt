@@ -1,3 +1,5 @@
+pub mod Changing
+pub mod Editing
 pub mod Forming
 pub mod Leaving
 pub mod Moving
