@@ -172,7 +172,7 @@ fn stirred(
     )
 }
 
-// A card whose replacement is accepted, but for its element and the factor.
+// A new card, its deck and slices judged: H and T change the card alone.
 fn changed(
     table: &mut [u32],
     p: &mut [i64],
