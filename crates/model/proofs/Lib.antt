@@ -1,3 +1,6 @@
+pub mod Changing
+pub mod Editing
+pub mod Forming
 pub mod Leaving
 pub mod Moving
 pub mod Redoing

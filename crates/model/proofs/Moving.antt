@@ -23,7 +23,7 @@ module _ (t : List ℕ) (row : ℕ) (card : List ℕ) (d : Deck t) (g : Change t
   still : (k : Is E t row) → Is E (put t row card) row
   still e = letter-same t row card d g row ∙ e
 
-  inside′ : row < rows (put t row card)
+  pub inside′ : row < rows (put t row card)
   inside′ = omega (arith, rows-same t row card d g, g .inside)
 
   -- the new card's material is one of the deck's, and its row is as it was

@@ -1,22 +1,27 @@
 // Build and replace.
+mod card;
+mod edit;
+mod form;
+mod redo;
+
 use paper::Answer;
-use paper::Element;
-use paper::Material;
-use paper::Node;
 use paper::Refusal;
 ghost use mathlib.Core.Path.{_≡_};
-ghost use mathlib.Core.List.{List, _++_};
-ghost use Prim.Native.Nat.{ℕ, _+_, _-_, _*_, _≤_, _<_};
-ghost use lib.IntN.{ℤ, pos, _+ℤ_};
-ghost use lib.ListN.{length, replicate, take, drop};
+ghost use mathlib.Core.Bool.{true, _||_};
+ghost use Prim.Native.Nat.{_-_, _≤_, _<_};
+ghost use lib.Dec.{eqb};
+ghost use lib.IntN.{pos};
+ghost use lib.ListN.{length, replicate, drop};
 ghost use Rattle.whole.specs.Packed.{tri, lower, entry};
-ghost use Rattle.paper.specs.Cards.{nodes, put};
-ghost use Rattle.paper.specs.Matrices.{fixed, cleared, spread};
+ghost use Rattle.paper.specs.Cards.{letterOf, nodes};
+ghost use Rattle.paper.specs.Matrices.{fixed, cleared};
 ghost use Rattle.paper.specs.Matrices as matrices;
-ghost use Rattle.paper.specs.Calls.{enough, buildCall};
+ghost use Rattle.paper.specs.Calls.{enough, buildCall, replaceCall};
+ghost use Rattle.paper.specs.Replacing.{stirs};
+ghost use Rattle.paper.specs.declared.Kind.the-variants.{E, F};
 ghost use Rattle.paper.proofs.Decks.{Deck};
 ghost use Rattle.packed.specs.Asks.{Sound};
-ghost use Rattle.model.specs.Asks.{lent, factorOf, Factored, Lengths, Built};
+ghost use Rattle.model.specs.Asks.{lent, factorOf, Factored, Lengths, Built, Changes, Stirred, Changed};
 
 // ---- build
 
@@ -113,5 +118,122 @@ pub fn build(
         &mut a[0..k],
         &mut factor[0..k],
         &mut work[0..k],
+    )
+}
+
+// ---- replace
+
+// Whether a letter is of a card whose replacement touches the matrices: E or F.
+fn stirs(letter: u32) -> bool
+    ensures { λ r. ⌜ r ≡ eqb letter (letterOf E) || eqb letter (letterOf F) ⌝ }
+{
+    letter == 69 || letter == 70
+}
+
+// An E or F card: its element's new form is judged first.
+fn stirred(
+    table: &mut [u32],
+    p: &mut [i64],
+    a: &mut [i64],
+    factor: &mut [i64],
+    work: &mut [i64],
+    row: usize,
+    new: [u32; 6],
+) -> Answer
+    requires { ⌜ Changes (now table) row new (now p) (now a) (now factor) (now work) × (stirs (now table) row ≡ true) ⌝ }
+    ensures { λ r. ⌜ Stirred (now (table .entry)) row new (now (p .entry)) (now (a .entry)) (now (factor .entry)) (now (work .entry)) r (now (table .exit)) (now (p .exit)) (now (a .exit)) (now (factor .exit)) (now (work .exit)) ⌝ }
+{
+    if let Answer::Refused(r) = form::judge_form(&table[..], row, new) {
+        return Answer::Refused(r);
+    }
+    if new[0] == 69 {
+        return redo::redo_element(
+            &mut table[..],
+            &mut p[..],
+            &mut a[..],
+            &mut factor[..],
+            &mut work[..],
+            row,
+            new,
+        );
+    }
+    redo::redo_film(
+        &mut table[..],
+        &mut p[..],
+        &mut a[..],
+        &mut factor[..],
+        &mut work[..],
+        row,
+        new,
+    )
+}
+
+// A new card, its deck and slices judged: H and T change the card alone.
+fn changed(
+    table: &mut [u32],
+    p: &mut [i64],
+    a: &mut [i64],
+    factor: &mut [i64],
+    work: &mut [i64],
+    row: usize,
+    new: [u32; 6],
+) -> Answer
+    requires { ⌜ Changes (now table) row new (now p) (now a) (now factor) (now work) ⌝ }
+    ensures { λ r. ⌜ Changed (now (table .entry)) row new (now (p .entry)) (now (a .entry)) (now (factor .entry)) (now (work .entry)) r (now (table .exit)) (now (p .exit)) (now (a .exit)) (now (factor .exit)) (now (work .exit)) ⌝ }
+{
+    if stirs(new[0]) {
+        return stirred(
+            &mut table[..],
+            &mut p[..],
+            &mut a[..],
+            &mut factor[..],
+            &mut work[..],
+            row,
+            new,
+        );
+    }
+    card::put(&mut table[..], row, new);
+    Answer::Done
+}
+
+// A card of the deck becomes another, by its number from 1; a refusal leaves table, matrices and factor as they were.
+pub fn replace(
+    table: &mut [u32],
+    p: &mut [i64],
+    a: &mut [i64],
+    factor: &mut [i64],
+    work: &mut [i64],
+    card: u32,
+    new: [u32; 6],
+) -> Answer
+    ensures { λ r. ⌜ r ≡ replaceCall (now (table .entry)) (lent (now (p .entry)) (now (a .entry)) (now (factor .entry)) (now (work .entry))) card new .answer ⌝ }
+    ensures { λ r. ⌜ now (table .exit) ≡ replaceCall (now (table .entry)) (lent (now (p .entry)) (now (a .entry)) (now (factor .entry)) (now (work .entry))) card new .table ⌝ }
+    ensures { λ r. ⌜ now (p .exit) ≡ replaceCall (now (table .entry)) (lent (now (p .entry)) (now (a .entry)) (now (factor .entry)) (now (work .entry))) card new .lent .p ⌝ }
+    ensures { λ r. ⌜ now (a .exit) ≡ replaceCall (now (table .entry)) (lent (now (p .entry)) (now (a .entry)) (now (factor .entry)) (now (work .entry))) card new .lent .a ⌝ }
+    ensures { λ r. ⌜ now (factor .exit) ≡ replaceCall (now (table .entry)) (lent (now (p .entry)) (now (a .entry)) (now (factor .entry)) (now (work .entry))) card new .lent .factor ⌝ }
+    ensures { λ r. ⌜ now (work .exit) ≡ replaceCall (now (table .entry)) (lent (now (p .entry)) (now (a .entry)) (now (factor .entry)) (now (work .entry))) card new .lent .work ⌝ }
+{
+    if let Answer::Refused(r) = cards::judge(&table[..]) {
+        return Answer::Refused(r);
+    }
+    if let Answer::Refused(r) = cards::judge_new(&table[..], card, new) {
+        return Answer::Refused(r);
+    }
+    if !room(&table[..], &p[..], &a[..], &factor[..], &work[..]) {
+        return Answer::Refused(Refusal::Short);
+    }
+    let n = element::nodes(&table[..]);
+    let k = whole::start(n);
+    if lent::foreign(&p[0..k], &a[0..k], &factor[0..k], n) {
+        return Answer::Refused(Refusal::Foreign);
+    }
+    changed(
+        &mut table[..],
+        &mut p[0..k],
+        &mut a[0..k],
+        &mut factor[0..k],
+        &mut work[0..k],
+        card as usize - 1,
+        new,
     )
 }
