@@ -404,3 +404,15 @@ pub fn judge_new(table: &[u32], card: u32, new: [u32; 6]) -> Answer
     }
     Answer::Done
 }
+
+// A card's six numbers into a row of a table.
+pub fn row_to(card: [u32; 6], out: &mut [u32])
+    requires { ⌜ length (now out) ≡ 6 ⌝ }
+    ensures { λ r. ⌜ now (out .exit) ≡ card ⌝ }
+{
+    let mut k = 0;
+    while k < 6 {
+        out[k] = card[k];
+        k += 1;
+    }
+}

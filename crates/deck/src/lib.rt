@@ -149,17 +149,6 @@ fn reads_of(s: &[u8], room: usize) -> Answer
     reads_from(s, room, z, last - back, back / 42)
 }
 
-fn row_to(card: [u32; 6], out: &mut [u32])
-    requires { ⌜ length (now out) ≡ 6 ⌝ }
-    ensures { λ r. ⌜ now (out .exit) ≡ card ⌝ }
-{
-    let mut k = 0;
-    while k < 6 {
-        out[k] = card[k];
-        k += 1;
-    }
-}
-
 // The rows of a text into the front of a table. They are read a second time here, since a refusal may write nothing.
 fn rows_to(s: &[u8], start: usize, rows: usize, table: &mut [u32])
     requires { ⌜ (start + rows * 42 ≤ length (now s)) × (rows * 6 ≤ length (now table)) × (rows < 1000) ⌝ }
@@ -171,7 +160,7 @@ fn rows_to(s: &[u8], start: usize, rows: usize, table: &mut [u32])
         let to = from + 42;
         let at = i * 6;
         let end = at + 6;
-        row_to(text::card_of(&s[from..to]), &mut table[at..end]);
+        cards::row_to(text::card_of(&s[from..to]), &mut table[at..end]);
         i += 1;
     }
 }

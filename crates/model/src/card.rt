@@ -4,22 +4,11 @@ ghost use Prim.Native.Nat.{_+_, _*_, _≤_};
 ghost use lib.ListN.{length};
 ghost use Rattle.paper.specs.Cards.{put};
 
-fn row_to(card: [u32; 6], out: &mut [u32])
-    requires { ⌜ length (now out) ≡ 6 ⌝ }
-    ensures { λ r. ⌜ now (out .exit) ≡ card ⌝ }
-{
-    let mut k = 0;
-    while k < 6 {
-        out[k] = card[k];
-        k += 1;
-    }
-}
-
 pub fn put(table: &mut [u32], row: usize, card: [u32; 6])
     requires { ⌜ row * 6 + 6 ≤ length (now table) ⌝ }
     ensures { λ _. ⌜ now (table .exit) ≡ put (now (table .entry)) row card ⌝ }
 {
     let at = row * 6;
     let end = at + 6;
-    row_to(card, &mut table[at..end]);
+    cards::row_to(card, &mut table[at..end]);
 }
