@@ -1,15 +1,14 @@
 -- The judge of a new card.
 use mathlib.Core.Path.{_≡_, refl, sym, ap, _∙_}
-use mathlib.Core.Bool.{Bool, true, false, not, cond, _&&_, _||_}
+use mathlib.Core.Bool.{Bool, true, false, _&&_, _||_}
 use mathlib.Core.List.{List}
-use Prim.Native.Nat.{ℕ, suc, _+_, _-_, _*_, _/_, _%_, _≤_, _<_}
+use Prim.Native.Nat.{ℕ, _-_, _≤_, _<_}
 use native.Mathlib.Omega.{arith}
 use borrow.Author.Tests.{eq-eqb, ne-eqb, eqb-false, lt-ltb, le-ltb, le-leb, lt-leb}
 use lib.Dec.{leb, ltb, eqb}
-use lib.ListN.{length, getD}
-use Rattle.paper.specs.Cards.{fields, inRange, kindAt, orderOf, countsOf, rowAt, rows, field}
+use lib.ListN.{getD}
+use Rattle.paper.specs.Cards.{fields, inRange, kindAt, orderOf, countsOf, rowAt, rows}
 use Rattle.paper.specs.Judge.{load, clean, answers, newJudged}
-use Rattle.paper.specs.declared.Answer.{Answer}
 use Rattle.paper.specs.declared.Answer.the-variants.{Done, Refused}
 use Rattle.paper.specs.declared.Refusal.the-variants.{Form, Range, Replacement}
 use Rattle.cards.specs.Asks.{sameKey}

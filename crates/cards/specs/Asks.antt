@@ -1,4 +1,4 @@
--- What private functions ask of each other. No reader need believe these: the public contracts speak of crate paper alone.
+-- What private functions ask of each other. No reader need believe these: public contracts speak of crate paper alone.
 use mathlib.Core.Path.{_≡_}
 use mathlib.Core.Bool.{Bool, true, not, _&&_, _||_}
 use mathlib.Core.List.{List, [], _∷_}

@@ -253,7 +253,7 @@ fn ranged_card(z: Counts, p: u32, key: u32, k: Kind, card: &[u32]) -> bool
 
 // A card of kind k that stands after i cards, the last of them of order p with this key.
 pub fn judge_card(z: Counts, i: usize, p: u32, key: u32, k: Kind, card: &[u32]) -> Answer
-    requires { ⌜ Card k (now card) × (i < 1000) ⌝ }
+    requires { ⌜ (length (now card) ≡ 6) × (k ≡ kindAt (now card)) × (i < 1000) ⌝ }
     ensures { λ r. ⌜ r ≡ judgeCard z i p key (now (card .entry)) ⌝ }
 {
     if !formed_card(z, i, p, k, card) {

@@ -32,7 +32,7 @@ fn y_at(l: &[i64], y: &[i64], i: usize, n: usize) -> i64
     requires { ⌜ (i < n) × Sound (now l) n × Forth (now y) i n ⌝ }
     ensures { λ r. ⌜ r ≡ yAt (now (l .entry)) i (now (y .entry)) ⌝ }
 {
-    whole::minus(y[i], left(l, lent::start(i), y, i))
+    whole::minus(y[i], left(l, whole::start(i), y, i))
 }
 
 // y in place of r. The row whose y passes 2^52, from 1, or 0.
@@ -61,7 +61,7 @@ fn down(l: &[i64], x: &[i64], i: usize, n: usize) -> i64
 {
     let mut sum: i64 = 0;
     let mut k = i + 1;
-    let mut at = lent::start(k) + i;
+    let mut at = whole::start(k) + i;
     while k < n {
         sum += whole::scaled_product(l[at], x[k]);
         k += 1;
@@ -82,7 +82,7 @@ fn x_at(l: &[i64], x: &[i64], i: usize, n: usize) -> i64
     requires { ⌜ (i < n) × Sound (now l) n × Back (now x) (i + 1) n ⌝ }
     ensures { λ r. ⌜ r ≡ xAt (now (l .entry)) n i (now (x .entry)) ⌝ }
 {
-    let d = l[lent::start(i) + i];
+    let d = l[whole::start(i) + i];
     whole::minus(z_of(x[i], d), down(l, x, i, n))
 }
 

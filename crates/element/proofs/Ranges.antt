@@ -4,10 +4,9 @@ use mathlib.Core.List.{List}
 use Prim.Native.Nat.{ℕ, _+_, _*_, _≤_, _<_}
 use native.Mathlib.Omega.{arith}
 use lib.ListN.{length}
-use Rattle.paper.specs.Cards.{field, rows, nodes, materials, elements, elementRow, stepOf}
+use Rattle.paper.specs.Cards.{field, rows, materials, elements, elementRow, stepOf}
 use Rattle.paper.specs.Triangle.{Shape, shapeAt, triangleAt}
-use Rattle.paper.specs.declared.Kind.the-variants.{E}
-use Rattle.paper.proofs.Decks.{Deck, In, Is}
+use Rattle.paper.proofs.Decks.{Deck, In}
 use Rattle.paper.proofs.Elements.{coordinates-in}
 use Rattle.triangle.specs.Asks.{Placed, Sized, Step}
 use Rattle.element.specs.Forms.{with}

@@ -6,7 +6,7 @@ use paper::Node;
 use triangle::Shape;
 use triangle::Triangle;
 ghost use mathlib.Core.Path.{_≡_};
-ghost use Prim.Native.Nat.{ℕ, _+_, _*_, _<_, _≤_};
+ghost use Prim.Native.Nat.{_+_, _*_, _<_, _≤_};
 ghost use lib.ListN.{length};
 ghost use Rattle.paper.specs.Cards.{field, nodes, materials, elements, materialRow, elementRow};
 ghost use Rattle.paper.specs.Triangle.{shapeAt, triangleAt, elementJudged};

@@ -1,3 +1,3 @@
--- Laws that the functions' proofs cite.
+-- What refusal 10 tells of finished rows, and a row's steps.
 pub mod Finished
-pub mod Steps
+mod Steps

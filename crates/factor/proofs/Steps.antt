@@ -1,17 +1,15 @@
 -- A row as the code goes along it: the row's numbers w stand at the front of a longer list.
-use mathlib.Core.Path.{_≡_, refl, sym, ap, _∙_}
+use mathlib.Core.Path.{_≡_, refl, ap}
 use mathlib.Core.Bool.{Bool, true, false, _&&_}
-use mathlib.Core.List.{List, [], _∷_, _++_}
-use Prim.Native.Nat.{ℕ, zero, suc, _+_, _-_, _*_, _^_, _≤_, _<_}
-use native.Mathlib.Decide.{ℕ-discrete}
+use mathlib.Core.List.{List}
+use Prim.Native.Nat.{ℕ, suc, _+_, _-_, _^_, _≤_, _<_}
 use native.Mathlib.Numerals.{add-one}
 use native.Mathlib.Omega.{arith}
 use borrow.Author.Count.{below-more}
-use borrow.Author.Tests.{leb-true}
 use lib.IntN.{ℤ, pos, natAbs, _*ℤ_, _-ℤ_}
 use lib.Signed.{leZ}
 use lib.ListN.{length, set, take, length-set}
-use lib.Seq.{getD-set-same, getD-take, take-suc-set}
+use lib.Seq.{getD-set-same, getD-set-other, getD-take, take-suc-set}
 use Rattle.whole.specs.Packed.{tri, cell}
 use Rattle.whole.proofs.Sums.{sum-ext}
 use Rattle.whole.proofs.Packed.{tri-below}
@@ -20,8 +18,8 @@ use Rattle.paper.specs.Factor.{R, small, w, l, rowFrom}
 use Rattle.paper.specs.declared.Answer.the-variants.{Done, Refused}
 use Rattle.paper.specs.declared.Refusal.{Refusal}
 use Rattle.paper.specs.declared.Refusal.the-variants.{Bound, Pivot}
-use Rattle.factor.specs.Asks.{Within, Entry, Column, Row, RowDone}
-use Rattle.factor.proofs.Finished.{low-of, pivot-of, cell-before, cell-after, rows-kept}
+use Rattle.factor.specs.Asks.{Entry, Column, Row, RowDone}
+use Rattle.paper.proofs.Finished.{fin-more}
 
 -- ---- w and l read no more than the row's numbers so far
 
@@ -59,61 +57,54 @@ end-step i xs ws = rw (w-front xs ws (tri i) i)
 
 -- ---- what a row has at column j, left of the diagonal and on it
 
-pub column-asks : (xs ws : List ℤ) (s i at j : ℕ) → at ≡ tri j → j < i → Row xs ws s i j → Column xs ws s at j
-column-asks xs ws s i at j e h row = record {
+pub column-asks : {xs ws : List ℤ} {s i at j : ℕ} → Row xs ws s i j → at ≡ tri j → j < i → Column xs ws s at j
+column-asks {xs} {s} {i} {j} row e h = record {
   entry = record {
     few = omega (arith, row .few);
     start = e;
     room = omega (arith, row .room);
     inside = omega (arith, tri-below j i h, row .room, row .start, e);
     wroom = omega (arith, row .wroom);
-    x47 = row .fresh (s + j) (omega arith);
-    ls24 = rw e (low-of xs i j (row .above) h);
+    x50 = row .fresh (s + j) (omega arith);
+    ls24 = rw e (λ k l. row .finished .lows j k h l);
     ws38 = row .ws38;
   };
   wplace = omega (arith, row .wroom);
-  pivot = rw e (pivot-of xs i j (row .above) h);
+  pivot = rw e (row .finished .diag j h .least);
 }
 
-pub end-asks : (xs ws : List ℤ) (s i : ℕ) → Row xs ws s i i → Entry xs ws s s i
-end-asks xs ws s i row = record {
+pub end-asks : {xs ws : List ℤ} {s i : ℕ} → Row xs ws s i i → Entry xs ws s s i
+end-asks {s} {i} row = record {
   few = row .few;
   start = row .start;
   room = row .room;
   inside = row .room;
   wroom = row .wroom;
-  x47 = row .fresh (s + i) (omega arith);
-  ls24 = row .ls24;
+  x50 = row .fresh (s + i) (omega arith);
+  ls24 = rw (row .start) (row .finished .row);
   ws38 = row .ws38;
 }
 
 -- ---- and when column j is done
 
-within-more : (b n : ℕ) (xs : List ℤ) (p : ℕ) (v : ℤ) → p + n < length xs → Within b n (λ k. cell xs (p + k)) → natAbs v ≤ 2 ^ b → Within b (n + 1) (λ k. cell (set xs (p + n) v) (p + k))
-within-more b n xs p v room h hv =
-    below-more (λ k. natAbs (cell (set xs (p + n) v) (p + k)) ≤ 2 ^ b) n
-    (λ k q. rw (cell-before xs (p + n) (p + k) v (omega arith)) (h k q))
-    (rw (getD-set-same xs (p + n) v (pos 0) room) hv)
-
-pub row-next : (xs ws : List ℤ) (s i j : ℕ) (u v : ℤ) → j < i → natAbs u ≤ 2 ^ 24 → natAbs v ≤ 2 ^ 38 → Row xs ws s i j → Row (set xs (s + j) u) (set ws j v) s i (j + 1)
-row-next xs ws s i j u v h hu hv row = record {
+pub row-next : {xs ws : List ℤ} {s i j : ℕ} → Row xs ws s i j → j < i → (u v : ℤ) → natAbs u ≤ 2 ^ 24 → natAbs v ≤ 2 ^ 38 → Row (set xs (s + j) u) (set ws j v) s i (j + 1)
+row-next {xs} {ws} {s} {i} {j} row h u v hu hv = record {
   few = row .few;
   start = row .start;
   upto = omega arith;
   room = rw (length-set xs (s + j) u) (row .room);
   wroom = rw (length-set ws j v) (row .wroom);
-  above = rows-kept xs i (s + j) u (omega (arith, row .start)) ∙ row .above;
-  fresh = λ q l. rw (cell-after xs (s + j) q u (omega arith)) (row .fresh q (omega arith));
-  ls24 = within-more 24 j xs s u (omega (arith, row .room)) (row .ls24) hu;
+  finished = rw (row .start, add-one j) (fin-more xs i j u (omega (arith, row .room, row .start)) hu (row .finished));
+  fresh = λ q l. rw (getD-set-other xs (s + j) q u (pos 0) (λ e. omega arith)) (row .fresh q (omega arith));
   ws38 = below-more (λ k. natAbs (cell (set ws j v) k) ≤ 2 ^ 38) j
-      (λ k q. rw (cell-before ws j k v q) (row .ws38 k q))
+      (λ k q. rw (getD-set-other ws j k v (pos 0) (λ e. omega arith)) (row .ws38 k q))
       (rw (getD-set-same ws j v (pos 0) (omega (arith, row .wroom))) hv);
 }
 
 -- ---- a row that is refused
 
-pub row-refused : (r : Refusal) (o : Outcome (List ℤ)) (i : ℕ) (ys : List ℤ) → refused r ≡ o → RowDone (Refused r) o i ys
-row-refused r o i ys e = record { rest = e; above = λ d. absurd (never d); fresh = λ d. absurd (never d) }
+pub row-refused : {r : Refusal} {o : Outcome (List ℤ)} {i : ℕ} {ys : List ℤ} → refused r ≡ o → RowDone (Refused r) o i ys
+row-refused {r} e = record { rest = e; finished = λ d. absurd (never d); fresh = λ d. absurd (never d) }
   where
     never : Refused r ≡ Done → ⊥
     never d = let z : _≡_ {A = ℕ} 0 1 = cc in omega arith

@@ -10,6 +10,7 @@ use Rattle.whole.specs.Packed.{tri, cell}
 use Rattle.paper.specs.Refusals.{Outcome, done, when, after}
 use Rattle.paper.specs.Factor.{small, w, l, rowFrom}
 use Rattle.paper.specs.Lent.{noFactor}
+use Rattle.paper.proofs.Finished.{Fin}
 use Rattle.paper.specs.declared.Answer.{Answer}
 use Rattle.paper.specs.declared.Answer.the-variants.{Done}
 use Rattle.paper.specs.declared.Refusal.the-variants.{Bound}
@@ -18,9 +19,9 @@ use Rattle.paper.specs.declared.Refusal.the-variants.{Bound}
 abbrev pub Within : ℕ → ℕ → (ℕ → ℤ) → Type 0
 Within b n f = (k : ℕ) → k < n → natAbs (f k) ≤ 2 ^ b
 
--- the numbers from place p on are a matrix's: a replacement over foreign slices makes up to 2^47
+-- the numbers from place p on are a matrix's: a replacement over foreign slices makes about 2^47, and this leaves room
 abbrev pub Fresh : List ℤ → ℕ → Type 0
-Fresh xs p = (q : ℕ) → p ≤ q → natAbs (cell xs q) ≤ 2 ^ 47
+Fresh xs p = (q : ℕ) → p ≤ q → natAbs (cell xs q) ≤ 2 ^ 50
 
 -- rows m to n of a matrix, below m rows that refusal 10 passes
 pub record Ready (xs : List ℤ) (m n : ℕ) : Type 0 where
@@ -44,7 +45,7 @@ pub record Entry (xs ws : List ℤ) (s at j : ℕ) : Type 0 where
   pub room : s + j < length xs
   pub inside : at + j < length xs
   pub wroom : j ≤ length ws
-  pub x47 : natAbs (cell xs (s + j)) ≤ 2 ^ 47
+  pub x50 : natAbs (cell xs (s + j)) ≤ 2 ^ 50
   pub ls24 : Within 24 j (λ k. cell xs (at + k))
   pub ws38 : Within 38 j (cell ws)
 
@@ -66,9 +67,8 @@ pub record Row (xs ws : List ℤ) (s i j : ℕ) : Type 0 where
   pub upto : j ≤ i
   pub room : s + i < length xs
   pub wroom : i ≤ length ws
-  pub above : noFactor i xs ≡ false
+  pub finished : Fin xs i j
   pub fresh : Fresh xs (s + j)
-  pub ls24 : Within 24 j (λ k. cell xs (s + k))
   pub ws38 : Within 38 j (cell ws)
 
 pub record ColumnsDone (r : Bool) (s i : ℕ) (xs ys vs : List ℤ) : Type 0 where
@@ -78,5 +78,5 @@ pub record ColumnsDone (r : Bool) (s i : ℕ) (xs ys vs : List ℤ) : Type 0 whe
 -- row i ends as o says
 pub record RowDone (r : Answer) (o : Outcome (List ℤ)) (i : ℕ) (ys : List ℤ) : Type 0 where
   pub rest : after r (done ys) ≡ o
-  pub above : r ≡ Done → noFactor (i + 1) ys ≡ false
+  pub finished : r ≡ Done → Fin ys (i + 1) 0
   pub fresh : r ≡ Done → Fresh ys (tri (i + 1))

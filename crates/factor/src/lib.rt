@@ -1,7 +1,7 @@
 // The factor of a packed triangle in place, row by row, from any row on.
 ghost use mathlib.Core.Path.{_≡_};
 ghost use mathlib.Core.List.{[]};
-ghost use Prim.Native.Nat.{ℕ, _-_, _*_, _≤_, _<_};
+ghost use Prim.Native.Nat.{_-_, _≤_};
 ghost use lib.IntN.{pos, _*ℤ_};
 ghost use lib.Signed.{leZ};
 ghost use lib.ListN.{length, take};
@@ -25,7 +25,7 @@ fn bounded_l(l: i64) -> bool
     whole::size(l) <= 16_777_216
 }
 
-fn pivots(d: i64) -> bool
+fn is_pivot(d: i64) -> bool
     ensures { λ r. ⌜ r ≡ leZ (pos 16) d ⌝ }
 {
     16 <= d
@@ -97,7 +97,7 @@ fn diagonal(work: &mut [i64], ws: &[i64], s: usize, i: usize) -> Answer
     if !bounded_w(d) {
         return Answer::Refused(Refusal::Bound(i as u32 + 1));
     }
-    if !pivots(d) {
+    if !is_pivot(d) {
         return Answer::Refused(Refusal::Pivot(i as u32 + 1));
     }
     work[s + i] = d;
@@ -132,7 +132,7 @@ fn rows(work: &mut [i64], ws: &mut [i64], m: usize, n: usize) -> Answer
     Answer::Done
 }
 
-// Rows m to n of the factor, in place, against the finished rows above m.
+// Rows m to n of the factor, in place, against the finished rows above m. After a refusal the numbers are of no use.
 pub fn factor(work: &mut [i64], m: usize, n: usize) -> Answer
     requires { ⌜ Ready (now work) m n ⌝ }
     ensures { λ r. ⌜ after r (done (now (work .exit))) ≡ rowsFrom (n - m) m (now (work .entry)) ⌝ }

@@ -7,27 +7,11 @@ ghost use Prim.Native.Nat.{_+_, _^_, _≤_, _<_};
 ghost use lib.Dec.{leb};
 ghost use lib.ListN.{length};
 ghost use Rattle.whole.specs.Sums.{any};
-ghost use Rattle.whole.specs.Packed.{tri, place, cell};
+ghost use Rattle.whole.specs.Packed.{cell};
 ghost use Rattle.paper.specs.Factor.{small};
 ghost use Rattle.paper.specs.Lent.{rowSize, heavy, pivot, badRow, noFactor, foreign};
 ghost use Rattle.paper.specs.Step.{offScale};
 ghost use Rattle.lent.specs.Rows.{InRow, Rows, lent};
-
-// Where row i starts.
-pub fn start(i: usize) -> usize
-    requires { ⌜ i ≤ 96 ⌝ }
-    ensures { λ r. ⌜ r ≡ tri i ⌝ }
-{
-    i * (i + 1) / 2
-}
-
-// The place of row i, column j + 1, from that of column j: a full row, both sides of the diagonal, with no multiplication.
-pub fn next(at: usize, i: usize, j: usize) -> usize
-    requires { ⌜ (at ≡ place i j) × (i < 96) × (j < 96) ⌝ }
-    ensures { λ r. ⌜ r ≡ place i (j + 1) ⌝ }
-{
-    if j < i { at + 1 } else { at + j + 1 }
-}
 
 // Whether the magnitudes of row i sum above 2^33. A size is at most 2^63, so a sum that stops there fits.
 fn heavy_row(m: &[i64], i: usize, n: usize) -> bool
@@ -35,14 +19,14 @@ fn heavy_row(m: &[i64], i: usize, n: usize) -> bool
     ensures { λ r. ⌜ r ≡ not (leb (rowSize n (now (m .entry)) i) (2 ^ 33)) ⌝ }
 {
     let mut sum: u64 = 0;
-    let mut at = start(i);
+    let mut at = whole::start(i);
     let mut j = 0;
     while j < n {
         sum += whole::size(m[at]);
         if 8_589_934_592 < sum {
             return true;
         }
-        at = next(at, i, j);
+        at = whole::next(at, i, j);
         j += 1;
     }
     false
@@ -87,7 +71,7 @@ fn bad_row(l: &[i64], i: usize, n: usize) -> bool
     requires { ⌜ InRow (now l) i n ⌝ }
     ensures { λ r. ⌜ r ≡ badRow (now (l .entry)) i ⌝ }
 {
-    let at = start(i);
+    let at = whole::start(i);
     large(l, at, i) || !pivot(l[at + i])
 }
 

@@ -1,7 +1,7 @@
 -- DEMAND 3 of the calls themselves, whatever the slices held before and however long they are.
 use mathlib.Core.Path.{_≡_, refl, sym, ap, subst, _∙_}
 use mathlib.Core.Bool.{Bool, true, false, _&&_}
-use mathlib.Core.List.{List, [], _∷_}
+use mathlib.Core.List.{List, [], _∷_, _++_}
 use Prim.Native.Nat.{ℕ, _-_, _≤_}
 use native.Mathlib.Omega.{arith}
 use borrow.Author.Tests.{le-leb}
@@ -22,14 +22,14 @@ use Rattle.paper.specs.declared.Answer.{Answer}
 use Rattle.paper.specs.declared.Answer.the-variants.{Done, Refused}
 use Rattle.paper.specs.declared.Refusal.{Refusal}
 use Rattle.paper.specs.declared.Refusal.the-variants.{Short}
-use Rattle.paper.proofs.Outcomes.{done-refused, after-done, when-done}
+use Rattle.paper.proofs.Outcomes.{done-refused, done-inj, after-done, when-done}
 use Rattle.paper.proofs.Judged.{deck}
 use Rattle.paper.proofs.NewCard.{change, stays}
 use Rattle.paper.proofs.Changed.{nodes-same}
 use Rattle.paper.proofs.Built.{own, Sized, sized}
 use Rattle.paper.proofs.Lent.{own-pass}
 use Rattle.paper.proofs.Replaced.{least}
-use Rattle.paper.proofs.Demand3.{replacing-is-building, own-rows-stay, least-low}
+use Rattle.paper.proofs.Demand3.{replacing-is-building, loads-keep, own-rows-stay, least-low}
 
 -- ---- what is written over the slices, and read of them again
 
@@ -67,6 +67,10 @@ enough-other t z w e k = rw (enough-told t z e .0, k)
 front-take : (t : List ℕ) (z : Lent) (k : ℕ) → k ≤ length (cut t z .factor) → take k (cut t z .factor) ≡ take k (z .factor)
 unfolding cut
 front-take t z k h = sym (take-append-le k (front t (z .factor)) (drop (long t) (z .factor)) h) ∙ ap (take k) (take-append-drop (long t) (z .factor))
+
+-- a slice's own front, written over it
+over-front : (t : List ℕ) (xs : List ℤ) → length (front t xs) ≡ long t → over (front t xs) xs ≡ xs
+over-front t xs e = ap (λ (k : ℕ). front t xs ++ drop k xs) e ∙ take-append-drop (long t) xs
 
 answer-is : (t new : List ℕ) (b : Bool) (z : Lent) (o : Outcome Slices) → leaves t new b z o .answer ≡ answerOf o
 unfolding leaves
@@ -205,6 +209,24 @@ module _ (t : List ℕ) (z : Lent) (card : ℕ) (new : List ℕ) (six : length n
       ∙ take-append-le k (m .s .factor) (drop (length (m .s .factor)) (z .factor)) (omega arith)
       ∙ own-rows-stay t c new (cut t z) (m .s) d g (h .built) st rep
       ∙ front-take t z k (omega (arith, own′ .longF))
+
+  -- THEOREM. An accepted H or T writes nothing but its card.
+  pub loads-untouched : replaceCall t z card new .answer ≡ Done → stirs t (card - 1) ≡ false → replaceCall t z card new .lent ≡ z
+  unfolding replaceCall leaves cut
+  loads-untouched ok st =
+      let m = accepted ok in
+      let c = card - 1 in
+      let d = deck t (h .judge) in
+      let g = change t card new six (h .judge) (m .fit) in
+      let own′ = sized t (cut t z) (own t (cut t z) (h .built)) in
+      let same : m .s ≡ cut t z = done-inj (sym (m .built) ∙ sym (replacing-is-building t c new (cut t z) d g (h .built)) ∙ loads-keep t c new (cut t z) st) in
+      ap (λ (o : Outcome Slices). leaves t (put t c new) (stirs t c) z o .lent) (m .outcome ∙ ap done same)
+      ∙ (λ i. record {
+        p = over-front t (z .p) (own′ .longP) i;
+        a = over-front t (z .a) (own′ .longA) i;
+        factor = over-front t (z .factor) (own′ .longF) i;
+        work = worked t (st i) (z .work);
+      })
 
 -- ---- refused or not
 

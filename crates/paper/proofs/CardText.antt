@@ -1,19 +1,20 @@
 -- A card read is the card printed, both ways.
 use mathlib.Core.Path.{_≡_, refl, sym, ap, _∙_}
 use mathlib.Core.Bool.{Bool, true, false, not, cond, _||_}
-use mathlib.Core.List.{List, [], _∷_, _++_, append-assoc, append-nil}
-use Prim.Native.Nat.{ℕ, zero, suc, _+_, _-_, _*_, _/_, _%_, _^_, _≤_, _<_}
+use mathlib.Core.List.{List, [], _∷_, _++_, append-assoc}
+use Prim.Native.Nat.{ℕ, zero, suc, _+_, _*_, _≤_, _<_}
 use native.Mathlib.Omega.{arith}
-use borrow.Author.Tests.{eq-eqb, ne-eqb, le-leb, lt-leb, lt-ltb, le-ltb, eqb-true, eqb-false, leb-true, ltb-true, ltb-false, not-false}
-use lib.Dec.{leb, ltb, eqb}
+use borrow.Author.Tests.{eq-eqb, ne-eqb, eqb-true, eqb-false, ltb-false, not-false}
+use lib.Dec.{ltb, eqb}
 use lib.ListN.{length, getD, take, drop, set, length-set, replicate, length-append, length-drop, take-append-drop, drop-of-length-le}
 use lib.Seq.{take-at, drop-append-add, getD-at, drop-cons, drop-drop, length-take-le}
 use Rattle.paper.specs.declared.Kind.{Kind}
 use Rattle.paper.specs.declared.Kind.the-variants.{D, N, M, E, H, F, T, Z, Other}
 use Rattle.paper.specs.declared.Field.{Field}
 use Rattle.paper.specs.declared.Field.the-variants.{Number, Malformed}
-use Rattle.paper.specs.Cards.{kindOf, letterOf, used, fields}
+use Rattle.paper.specs.Cards.{kindOf, letterOf, order, used, fields}
 use Rattle.paper.specs.Text.{number, blank, printed, fieldOf, fieldsFrom, putField, noCard, cardOf, textField, textFrom, textOf}
+use Rattle.paper.proofs.Letters.{letter-of}
 use Rattle.paper.proofs.Fields.{length-field, number-printed, printed-number, blank-blanks}
 
 -- ---- a card by its tests
@@ -63,25 +64,20 @@ length-textOf card =
     ap suc (length-append (textFrom u card 5 0) (10 ∷ [])) ∙ omega (arith, length-text u card 5 0)
 
 -- ---- a letter that is one of the eight
-known-step : (c : ℕ) (b : Bool) (k rest : Kind) → b ≡ eqb c (letterOf k) → ((used rest ≡ 0 → ⊥) → letterOf rest ≡ c)
-    → (used (cond b k rest) ≡ 0 → ⊥) → letterOf (cond b k rest) ≡ c
-known-step c true k rest e f h = sym (eqb-true c (letterOf k) (sym e))
-known-step c false k rest e f h = f h
+used-order : (k : Kind) → (used k ≡ 0 → ⊥) → order k < 8
+unfolding used fields order
+used-order D h = omega arith
+used-order N h = omega arith
+used-order M h = omega arith
+used-order E h = omega arith
+used-order H h = omega arith
+used-order F h = omega arith
+used-order T h = omega arith
+used-order Z h = omega arith
+used-order Other h = absurd (h refl)
 
-pub known : (c : ℕ) → (used (kindOf c) ≡ 0 → ⊥) → letterOf (kindOf c) ≡ c
-unfolding kindOf used fields
-known c h =
-    let r8 : Kind = Other in
-    let r7 : Kind = cond (eqb c 90) Z r8 in
-    let r6 : Kind = cond (eqb c 84) T r7 in
-    let r5 : Kind = cond (eqb c 70) F r6 in
-    let r4 : Kind = cond (eqb c 72) H r5 in
-    let r3 : Kind = cond (eqb c 69) E r4 in
-    let r2 : Kind = cond (eqb c 77) M r3 in
-    let r1 : Kind = cond (eqb c 78) N r2 in
-    known-step c (eqb c 68) D r1 refl (known-step c (eqb c 78) N r2 refl (known-step c (eqb c 77) M r3 refl (known-step c (eqb c 69) E r4 refl
-    (known-step c (eqb c 72) H r5 refl (known-step c (eqb c 70) F r6 refl (known-step c (eqb c 84) T r7 refl (known-step c (eqb c 90) Z r8 refl
-    (λ x. absurd (x refl))))))))) h
+known : (c : ℕ) → (used (kindOf c) ≡ 0 → ⊥) → letterOf (kindOf c) ≡ c
+known c h = sym (letter-of c (kindOf c) refl (used-order (kindOf c) h))
 
 -- ---- printed and read
 

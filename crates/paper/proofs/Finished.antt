@@ -31,7 +31,7 @@ pub record Fin (xs : List ℤ) (m j : ℕ) : Type 0 where
 before : (xs : List ℤ) (p q : ℕ) (v : ℤ) → q < p → cell (set xs p v) q ≡ cell xs q
 before xs p q v h = getD-set-other xs p q v (pos 0) (λ e. omega arith)
 
-fin-more : (xs : List ℤ) (m j : ℕ) (v : ℤ) → tri m + j < length xs → natAbs v ≤ 2 ^ 24 → Fin xs m j → Fin (set xs (tri m + j) v) m (suc j)
+pub fin-more : (xs : List ℤ) (m j : ℕ) (v : ℤ) → tri m + j < length xs → natAbs v ≤ 2 ^ 24 → Fin xs m j → Fin (set xs (tri m + j) v) m (suc j)
 fin-more xs m j v h b f = record {
   lows = λ i k hi hk. rw (before xs (tri m + j) (tri i + k) v (omega (arith, tri-below i m hi))) (f .lows i k hi hk);
   diag = λ i hi. rw (before xs (tri m + j) (tri i + i) v (omega (arith, tri-below i m hi))) (f .diag i hi);
@@ -42,7 +42,7 @@ fin-more xs m j v h b f = record {
     go k hk (yes e) = rw (e, getD-set-same xs (tri m + j) v (pos 0) h) b
     go k hk (no n) = let n′ : k ≡ j → ⊥ = n in rw (before xs (tri m + j) (tri m + k) v (omega arith)) (f .row k (omega arith))
 
-fin-end : (xs : List ℤ) (m : ℕ) (d : ℤ) → tri m + m < length xs → Firm d → Fin xs m m → Fin (set xs (tri m + m) d) (suc m) 0
+pub fin-end : (xs : List ℤ) (m : ℕ) (d : ℤ) → tri m + m < length xs → Firm d → Fin xs m m → Fin (set xs (tri m + m) d) (suc m) 0
 fin-end xs m d h b f = record {
   lows = λ i k hi hk. low i k hi hk (ℕ-discrete i m);
   diag = λ i hi. dia i hi (ℕ-discrete i m);

@@ -1,8 +1,8 @@
 -- The judge step by step: what a test passed or failed comes to, of a card, of cards in turn, of a table.
-use mathlib.Core.Path.{_≡_, refl, sym, ap, _∙_}
-use mathlib.Core.Bool.{Bool, true, false, not, _&&_}
+use mathlib.Core.Path.{_≡_, refl, ap, _∙_}
+use mathlib.Core.Bool.{true, false}
 use mathlib.Core.List.{List}
-use Prim.Native.Nat.{ℕ, zero, suc, _+_, _-_, _*_, _/_, _%_, _≤_, _<_}
+use Prim.Native.Nat.{ℕ, zero, suc, _+_, _-_, _*_, _%_, _≤_, _<_}
 use native.Mathlib.Numerals.{add-one}
 use native.Mathlib.Omega.{arith}
 use borrow.Author.Tests.{eq-eqb, ne-eqb, lt-ltb, le-ltb}
@@ -10,7 +10,6 @@ use lib.ListN.{length, getD}
 use Rattle.paper.specs.Refusals.{andThen}
 use Rattle.paper.specs.Cards.{used, fields, zeros, inRange, kindAt, orderOf, countsOf, rowAt, rows}
 use Rattle.paper.specs.Judge.{stands, rises, clean, formed, ranged, judgeCard, judgeFrom, trailer, judgeRows, judged}
-use Rattle.paper.specs.declared.Answer.{Answer}
 use Rattle.paper.specs.declared.Answer.the-variants.{Done, Refused}
 use Rattle.paper.specs.declared.Refusal.{Refusal}
 use Rattle.paper.specs.declared.Refusal.the-variants.{Length, Trailer, Form, Range}

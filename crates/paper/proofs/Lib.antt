@@ -11,7 +11,9 @@ pub mod Assembled
 pub mod Update
 pub mod Finished
 pub mod Sizes
+pub mod Places
 pub mod Elements
+pub mod Adds
 pub mod Weights
 pub mod Built
 pub mod Lent

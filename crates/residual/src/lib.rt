@@ -56,12 +56,12 @@ fn free_row(
 {
     let mut sum = load;
     let mut bound: u64 = 0;
-    let mut at = lent::start(i);
+    let mut at = whole::start(i);
     let mut j = 0;
     while j < n {
         sum = term(sum, p[at], old[j], a[at], held(fixed[j], t[j]));
         bound += share(fixed[j], a[at]);
-        at = lent::next(at, i, j);
+        at = whole::next(at, i, j);
         j += 1;
     }
     RowSum {

@@ -202,7 +202,7 @@ fn past_9(table: &[u32], p: &[i64], a: &[i64], factor: &[i64], temperatures: &mu
     ensures { λ e. ⌜ Returns e (now (temperatures .exit)) (stepCall (now (table .entry)) (lent (now (p .entry)) (now (a .entry)) (now (factor .entry))) (now (temperatures .entry))) ⌝ }
 {
     let n = element::nodes(table);
-    let long = lent::start(n);
+    let long = whole::start(n);
     if !roomy(p, a, factor, &temperatures[..], long, n) {
         return Stepped::Refused(Refusal::Short);
     }

@@ -1,5 +1,4 @@
 -- Sizes of one element's numbers, before the test of 6.
-use mathlib.Core.Path.{_≡_, refl, ap, subst, sym, _∙_}
 use mathlib.Core.Bool.{Bool, true, false, cond}
 use mathlib.Core.List.{List}
 use Prim.Native.Nat.{ℕ, zero, suc, _+_, _*_, _^_, _≤_, _<_}
@@ -8,16 +7,13 @@ use native.Mathlib.Omega.{arith}
 use lib.Dec.{eqb}
 use lib.IntN.{ℤ, pos, negℤ, natAbs, _+ℤ_, _-ℤ_, _*ℤ_}
 use lib.ListN.{getD}
-use Rattle.whole.specs.Nearest.{nearestN}
 use Rattle.whole.specs.Sums.{sum}
 use Rattle.whole.proofs.Signs.{natAbs-plus, natAbs-times, natAbs-neg}
 use Rattle.whole.proofs.Linear.{apart-size}
 use Rattle.whole.proofs.Rounding.{nearest-size, nearestN-by}
 use Rattle.paper.specs.Triangle.{Shape, Triangle, b, c, S, square, mass, pair, conductance, u, v}
 use Rattle.paper.proofs.Elements.{S-size, v-size}
-use Rattle.triangle.specs.Forms.{at, squareOf}
-use Rattle.triangle.specs.Asks.{OnGrid, Placed, Sized, Step, Small}
-use Rattle.triangle.proofs.Squares.{small-square}
+use Rattle.triangle.specs.Asks.{OnGrid, Placed, Sized, Step}
 
 pub grid-apart : (z : List ℕ) (i j : ℕ) → OnGrid z → i < 3 → j < 3 → natAbs (pos (getD z i 0) -ℤ pos (getD z j 0)) ≤ 4095
 grid-apart z i j h k l = apart-size (getD z i 0) (getD z j 0) 4095 (h i k) (h j l)

@@ -1,11 +1,17 @@
 -- The three by three square of a function: its numbers and their sizes.
-use mathlib.Core.Path.{_≡_, refl, _∙_}
+use mathlib.Core.Path.{_≡_, refl, sym, ap, _∙_}
+use mathlib.Core.Bool.{cond, _&&_}
 use mathlib.Core.List.{List, [], _∷_}
 use Prim.Native.Nat.{ℕ, zero, suc, _+_, _≤_, _<_}
+use native.Mathlib.Decide.{decLt}
 use native.Mathlib.Omega.{arith}
+use lib.Dec.{eqb}
+use lib.ListN.{getD}
 use lib.IntN.{ℤ, pos, negℤ, natAbs, _+ℤ_}
 use Rattle.whole.specs.Sums.{sum, table}
 use Rattle.whole.proofs.Linear.{zarith, plusL}
+use Rattle.whole.proofs.Sums.{sum-ext}
+use Rattle.paper.specs.Matrices.{spread}
 use Rattle.paper.specs.Triangle.{Triangle, square, pair, conductance}
 use Rattle.paper.proofs.Square.{pair-symmetric}
 use Rattle.triangle.specs.Forms.{at, squareOf}
@@ -33,6 +39,22 @@ small-square n f h = record { each = places (λ i j z. natAbs z ≤ n) f h (λ i
 
 pub square-at : (f : ℕ → ℕ → ℤ) (i j : ℕ) → i < 3 → j < 3 → at (squareOf f) i j ≡ f i j
 square-at f = places (λ i j z. i < 3 → j < 3 → z ≡ f i j) f (λ i j h l h′ l′. refl) (λ i j q h l. absurd (q h l))
+
+pub square-past : (f : ℕ → ℕ → ℤ) (i j : ℕ) → (i < 3 → j < 3 → ⊥) → at (squareOf f) i j ≡ pos 0
+square-past f = places (λ i j z. (i < 3 → j < 3 → ⊥) → z ≡ pos 0) f (λ i j h l q. absurd (q h l)) (λ i j q q′. refl)
+
+pub square-symmetric : (f : ℕ → ℕ → ℤ) → ((i j : ℕ) → f i j ≡ f j i) → (i j : ℕ) → at (squareOf f) i j ≡ at (squareOf f) j i
+square-symmetric f same i j = go (decLt i 3) (decLt j 3)
+  where
+    go : Dec (i < 3) → Dec (j < 3) → at (squareOf f) i j ≡ at (squareOf f) j i
+    go (yes h) (yes l) = square-at f i j h l ∙ same i j ∙ sym (square-at f j i l h)
+    go (yes h) (no q) = square-past f i j (λ x y. q y) ∙ sym (square-past f j i (λ x y. q x))
+    go (no q) l = square-past f i j (λ x y. q x) ∙ sym (square-past f j i (λ x y. q y))
+
+pub spread-square : (ns : List ℕ) (f : ℕ → ℕ → ℤ) (i j : ℕ) → spread 3 ns (at (squareOf f)) i j ≡ spread 3 ns f i j
+unfolding spread
+spread-square ns f i j =
+    sum-ext 3 _ _ (λ a h. sum-ext 3 _ _ (λ b l. ap (λ (z : ℤ). cond (eqb (getD ns a 0) (suc i) && eqb (getD ns b 0) (suc j)) z (pos 0)) (square-at f a b h l)))
 
 pub square-ext : (f g : ℕ → ℕ → ℤ) → ((i j : ℕ) → i < 3 → j < 3 → f i j ≡ g i j) → squareOf f ≡ squareOf g
 unfolding squareOf table

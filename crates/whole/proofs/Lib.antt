@@ -8,3 +8,4 @@ pub mod Fill
 pub mod Tests
 pub mod Sums
 pub mod Packed
+pub mod Lists

@@ -1,21 +1,21 @@
 -- Laws of the packed triangle: its places, and a slice as the rows of a function.
 use mathlib.Core.Path.{_≡_, refl, sym, ap, _∙_}
-use mathlib.Core.Bool.{Bool, true, false, cond}
+use mathlib.Core.Bool.{Bool, true, false, cond, _&&_, _||_}
 use mathlib.Core.Logic.{_⊎_, inl, inr, ⊎-elim}
-use mathlib.Core.List.{List, [], _∷_, _++_}
-use Prim.Native.Nat.{ℕ, zero, suc, _+_, _*_, _/_, _≤_, _<_}
+use mathlib.Core.List.{List, [], _++_}
+use Prim.Native.Nat.{ℕ, zero, suc, _+_, _-_, _*_, _/_, _≤_, _<_}
 use native.Mathlib.Nat as NatL
-use native.Mathlib.Decide.{ℕ-discrete}
+use native.Mathlib.Decide.{ℕ-discrete, decLt}
 use native.Mathlib.Numerals.{add-one}
 use native.Mathlib.Omega.{arith}
-use lib.Dec.{leb}
-use lib.IntN.{ℤ, pos}
-use lib.ListN.{length, getD, take, drop, length-append, List·getD-append}
-use lib.Seq.{take-append-le, getD-append-add, take-all}
-use borrow.Author.Tests.{le-leb, lt-leb, leb-true, leb-false}
+use lib.Dec.{leb, eqb}
+use lib.IntN.{ℤ, pos, natAbs, _+ℤ_, +ℤ-idr}
+use lib.ListN.{length, set, take, replicate, length-set, length-append, length-replicate, getD-replicate, length-set, List·getD-append}
+use lib.Seq.{take-append-le, getD-append-add, take-all, getD-set-same, getD-set-other, ext-getD}
+use borrow.Author.Tests.{le-leb, lt-leb, leb-true, leb-false, eq-eqb, ne-eqb}
 use Rattle.whole.specs.Sums.{table}
 use Rattle.whole.specs.Packed.{tri, cell, place, entry, lower}
-use Rattle.whole.proofs.Sums.{table-length, table-at, table-ext}
+use Rattle.whole.proofs.Sums.{table-length, table-at, table-ext, append-size, table-size}
 
 -- ---- where rows start
 
@@ -91,6 +91,27 @@ place-in i j n h k =
 pub place-small : (i j : ℕ) → i < 96 → j < 96 → place i j < 4656
 place-small i j h k = omega (arith, place-in i j 96 h k, tri-96 96 (omega arith))
 
+-- a place is of one row and column, but for their order
+low-one : (i j i′ j′ : ℕ) → j ≤ i → j′ ≤ i′ → tri i + j ≡ tri i′ + j′ → (i ≡ i′) × (j ≡ j′)
+low-one i j i′ j′ h h′ e = go (ℕ-discrete i i′) (decLt i i′)
+  where
+    go : Dec (i ≡ i′) → Dec (i < i′) → (i ≡ i′) × (j ≡ j′)
+    go (yes q) l = (q, omega (arith, ap tri q))
+    go (no q) (yes l) = absurd (omega (arith, tri-below i i′ l))
+    go (no q) (no m) =
+        let q′ : i ≡ i′ → ⊥ = q in
+        let m′ : i < i′ → ⊥ = m in
+        absurd (omega (arith, tri-below i′ i (omega arith)))
+
+pub place-one : (i j i′ j′ : ℕ) → place i j ≡ place i′ j′ → ((i ≡ i′) × (j ≡ j′)) ⊎ ((i ≡ j′) × (j ≡ i′))
+place-one i j i′ j′ e = go (sides i j) (sides i′ j′)
+  where
+    go : (j ≤ i) ⊎ (i ≤ j) → (j′ ≤ i′) ⊎ (i′ ≤ j′) → ((i ≡ i′) × (j ≡ j′)) ⊎ ((i ≡ j′) × (j ≡ i′))
+    go (inl l) (inl m) = inl (low-one i j i′ j′ l m (omega (arith, place-low i j l, place-low i′ j′ m)))
+    go (inl l) (inr m) = inr (low-one i j j′ i′ l m (omega (arith, place-low i j l, place-high i′ j′ m)))
+    go (inr l) (inl m) = let (a, b) = low-one j i i′ j′ l m (omega (arith, place-high i j l, place-low i′ j′ m)) in inr (b, a)
+    go (inr l) (inr m) = let (a, b) = low-one j i j′ i′ l m (omega (arith, place-high i j l, place-high i′ j′ m)) in inl (b, a)
+
 -- ---- n rows of a function
 
 pub length-lower : (n : ℕ) (f : ℕ → ℕ → ℤ) → length (lower n f) ≡ tri n
@@ -135,3 +156,89 @@ lower-take m (suc n) f h = go (ℕ-discrete m (suc n)) (λ l. lower-take m n f l
     go (no q) ih =
         let q′ : m ≡ suc n → ⊥ = q in
         take-append-le (tri m) (lower n f) (table (suc n) (f n)) (omega (arith, length-lower n f, tri-le m n (omega arith))) ∙ ih (omega arith)
+
+-- a list of the right length is the rows of its entries
+same-cell : (xs ys : List ℤ) (m : ℕ) → ((i j : ℕ) → i < m → j ≤ i → entry xs i j ≡ entry ys i j) → (k : ℕ) → k < tri m → cell xs k ≡ cell ys k
+unfolding tri
+same-cell xs ys zero h k l = absurd (omega arith)
+same-cell xs ys (suc m) h k l = go (decLt k (tri m)) (λ l′. same-cell xs ys m (λ i j a b. h i j (omega arith) b) k l′)
+  where
+    go : Dec (k < tri m) → (k < tri m → cell xs k ≡ cell ys k) → cell xs k ≡ cell ys k
+    go (yes l′) ih = ih l′
+    go (no q) ih =
+        let q′ : k < tri m → ⊥ = q in
+        let at : place m (k - tri m) ≡ k = place-low m (k - tri m) (omega arith) ∙ omega arith in
+        ap (cell xs) (sym at) ∙ h m (k - tri m) (omega arith) (omega arith) ∙ ap (cell ys) at
+
+pub lower-eta : (n : ℕ) (xs : List ℤ) → length xs ≡ tri n → xs ≡ lower n (entry xs)
+lower-eta n xs e =
+    ext-getD (pos 0) xs (lower n (entry xs)) (e ∙ sym (length-lower n (entry xs)))
+    (λ k l. same-cell xs (lower n (entry xs)) n (λ i j a b. sym (lower-at n i j (entry xs) a b)) k (omega arith))
+
+pub lower-zeros : (n : ℕ) (f : ℕ → ℕ → ℤ) → ((i j : ℕ) → f i j ≡ pos 0) → replicate (tri n) (pos 0) ≡ lower n f
+lower-zeros n f h =
+    lower-eta n (replicate (tri n) (pos 0)) (length-replicate (tri n) (pos 0))
+    ∙ lower-ext n _ _ (λ i j a b. getD-replicate (tri n) (place i j) (pos 0) (pos 0) (place-in i j n a (omega arith)) ∙ sym (h i j))
+
+-- ---- a number added in place
+
+abbrev pub add : List ℤ → ℕ → ℕ → ℤ → List ℤ
+add xs a b v = set xs (place a b) (entry xs a b +ℤ v)
+
+pub length-add : (xs : List ℤ) (a b : ℕ) (v : ℤ) → length (add xs a b v) ≡ length xs
+length-add xs a b v = length-set xs (place a b) (entry xs a b +ℤ v)
+
+-- row and column, in either order
+abbrev pub meets : ℕ → ℕ → ℕ → ℕ → Bool
+meets a b i j = eqb a i && eqb b j || eqb b i && eqb a j
+
+pub entry-add : (n : ℕ) (xs : List ℤ) (a b i j : ℕ) (v : ℤ) → length xs ≡ tri n → a < n → b < n → entry (add xs a b v) i j ≡ entry xs i j +ℤ cond (meets a b i j) v (pos 0)
+entry-add n xs a b i j v e ha hb = go (ℕ-discrete (place i j) (place a b))
+  where
+    swapped : (x y : Bool) → y ≡ true → x || y ≡ true
+    swapped true y q = refl
+    swapped false y q = q
+
+    hit : ((a ≡ i) × (b ≡ j)) ⊎ ((a ≡ j) × (b ≡ i)) → meets a b i j ≡ true
+    hit (inl (p, q)) = rw (eq-eqb a i p, eq-eqb b j q)
+    hit (inr (p, q)) = swapped (eqb a i && eqb b j) (eqb b i && eqb a j) (rw (eq-eqb b i q, eq-eqb a j p))
+
+    miss : (place i j ≡ place a b → ⊥) → meets a b i j ≡ false
+    miss n = rw (pair a b (λ p q. n (λ k. place (sym p k) (sym q k))), pair b a (λ p q. n (place-swap i j ∙ (λ k. place (sym q k) (sym p k)))))
+      where
+        pair : (x y : ℕ) → (x ≡ i → y ≡ j → ⊥) → eqb x i && eqb y j ≡ false
+        pair x y f = at (ℕ-discrete x i) (ℕ-discrete y j)
+          where
+            at : Dec (x ≡ i) → Dec (y ≡ j) → eqb x i && eqb y j ≡ false
+            at (yes p) (yes q) = absurd (f p q)
+            at (yes p) (no q) = rw (eq-eqb x i p, ne-eqb y j q)
+            at (no p) q = rw (ne-eqb x i p)
+
+    go : Dec (place i j ≡ place a b) → entry (add xs a b v) i j ≡ entry xs i j +ℤ cond (meets a b i j) v (pos 0)
+    go (yes q) =
+        ap (cell (add xs a b v)) q
+        ∙ getD-set-same xs (place a b) (entry xs a b +ℤ v) (pos 0) (omega (arith, place-in a b n ha hb))
+        ∙ (λ k. cell xs (sym q k) +ℤ cond (sym (hit (place-one a b i j (sym q))) k) v (pos 0))
+    go (no q) =
+        getD-set-other xs (place a b) (place i j) _ (pos 0) q
+        ∙ sym (ap (λ (t : Bool). entry xs i j +ℤ cond t v (pos 0)) (miss q) ∙ +ℤ-idr (entry xs i j))
+
+-- ---- a number set in place, and the size of each
+
+pub lower-set : (n p : ℕ) (f : ℕ → ℕ → ℤ) (v : ℤ) → set (lower n f) p v ≡ lower n (λ i j. cond (eqb (place i j) p) v (f i j))
+lower-set n p f v =
+    lower-eta n (set (lower n f) p v) (length-set (lower n f) p v ∙ length-lower n f)
+    ∙ lower-ext n _ _ (λ i j h l. go i j h l (ℕ-discrete (place i j) p))
+  where
+    go : (i j : ℕ) → i < n → j ≤ i → Dec (place i j ≡ p) → entry (set (lower n f) p v) i j ≡ cond (eqb (place i j) p) v (f i j)
+    go i j h l (yes e) =
+        ap (cell (set (lower n f) p v)) e
+        ∙ getD-set-same (lower n f) p v (pos 0) (omega (arith, length-lower n f, place-in i j n h (omega arith)))
+        ∙ sym (ap (λ (t : Bool). cond t v (f i j)) (eq-eqb (place i j) p e))
+    go i j h l (no q) =
+        getD-set-other (lower n f) p (place i j) v (pos 0) q ∙ lower-at n i j f h l ∙ sym (ap (λ (t : Bool). cond t v (f i j)) (ne-eqb (place i j) p q))
+
+pub lower-size : (n b : ℕ) (f : ℕ → ℕ → ℤ) → ((i j : ℕ) → natAbs (f i j) ≤ b) → (k : ℕ) → natAbs (cell (lower n f) k) ≤ b
+unfolding lower
+lower-size zero b f h k = omega arith
+lower-size (suc n) b f h k = append-size (lower n f) (table (suc n) (f n)) b (lower-size n b f h) (table-size (suc n) b (f n) (h n)) k

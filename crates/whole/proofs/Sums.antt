@@ -10,7 +10,7 @@ use native.Mathlib.Numerals.{add-one}
 use native.Mathlib.Omega.{arith}
 use lib.Dec.{eqb}
 use lib.IntN.{ℤ, pos, natAbs, _+ℤ_, _-ℤ_, +ℤ-idl, +ℤ-idr}
-use lib.ListN.{length, getD, set, drop, length-set, length-append, length-drop, List·getD-append, drop-of-length-le}
+use lib.ListN.{length, getD, set, drop, replicate, length-set, length-append, length-replicate, length-drop, getD-replicate, List·getD-append, drop-of-length-le}
 use lib.Seq.{getD-at, getD-set-same, getD-set-other, set-at, drop-cons, ext-getD}
 use borrow.Author.Tests.{eq-eqb, ne-eqb}
 use Rattle.whole.specs.Sums.{sum, sumN, any, firstFrom, table}
@@ -283,6 +283,27 @@ set-table xs k v g h e f = ext-getD (pos 0) (set xs k v) (table (length xs) g) (
     go : (i : ℕ) → i < length xs → Dec (i ≡ k) → cell (set xs k v) i ≡ cell (table (length xs) g) i
     go i l (yes q) = rw q (getD-set-same xs k v (pos 0) h ∙ e ∙ sym (table-at (length xs) k g h))
     go i l (no q) = getD-set-other xs k i v (pos 0) q ∙ f i l q ∙ sym (table-at (length xs) i g l)
+
+-- a table of one number repeats it
+pub table-same : (n : ℕ) (v : ℤ) → table n (λ k. v) ≡ replicate n v
+table-same n v =
+    ext-getD (pos 0) (table n (λ k. v)) (replicate n v) (table-length n (λ k. v) ∙ sym (length-replicate n v))
+    (λ k l. let h : k < n = omega (arith, table-length n (λ k. v)) in table-at n k (λ k. v) h ∙ sym (getD-replicate n k v (pos 0) h))
+
+-- the size of each number
+pub append-size : (xs ys : List ℤ) (b : ℕ) → ((k : ℕ) → natAbs (cell xs k) ≤ b) → ((k : ℕ) → natAbs (cell ys k) ≤ b) → (k : ℕ) → natAbs (cell (xs ++ ys) k) ≤ b
+append-size [] ys b h l k = l k
+append-size (x ∷ xs) ys b h l zero = h 0
+append-size (x ∷ xs) ys b h l (suc k) = append-size xs ys b (λ k. h (suc k)) l k
+
+pub table-size : (n b : ℕ) (f : ℕ → ℤ) → ((k : ℕ) → natAbs (f k) ≤ b) → (k : ℕ) → natAbs (cell (table n f) k) ≤ b
+unfolding table
+table-size zero b f h k = omega arith
+table-size (suc n) b f h k = append-size (table n f) (f n ∷ []) b (table-size n b f h) one k
+  where
+    one : (k : ℕ) → natAbs (cell (f n ∷ []) k) ≤ b
+    one zero = h n
+    one (suc k) = omega arith
 
 -- a list that is filled from the front
 abbrev pub filled : (ℕ → ℤ) → List ℤ → ℕ → List ℤ

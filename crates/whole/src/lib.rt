@@ -1,9 +1,10 @@
-// Whole numbers: sizes, signs, and division to the nearest, halves away from zero.
+// Whole numbers: sizes, signs, division to the nearest, halves away from zero; and places in a packed triangle.
 ghost use mathlib.Core.Path.{_≡_};
 ghost use Prim.Native.Nat.{ℕ, _+_, _*_, _^_, _<_, _≤_};
 ghost use lib.IntN.{ℤ, pos, natAbs, _+ℤ_, _-ℤ_, _*ℤ_};
 ghost use lib.Signed.{_<ℤ_};
 ghost use Rattle.whole.specs.Nearest.{signed, nearest};
+ghost use Rattle.whole.specs.Packed.{tri, place};
 
 // The size of x: of the least i64 too.
 pub fn size(x: i64) -> u64
@@ -87,4 +88,22 @@ pub fn scaled_wide(l: i64, y: i64) -> i64
     let b = size(y);
     let n = a * (b / 1_048_576) + (a * (b % 1_048_576) + 524_288) / 1_048_576;
     sign_of_product(l, y, n)
+}
+
+// ---- the packed triangle
+
+// Where row i starts.
+pub fn start(i: usize) -> usize
+    requires { ⌜ i ≤ 96 ⌝ }
+    ensures { λ r. ⌜ r ≡ tri i ⌝ }
+{
+    i * (i + 1) / 2
+}
+
+// The place of row i, column j + 1, from that of column j: a full row, both sides of the diagonal, with no multiplication.
+pub fn next(at: usize, i: usize, j: usize) -> usize
+    requires { ⌜ (at ≡ place i j) × (i < 96) × (j < 96) ⌝ }
+    ensures { λ r. ⌜ r ≡ place i (j + 1) ⌝ }
+{
+    if j < i { at + 1 } else { at + j + 1 }
 }

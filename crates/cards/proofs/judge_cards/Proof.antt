@@ -50,7 +50,7 @@ judge-card-requires : tie.Need-judge-card-requires Inv-loop μ-loop
 judge-card-requires c κs =
     let t = c .before .before .before .before .before .before .args .t .now in
     let i = c .before .before .before .before .loop .i in
-    (record { six = search needs; kind = c .before .kind .ensures ∙ letter-at t i ∙ sym (ap kindAt (lent t i)) }, search needs)
+    (search needs, c .before .kind .ensures ∙ letter-at t i ∙ sym (ap kindAt (lent t i)), search needs)
 
 enum-told : tie.Need-enum-told Inv-loop μ-loop
 enum-told c = search needs

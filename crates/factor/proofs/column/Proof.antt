@@ -1,9 +1,8 @@
 -- w and l are tested in turn, and stored where both pass.
-use mathlib.Core.Path.{_≡_, refl, sym, _∙_, ap}
+use mathlib.Core.Path.{_≡_, sym, _∙_, ap}
 use mathlib.Core.Bool.{Bool, true, false, false≢true}
 use mathlib.Core.List.{List}
-use Prim.Native.Nat.{ℕ, _+_, _*_, _^_, _≤_, _<_}
-use native.Mathlib.Omega.{arith}
+use Prim.Native.Nat.{ℕ, _+_, _^_, _≤_, _<_}
 use borrow.Author.Needs.{needs, sfits-of}
 use borrow.Author.Tests.{leb-true, not-true, not-false}
 use lib.IntN.{ℤ, pos, natAbs, _*ℤ_}
@@ -11,7 +10,7 @@ use lib.Signed.{mag, _<ℤ_}
 use lib.ListN.{set}
 use mir.Syntax.{w64}
 use mir.Val.{SFits}
-use Rattle.whole.specs.Packed.{tri, cell}
+use Rattle.whole.specs.Packed.{cell}
 use Rattle.whole.specs.Nearest.{nearest}
 use Rattle.whole.proofs.Calc.{rd}
 use Rattle.whole.proofs.Signs.{got, read}
@@ -22,7 +21,7 @@ use Rattle.factor.proofs.column.Statement.{statement}
 use Rattle.factor.proofs.column.Tie as tie
 
 -- w as the code has it, and its test
-module _ (xs ws : List ℤ) (s at j : ℕ) (ask : Column xs ws s at j) (v : ℤ) (ok : mag v < 2 ^ 63) (ev : v ≡ w xs s j ws) (b : Bool) (eb : b ≡ small 38 (rd v)) where
+module _ {xs ws : List ℤ} {s at j : ℕ} (ask : Column xs ws s at j) {v : ℤ} (ok : mag v < 2 ^ 63) (ev : v ≡ w xs s j ws) {b : Bool} (eb : b ≡ small 38 (rd v)) where
   v-is : rd v ≡ w xs s j ws
   v-is = got v ok ∙ ev
 
@@ -41,7 +40,7 @@ module _ (xs ws : List ℤ) (s at j : ℕ) (ask : Column xs ws s at j) (v : ℤ)
     pivot = let e : rd (cell xs (at + j)) ≡ cell xs (at + j) = read od in rw e (omega (zarith, ask .pivot))
 
     -- l as the code has it, and its test
-    module _ (t : b ≡ true) (u : ℤ) (ou : mag u < 2 ^ 63) (eu : u ≡ nearest (rd v *ℤ pos (2 ^ 20)) (natAbs (rd (cell xs (at + j))))) (g : Bool) (eg : g ≡ small 24 (rd u)) where
+    module _ (t : b ≡ true) {u : ℤ} (ou : mag u < 2 ^ 63) (eu : u ≡ nearest (rd v *ℤ pos (2 ^ 20)) (natAbs (rd (cell xs (at + j))))) {g : Bool} (eg : g ≡ small 24 (rd u)) where
       u-is : rd u ≡ l xs s j ws
       unfolding l
       u-is = got u ou ∙ eu ∙ rw (v-is, read od, ask .entry .start)
@@ -70,10 +69,9 @@ same-length-2 c = search needs
 returns : tie.Need-returns
 returns c =
     let e = c .before .before .before .before .before in
-    let a = e .args in
     let n = c .before .before .entry in
     let t = c .before .bounded-w in
-    large-w (a .work .now) (a .ws .now) (a .s) (a .at) (a .j) (e .pre) (n .result) (n .ok) (n .ensures) (t .result) (t .ensures) _ _ (not-true _ (c .if1 .taken))
+    large-w (e .pre) (n .ok) (n .ensures) (t .ensures) _ _ (not-true _ (c .if1 .taken))
 
 add-ratio : tie.Need-add-ratio
 add-ratio c = search needs
@@ -87,10 +85,9 @@ slice-copy-out-ratio c = search needs
 ratio-requires : tie.Need-ratio-requires
 ratio-requires c κs =
     let e = c .before .before .before .before .before .before in
-    let a = e .args in
     let n = c .before .before .before .entry in
     let t = c .before .before .bounded-w in
-    (w-size (a .work .now) (a .ws .now) (a .s) (a .at) (a .j) (e .pre) (n .result) (n .ok) (n .ensures) (t .result) (t .ensures) (not-false _ (c .before .if1 .left)), pivot (a .work .now) (a .ws .now) (a .s) (a .at) (a .j) (e .pre) (n .result) (n .ok) (n .ensures) (t .result) (t .ensures) (sfits-of (c .ratio-arg .given)))
+    (w-size (e .pre) (n .ok) (n .ensures) (t .ensures) (not-false _ (c .before .if1 .left)), pivot (e .pre) (n .ok) (n .ensures) (t .ensures) (sfits-of (c .ratio-arg .given)))
 
 bounded-l-requires : tie.Need-bounded-l-requires
 bounded-l-requires c κs = search needs
@@ -104,12 +101,11 @@ same-length-4 c = search needs
 returns-2 : tie.Need-returns-2
 returns-2 c =
     let e = c .before .before .before .before .before .before .before .before .before in
-    let a = e .args in
     let n = c .before .before .before .before .before .before .entry in
     let t = c .before .before .before .before .before .bounded-w in
     let q = c .before .before .ratio in
     let u = c .before .bounded-l in
-    large-l (a .work .now) (a .ws .now) (a .s) (a .at) (a .j) (e .pre) (n .result) (n .ok) (n .ensures) (t .result) (t .ensures) (sfits-of (c .before .before .before .ratio-arg .given)) (not-false _ (c .before .before .before .before .if1 .left)) (q .result) (q .ok) (q .ensures) (u .result) (u .ensures) _ _ (not-true _ (c .if2 .taken))
+    large-l (e .pre) (n .ok) (n .ensures) (t .ensures) (sfits-of (c .before .before .before .ratio-arg .given)) (not-false _ (c .before .before .before .before .if1 .left)) (q .ok) (q .ensures) (u .ensures) _ _ (not-true _ (c .if2 .taken))
 
 add-l : tie.Need-add-l
 add-l c = search needs
@@ -135,12 +131,11 @@ same-length-6 c = search needs
 returns-3 : tie.Need-returns-3
 returns-3 c =
     let e = c .before .before .before .before .before .before .before .before .before in
-    let a = e .args in
     let n = c .before .before .before .before .before .before .entry in
     let t = c .before .before .before .before .before .bounded-w in
     let q = c .before .before .ratio in
     let u = c .before .bounded-l in
-    stored (a .work .now) (a .ws .now) (a .s) (a .at) (a .j) (e .pre) (n .result) (n .ok) (n .ensures) (t .result) (t .ensures) (sfits-of (c .before .before .before .ratio-arg .given)) (not-false _ (c .before .before .before .before .if1 .left)) (q .result) (q .ok) (q .ensures) (u .result) (u .ensures) (not-false _ (c .if2 .left))
+    stored (e .pre) (n .ok) (n .ensures) (t .ensures) (sfits-of (c .before .before .before .ratio-arg .given)) (not-false _ (c .before .before .before .before .if1 .left)) (q .ok) (q .ensures) (u .ensures) (not-false _ (c .if2 .left))
 
 pub column-spec : {M : Type 1} → statement M
 column-spec =

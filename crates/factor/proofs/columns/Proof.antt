@@ -1,14 +1,15 @@
 -- What is left of the row from column j is what is left of the whole row.
-use mathlib.Core.Path.{_≡_, refl, sym, _∙_, ap}
-use mathlib.Core.Bool.{Bool, true, false, _&&_, true≢false, false≢true}
+use mathlib.Core.Path.{_≡_, refl, sym, _∙_}
+use mathlib.Core.Bool.{Bool, true, false, _&&_, false≢true}
 use mathlib.Core.List.{List, []}
-use Prim.Native.Nat.{ℕ, suc, _+_, _-_, _^_, _≤_, _<_}
+use Prim.Native.Nat.{ℕ, suc, _+_, _-_, _≤_, _<_}
 use native.Mathlib.Omega.{arith}
 use borrow.Author.Tests.{leb-true, not-true, not-false}
-use lib.IntN.{ℤ, natAbs}
+use lib.IntN.{ℤ}
 use lib.ListN.{length, set, take, length-set}
 use Rattle.whole.specs.Packed.{tri}
 use Rattle.whole.proofs.Packed.{tri-next, tri-below}
+use Rattle.whole.proofs.Tests.{and-told}
 use Rattle.paper.specs.Refusals.{when}
 use Rattle.paper.specs.Factor.{small, w, l, rowFrom}
 use Rattle.paper.specs.declared.Refusal.the-variants.{Bound}
@@ -30,19 +31,11 @@ Inv-loop work₀ ws₀ s i j₀ at₀ work ws j at = Inv work₀ ws₀ s i work 
 abbrev μ-loop : tie.MeasureT-loop
 μ-loop work₀ ws₀ s i j₀ at₀ work ws j at = i - j
 
-first : (xs ws : List ℤ) (s i : ℕ) → Row xs ws s i 0 → Inv xs ws s i xs ws 0 0
+first : {xs ws : List ℤ} {s i : ℕ} → Row xs ws s i 0 → Inv xs ws s i xs ws 0 0
 unfolding tri
-first xs ws s i row = record { row = row; start = refl; xlong = refl; wlong = refl; rest = let z : i - 0 ≡ i = omega arith in rw z }
+first {i} row = record { row = row; start = refl; xlong = refl; wlong = refl; rest = let z : i - 0 ≡ i = omega arith in rw z }
 
-and-left : (a b : Bool) → a && b ≡ true → a ≡ true
-and-left true b e = refl
-and-left false b e = e
-
-and-right : (a b : Bool) → a && b ≡ true → b ≡ true
-and-right true b e = e
-and-right false b e = absurd (false≢true e)
-
-module _ (xs₀ ws₀ : List ℤ) (s i : ℕ) (xs ws : List ℤ) (j at : ℕ) (inv : Inv xs₀ ws₀ s i xs ws j at) (h : j < i) (r : Bool) (ys vs : List ℤ) (p : ColumnDone r s j xs ws ys vs) where
+module _ {xs₀ ws₀ : List ℤ} {s i : ℕ} {xs ws : List ℤ} {j at : ℕ} (inv : Inv xs₀ ws₀ s i xs ws j at) (h : j < i) {r : Bool} {ys vs : List ℤ} (p : ColumnDone r s j xs ws ys vs) where
   stepped : when r (Bound (suc i)) (rowFrom (i - (j + 1)) i (j + 1) (set xs (s + j) (l xs s j ws)) (take (j + 1) (set ws j (w xs s j ws)))) ≡ rowFrom i i 0 xs₀ []
   stepped = rw (p .test, inv .row .start) (sym (column-step i j xs ws h (omega (arith, inv .row .wroom))) ∙ inv .rest)
 
@@ -55,31 +48,29 @@ module _ (xs₀ ws₀ : List ℤ) (s i : ℕ) (xs ws : List ℤ) (j at : ℕ) (i
   more : r ≡ true → Inv xs₀ ws₀ s i ys vs (j + 1) (at + (j + 1))
   more t =
       let e : small 38 (w xs s j ws) && small 24 (l xs s j ws) ≡ true = sym (p .test) ∙ t in
-      let hw : natAbs (w xs s j ws) ≤ 2 ^ 38 = leb-true _ _ (and-left _ _ e) in
-      let hl : natAbs (l xs s j ws) ≤ 2 ^ 24 = leb-true _ _ (and-right (small 38 (w xs s j ws)) _ e) in
+      let (tw, tl) = and-told (small 38 (w xs s j ws)) (small 24 (l xs s j ws)) e in
       rw (p .xset t, p .wset t)
       (record {
-        row = row-next xs ws s i j (l xs s j ws) (w xs s j ws) h hl hw (inv .row);
+        row = row-next (inv .row) h (l xs s j ws) (w xs s j ws) (leb-true _ _ tl) (leb-true _ _ tw);
         start = omega (arith, inv .start, tri-next j);
         xlong = length-set xs (s + j) (l xs s j ws) ∙ inv .xlong;
         wlong = length-set ws j (w xs s j ws) ∙ inv .wlong;
         rest = rw t at stepped;
       })
 
-last : (xs₀ ws₀ : List ℤ) (s i : ℕ) (xs ws : List ℤ) (j at : ℕ) → Inv xs₀ ws₀ s i xs ws j at → i ≤ j → ColumnsDone true s i xs₀ xs ws
-last xs₀ ws₀ s i xs ws j at inv h =
+last : {xs₀ ws₀ : List ℤ} {s i : ℕ} {xs ws : List ℤ} {j at : ℕ} → Inv xs₀ ws₀ s i xs ws j at → i ≤ j → ColumnsDone true s i xs₀ xs ws
+last {i} {j} inv h =
     let e : j ≡ i = omega (arith, inv .row .upto) in
     let z : i - i ≡ 0 = omega arith in
     record { rest = rw (e, z) at (inv .rest); keeps = λ t. rw e at (inv .row) }
 
 loop-holds : tie.Need-loop-holds Inv-loop μ-loop
-loop-holds c = first (c .args .work .now) (c .args .ws .now) (c .args .s) (c .args .i) (c .pre)
+loop-holds c = first (c .pre)
 
 column-requires : tie.Need-column-requires Inv-loop μ-loop
 column-requires c κs =
-    let a = c .before .before .before .before .args in
     let v = c .before .before .before .loop in
-    column-asks (v .work) (v .ws) (a .s) (a .i) (v .at) (v .j) (v .inv .start) (omega arith) (v .inv .row)
+    column-asks (v .inv .row) (v .inv .start) (omega arith)
 
 same-length : tie.Need-same-length Inv-loop μ-loop
 same-length c = c .before .before .before .column .kept .0 ∙ c .before .before .before .before .before .before .before .loop .inv .xlong
@@ -89,30 +80,27 @@ same-length-2 c = c .before .before .before .column .kept .1 .0 ∙ c .before .b
 
 returns : tie.Need-returns Inv-loop μ-loop
 returns c =
-    let a = c .before .before .before .before .before .before .before .before .args in
     let v = c .before .before .before .before .before .before .before .loop in
     let k = c .before .before .before .column in
-    large (a .work .now) (a .ws .now) (a .s) (a .i) (v .work) (v .ws) (v .j) (v .at) (v .inv) (omega arith) (k .result) (k .last .0) (k .last .1 .0) (k .ensures) (not-true _ (c .if1 .taken)) _ _
+    large (v .inv) (omega arith) (k .ensures) (not-true _ (c .if1 .taken)) _ _
 
 add-j : tie.Need-add-j Inv-loop μ-loop
 add-j c = omega (arith, c .before .before .before .before .before .before .before .loop .inv .row .few)
 
 add-at : tie.Need-add-at Inv-loop μ-loop
 add-at c =
-    let a = c .before .before .before .before .before .before .before .before .args in
     let v = c .before .before .before .before .before .before .before .loop in
     let k = c .before .before .before .column in
-    omega (arith, starts (a .work .now) (a .ws .now) (a .s) (a .i) (v .work) (v .ws) (v .j) (v .at) (v .inv) (omega arith) (k .result) (k .last .0) (k .last .1 .0) (k .ensures))
+    omega (arith, starts (v .inv) (omega arith) (k .ensures))
 
 loop-less : tie.Need-loop-less Inv-loop μ-loop
 loop-less c = omega arith
 
 loop-again : tie.Need-loop-again Inv-loop μ-loop
 loop-again c =
-    let a = c .before .before .before .before .before .before .before .before .args in
     let v = c .before .before .before .before .before .before .before .loop in
     let k = c .before .before .before .column in
-    more (a .work .now) (a .ws .now) (a .s) (a .i) (v .work) (v .ws) (v .j) (v .at) (v .inv) (omega arith) (k .result) (k .last .0) (k .last .1 .0) (k .ensures) (not-false _ (c .if1 .left))
+    more (v .inv) (omega arith) (k .ensures) (not-false _ (c .if1 .left))
 
 same-length-3 : tie.Need-same-length-3 Inv-loop μ-loop
 same-length-3 c = c .before .loop .inv .xlong
@@ -122,9 +110,8 @@ same-length-4 c = c .before .loop .inv .wlong
 
 returns-2 : tie.Need-returns-2 Inv-loop μ-loop
 returns-2 c =
-    let a = c .before .before .args in
     let v = c .before .loop in
-    last (a .work .now) (a .ws .now) (a .s) (a .i) (v .work) (v .ws) (v .j) (v .at) (v .inv) (omega arith)
+    last (v .inv) (omega arith)
 
 pub columns-spec : {M : Type 1} → statement M
 columns-spec =

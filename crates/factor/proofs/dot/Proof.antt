@@ -27,7 +27,7 @@ Inv-loop ls ws sum₀ k₀ sum k = (k ≤ length ls) × (toZ w64 sum ≡ sums.su
 abbrev μ-loop : tie.MeasureT-loop
 μ-loop ls ws sum₀ k₀ sum k = length ls - k
 
-module _ (ls ws : List ℤ) (ask : Terms ls ws) (k : ℕ) (h : k < length ls) where
+module _ {ls ws : List ℤ} (ask : Terms ls ws) (k : ℕ) (h : k < length ls) where
   term-size : natAbs (term ls ws k) ≤ 2 ^ 42
   term-size = scaled-size (cell ls k) (cell ws k) (ask .ls24 k h) (ask .ws38 k h)
 
@@ -38,8 +38,8 @@ module _ (ls ws : List ℤ) (ask : Terms ls ws) (k : ℕ) (h : k < length ls) wh
   w-is : Is (rd (cell ws k)) (cell ws k) (2 ^ 38)
   w-is = num (cell ws k) (ask .ws38 k h) (lit< tt)
 
-sum-size : (ls ws : List ℤ) → Terms ls ws → (k : ℕ) → k ≤ length ls → natAbs (sums.sum k (term ls ws)) ≤ 96 * 2 ^ 42
-sum-size ls ws ask k h = omega (arith, sum-size-each k (term ls ws) (2 ^ 42) (λ i l. term-size ls ws ask i (omega arith)), ask .few)
+sum-size : {ls ws : List ℤ} → Terms ls ws → (k : ℕ) → k ≤ length ls → natAbs (sums.sum k (term ls ws)) ≤ 96 * 2 ^ 42
+sum-size {ls} {ws} ask k h = omega (arith, sum-size-each k (term ls ws) (2 ^ 42) (λ i l. term-size ask i (omega arith)), ask .few)
 
 loop-holds : tie.Need-loop-holds Inv-loop μ-loop
 unfolding sums.sum
@@ -61,7 +61,7 @@ scaled-product-requires : tie.Need-scaled-product-requires Inv-loop μ-loop
 scaled-product-requires c κs =
     let e = c .before .before .before .before in
     let k = c .before .before .before .loop .k in
-    (size-of (l-is (e .args .ls .now) (e .args .ws .now) (e .pre) k (omega arith)), size-of (w-is (e .args .ls .now) (e .args .ws .now) (e .pre) k (omega arith)))
+    (size-of (l-is (e .pre) k (omega arith)), size-of (w-is (e .pre) k (omega arith)))
 
 -- the sum and one term more
 next : (c : tie.After-scaled-product Inv-loop μ-loop)
@@ -74,9 +74,9 @@ next c =
     let ls = e .args .ls .now in
     let ws = e .args .ws .now in
     let h : v .k < length ls = omega arith in
-    let p = times (l-is ls ws (e .pre) (v .k) h) (w-is ls ws (e .pre) (v .k) h) in
-    plus (is (v .inv .1) (sum-size ls ws (e .pre) (v .k) (v .inv .0)))
-    (res (c .scaled-product .ok) (c .scaled-product .ensures ∙ ap R (p .eq)) (of (term-size ls ws (e .pre) (v .k) h)))
+    let p = times (l-is (e .pre) (v .k) h) (w-is (e .pre) (v .k) h) in
+    plus (is (v .inv .1) (sum-size (e .pre) (v .k) (v .inv .0)))
+    (res (c .scaled-product .ok) (c .scaled-product .ensures ∙ ap R (p .eq)) (of (term-size (e .pre) (v .k) h)))
 
 add-sum : tie.Need-add-sum Inv-loop μ-loop
 add-sum c = fits (next c) (lit< tt)

@@ -1,11 +1,11 @@
 -- Row j's numbers l stand together, so that the sum is one of two slices.
-use mathlib.Core.Path.{_≡_, sym, _∙_, ap}
+use mathlib.Core.Path.{_≡_, _∙_}
 use mathlib.Core.List.{List}
 use Prim.Native.Nat.{ℕ, _+_, _*_, _-_, _^_, _≤_, _<_}
 use native.Mathlib.Omega.{arith}
 use borrow.Author.Needs.{needs}
 use lib.Dec.{lit<}
-use lib.IntN.{ℤ, natAbs, _*ℤ_, _-ℤ_, pos}
+use lib.IntN.{ℤ, natAbs, _*ℤ_, pos}
 use lib.Signed.{mag}
 use lib.ListN.{length, take, drop, length-take, length-drop}
 use lib.Seq.{getD-take, getD-drop}
@@ -28,7 +28,7 @@ part xs at j = take (at + j - at) (drop at xs)
 abbrev all : List ℤ → List ℤ → ℕ → ℤ
 all xs ws j = sum j (λ k. R (cell xs (tri j + k) *ℤ cell ws k))
 
-module _ (xs ws : List ℤ) (s at j : ℕ) (ask : Entry xs ws s at j) where
+module _ {xs ws : List ℤ} {s at j : ℕ} (ask : Entry xs ws s at j) where
   part-long : length (part xs at j) ≡ j
   part-long = simp (length-take, length-drop) (omega (arith, ask .inside))
 
@@ -53,11 +53,11 @@ module _ (xs ws : List ℤ) (s at j : ℕ) (ask : Entry xs ws s at j) where
       omega (arith, sum-size-each j (λ k. R (cell xs (tri j + k) *ℤ cell ws k)) (2 ^ 42) each, ask .few)
 
   -- the two numbers of the difference, as the code has them
-  x-is : Is (rd (cell xs (s + j))) (cell xs (s + j)) (2 ^ 47)
-  x-is = num (cell xs (s + j)) (ask .x47) (lit< tt)
+  x-is : Is (rd (cell xs (s + j))) (cell xs (s + j)) (2 ^ 50)
+  x-is = num (cell xs (s + j)) (ask .x50) (lit< tt)
 
-  all-is : (r : ℤ) → mag r < 2 ^ 63 → r ≡ sum (length (part xs at j)) (λ k. R (cell (part xs at j) k *ℤ cell ws k)) → Is (rd r) (all xs ws j) (96 * 2 ^ 42)
-  all-is r ok e = res ok (e ∙ dot-is) (of dot-size)
+  all-is : {r : ℤ} → mag r < 2 ^ 63 → r ≡ sum (length (part xs at j)) (λ k. R (cell (part xs at j) k *ℤ cell ws k)) → Is (rd r) (all xs ws j) (96 * 2 ^ 42)
+  all-is ok e = res ok (e ∙ dot-is) (of dot-size)
 
 add-minus : tie.Need-add-minus
 add-minus c = search needs
@@ -86,13 +86,13 @@ part-dot-end c = search needs
 dot-requires : tie.Need-dot-requires
 dot-requires c κs =
     let e = c .before .before in
-    terms (e .args .work .now) (e .args .ws .now) (e .args .s) (e .args .at) (e .args .j) (e .pre)
+    terms (e .pre)
 
 minus-requires : tie.Need-minus-requires
 minus-requires c κs =
     let e = c .before .before .before in
-    let x = x-is (e .args .work .now) (e .args .ws .now) (e .args .s) (e .args .at) (e .args .j) (e .pre) in
-    let r = all-is (e .args .work .now) (e .args .ws .now) (e .args .s) (e .args .at) (e .args .j) (e .pre) (c .dot .result) (c .dot .ok) (c .dot .ensures) in
+    let x = x-is (e .pre) in
+    let r = all-is (e .pre) (c .dot .ok) (c .dot .ensures) in
     omega (arith, size-of x, size-of r)
 
 returns : tie.Need-returns
@@ -100,8 +100,8 @@ unfolding w
 returns c =
     let e = c .before .before .before .before in
     let d = c .before .dot in
-    let x = x-is (e .args .work .now) (e .args .ws .now) (e .args .s) (e .args .at) (e .args .j) (e .pre) in
-    let r = all-is (e .args .work .now) (e .args .ws .now) (e .args .s) (e .args .at) (e .args .j) (e .pre) (d .result) (d .ok) (d .ensures) in
+    let x = x-is (e .pre) in
+    let r = all-is (e .pre) (d .ok) (d .ensures) in
     got (c .minus .result) (c .minus .ok) ∙ c .minus .ensures ∙ minus x r .eq
 
 pub entry-spec : {M : Type 1} → statement M

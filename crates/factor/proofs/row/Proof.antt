@@ -17,12 +17,12 @@ use Rattle.factor.proofs.Steps.{row-refused}
 use Rattle.factor.proofs.row.Statement.{statement}
 use Rattle.factor.proofs.row.Tie as tie
 
-module _ (s i : ℕ) (xs ys vs : List ℤ) (r : Bool) (p : ColumnsDone r s i xs ys vs) where
+module _ {s i : ℕ} {xs ys vs : List ℤ} {r : Bool} (p : ColumnsDone r s i xs ys vs) where
   large : r ≡ false → (zs : List ℤ) → RowDone (Refused (Bound (i + 1))) (rowFrom i i 0 xs []) i zs
-  large f zs = row-refused (Bound (i + 1)) (rowFrom i i 0 xs []) i zs (rw add-one (rw f at (p .rest)))
+  large f zs = row-refused (rw add-one (rw f at (p .rest)))
 
-  ended : r ≡ true → (a : Answer) (zs : List ℤ) → RowDone a (rowFrom 0 i i ys (take i vs)) i zs → RowDone a (rowFrom i i 0 xs []) i zs
-  ended t a zs q = let e : rowFrom 0 i i ys (take i vs) ≡ rowFrom i i 0 xs [] = rw t at (p .rest) in rw e at q
+  ended : r ≡ true → {a : Answer} {zs : List ℤ} → RowDone a (rowFrom 0 i i ys (take i vs)) i zs → RowDone a (rowFrom i i 0 xs []) i zs
+  ended t q = let e : rowFrom 0 i i ys (take i vs) ≡ rowFrom i i 0 xs [] = rw t at (p .rest) in rw e at q
 
 columns-requires : tie.Need-columns-requires
 columns-requires c κs = search needs
@@ -41,9 +41,8 @@ same-length-2 c = search needs
 
 returns : tie.Need-returns
 returns c =
-    let a = c .before .before .before .before .before .before .args in
     let k = c .before .before .before .columns in
-    large (a .s) (a .i) (a .work .now) (k .last .0) (k .last .1 .0) (k .result) (k .ensures) (not-true _ (c .if1 .taken)) _
+    large (k .ensures) (not-true _ (c .if1 .taken)) _
 
 diagonal-requires : tie.Need-diagonal-requires
 diagonal-requires c κs = c .before .before .before .before .before .columns .ensures .keeps (not-false _ (c .before .before .if1 .left))
@@ -56,10 +55,9 @@ same-length-4 c = search needs
 
 returns-2 : tie.Need-returns-2
 returns-2 c =
-    let a = c .before .before .before .before .before .before .before .before .before .before .args in
     let k = c .before .before .before .before .before .before .before .columns in
     let d = c .before .diagonal in
-    ended (a .s) (a .i) (a .work .now) (k .last .0) (k .last .1 .0) (k .result) (k .ensures) (not-false _ (c .before .before .before .before .if1 .left)) (d .result) (d .last .0) (d .ensures)
+    ended (k .ensures) (not-false _ (c .before .before .before .before .if1 .left)) (d .ensures)
 
 pub row-spec : {M : Type 1} → statement M
 row-spec =

@@ -1,8 +1,8 @@
 -- The place of the next column, left of the diagonal and right of it.
-use Rattle.lent.proofs.next.Statement.{statement}
-use Rattle.lent.proofs.next.Tie as tie
+use Rattle.whole.proofs.next.Statement.{statement}
+use Rattle.whole.proofs.next.Tie as tie
 use native.Mathlib.Omega.{arith}
 use Rattle.whole.proofs.Packed.{place-small, next-low, next-high}
 
 add-result : tie.Need-add-result
 add-result c = let a = c .before .args in omega (arith, place-small (a .i) (a .j) (c .before .pre .1) (c .before .pre .2))

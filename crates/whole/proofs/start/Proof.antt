@@ -1,9 +1,9 @@
 -- i (i + 1) / 2 is tri i.
 use borrow.Author.Needs.{needs}
-use Rattle.lent.proofs.start.Statement.{statement}
-use Rattle.lent.proofs.start.Tie as tie
+use Rattle.whole.proofs.start.Statement.{statement}
+use Rattle.whole.proofs.start.Tie as tie
 use native.Mathlib.Omega.{arith}
 use Rattle.whole.proofs.Packed.{tri-half, tri-small}
 
 add-result : tie.Need-add-result
 add-result c = search needs

@@ -1,0 +1,127 @@
+use Rattle.deck.proofs.judge_text.Statement.{statement}
+use Rattle.deck.proofs.judge_text.Tie as tie
+use borrow.Author.Needs.{needs}
+use mathlib.Core.Path.{_≡_, sym, ap, _∙_}
+use mathlib.Core.List.{List}
+use Prim.Native.Nat.{ℕ, _-_, _≤_}
+use native.Mathlib.Nat.{sub-zero}
+use native.Mathlib.Omega.{arith}
+use lib.ListN.{getD}
+use Rattle.paper.specs.Cards.{order, orderOf}
+use Rattle.paper.specs.Judge.{judgeCard, judgeFrom}
+use Rattle.paper.specs.Calls.{cardAt}
+use Rattle.paper.proofs.Judging.{judge-on, judge-here, judge-end}
+use Rattle.deck.proofs.InRows.{lent}
+
+abbrev Inv-loop : tie.InvT-loop
+Inv-loop z s start rows i₀ p₀ key₀ i p key = (i ≤ rows) × (judgeFrom z (cardAt s start) rows 0 0 0 ≡ judgeFrom z (cardAt s start) (rows - i) i p key)
+
+abbrev μ-loop : tie.MeasureT-loop
+μ-loop z s start rows i₀ p₀ key₀ i p key = rows - i
+
+loop-holds : tie.Need-loop-holds Inv-loop μ-loop
+loop-holds c = (search needs, rw sub-zero)
+
+mul-at : tie.Need-mul-at Inv-loop μ-loop
+mul-at c = search needs
+
+add-at : tie.Need-add-at Inv-loop μ-loop
+add-at c = search needs
+
+add-end : tie.Need-add-end Inv-loop μ-loop
+add-end c = search needs
+
+sub-card-of : tie.Need-sub-card-of Inv-loop μ-loop
+sub-card-of c = search needs
+
+part-card-of-start : tie.Need-part-card-of-start Inv-loop μ-loop
+part-card-of-start c = search needs
+
+part-card-of-end : tie.Need-part-card-of-end Inv-loop μ-loop
+part-card-of-end c = search needs
+
+card-of-requires : tie.Need-card-of-requires Inv-loop μ-loop
+card-of-requires c κs = search needs
+
+array-read-kind : tie.Need-array-read-kind Inv-loop μ-loop
+array-read-kind c = search needs
+
+kind-requires : tie.Need-kind-requires Inv-loop μ-loop
+kind-requires c κs = search needs
+
+slice-aggregate-judge-card : tie.Need-slice-aggregate-judge-card Inv-loop μ-loop
+slice-aggregate-judge-card c = search needs
+
+judge-card-requires : tie.Need-judge-card-requires Inv-loop μ-loop
+judge-card-requires c κs = search needs
+
+enum-told : tie.Need-enum-told Inv-loop μ-loop
+enum-told c = search needs
+
+enum-told-2 : tie.Need-enum-told-2 Inv-loop μ-loop
+enum-told-2 c = search needs
+
+returns : tie.Need-returns Inv-loop μ-loop
+returns c =
+    let a = c .before .before .before .before .before .before .before .before .before .before .args in
+    let l = c .before .before .before .before .before .before .before .before .loop in
+    let row = c .before .before .before .before .before .card-of .ensures ∙ lent (a .s .now) (a .start) (l .i) in
+    let e = sym (c .before .before .judge-card .ensures ∙ ap (judgeCard (a .z) (l .i) (l .p) (l .key)) row) ∙ c .enum-told2 .given .1 in
+    c .enum-told2 .given .1 ∙ judge-here (a .z) (cardAt (a .s .now) (a .start)) (a .rows) (l .i) (l .p) (l .key) _ (omega arith) e ∙ sym (l .inv .1)
+
+order-of-requires : tie.Need-order-of-requires Inv-loop μ-loop
+order-of-requires c κs = search needs
+
+array-read-key : tie.Need-array-read-key Inv-loop μ-loop
+array-read-key c = search needs
+
+add-i : tie.Need-add-i Inv-loop μ-loop
+add-i c = search needs
+
+loop-less : tie.Need-loop-less Inv-loop μ-loop
+loop-less c = search needs
+
+loop-again : tie.Need-loop-again Inv-loop μ-loop
+loop-again c =
+    let a = c .before .before .before .before .before .before .before .before .before .before .before .args in
+    let l = c .before .before .before .before .before .before .before .before .before .loop in
+    let row = c .before .before .before .before .before .before .card-of .ensures ∙ lent (a .s .now) (a .start) (l .i) in
+    let e = sym (c .before .before .before .judge-card .ensures ∙ ap (judgeCard (a .z) (l .i) (l .p) (l .key)) row) ∙ c .before .enum-told .given .1 in
+    let o = c .order-of .ensures ∙ ap order (c .before .before .before .before .before .kind .ensures) ∙ ap orderOf row in
+    let k = ap (λ (r : List ℕ). getD r 1 0) row in
+    let g = judge-on (a .z) (cardAt (a .s .now) (a .start)) (a .rows) (l .i) (l .p) (l .key) (omega arith) e in
+    (omega arith, cc (l .inv .1))
+
+returns-2 : tie.Need-returns-2 Inv-loop μ-loop
+returns-2 c =
+    let a = c .before .before .before .args in
+    let l = c .before .loop in
+    judge-end (a .z) (cardAt (a .s .now) (a .start)) (a .rows) (l .i) (l .p) (l .key) (omega arith) ∙ sym (l .inv .1)
+
+pub judge-text-spec : {M : Type 1} → statement M
+judge-text-spec =
+    tie.close
+    (tie.spec
+    Inv-loop
+    μ-loop
+    loop-holds
+    mul-at
+    add-at
+    add-end
+    sub-card-of
+    part-card-of-start
+    part-card-of-end
+    card-of-requires
+    array-read-kind
+    kind-requires
+    slice-aggregate-judge-card
+    judge-card-requires
+    enum-told
+    enum-told-2
+    returns
+    order-of-requires
+    array-read-key
+    add-i
+    loop-less
+    loop-again
+    returns-2)

@@ -1,0 +1,89 @@
+use borrow.Author.Needs.{needs}
+use Rattle.deck.proofs.reads_of.Statement.{statement}
+use Rattle.deck.proofs.reads_of.Tie as tie
+use mathlib.Core.Path.{_≡_, sym, ap, _∙_}
+use mathlib.Core.List.{List}
+use Prim.Native.Nat.{ℕ, _-_, _/_}
+use native.Mathlib.Omega.{arith}
+use borrow.Author.Tests.{not-true, not-false}
+use lib.ListN.{length, getD}
+use Rattle.paper.specs.Cards.{cards, countsOf}
+use Rattle.paper.specs.Judge.{trailer}
+use Rattle.paper.specs.Calls.{lastCard, startOf, readsFrom}
+use Rattle.paper.proofs.Reading.{trailer-told, reads-short, reads-long, reads-trailer, reads-back, reads-on}
+
+returns : tie.Need-returns
+returns c = reads-short (c .before .before .args .s .now) (c .before .before .args .room) (omega arith)
+
+returns-2 : tie.Need-returns-2
+returns-2 c = reads-long (c .before .before .before .args .s .now) (c .before .before .before .args .room) (omega arith) (omega arith)
+
+last-card-requires : tie.Need-last-card-requires
+last-card-requires c κs = search needs
+
+slice-aggregate-is-trailer : tie.Need-slice-aggregate-is-trailer
+slice-aggregate-is-trailer c = search needs
+
+is-trailer-requires : tie.Need-is-trailer-requires
+is-trailer-requires c κs = search needs
+
+returns-3 : tie.Need-returns-3
+returns-3 c =
+    let t = sym (c .before .is-trailer .ensures ∙ ap trailer (c .before .before .before .last-card .ensures)) in
+    reads-trailer (c .before .before .before .before .before .before .before .args .s .now) (c .before .before .before .before .before .before .before .args .room) (omega arith) (omega arith) (t ∙ not-true (c .before .is-trailer .result) (c .if3 .taken))
+
+array-read-back : tie.Need-array-read-back
+array-read-back c = search needs
+
+cast-back : tie.Need-cast-back
+cast-back c = search needs
+
+sub-last : tie.Need-sub-last
+sub-last c = search needs
+
+returns-4 : tie.Need-returns-4
+returns-4 c =
+    let t = sym (c .before .before .is-trailer .ensures ∙ ap trailer (c .before .before .before .before .last-card .ensures)) in
+    let k = ap (λ (r : List ℕ). getD r 1 0) (c .before .before .before .before .last-card .ensures) in
+    reads-back (c .before .before .before .before .before .before .before .before .args .s .now) (c .before .before .before .before .before .before .before .before .args .room) (omega arith) (omega arith) (t ∙ not-false (c .before .before .is-trailer .result) (c .before .if3 .left)) (omega arith)
+
+reads-from-requires : tie.Need-reads-from-requires
+reads-from-requires c κs =
+    let t = sym (c .before .before .is-trailer .ensures ∙ ap trailer (c .before .before .before .before .last-card .ensures)) in
+    let k = ap (λ (r : List ℕ). getD r 1 0) (c .before .before .before .before .last-card .ensures) in
+    let s = trailer-told (lastCard (c .before .before .before .before .before .before .before .before .args .s .now)) (t ∙ not-false (c .before .before .is-trailer .result) (c .before .if3 .left)) in
+    (omega (arith, s .back), omega (arith, s .back, s .few))
+
+returns-5 : tie.Need-returns-5
+returns-5 c =
+    let b = c .before .before .before .before .before .before .before .before .before .args .s .now in
+    let room = c .before .before .before .before .before .before .before .before .before .args .room in
+    let z = lastCard b in
+    let v = c .before .before .before .before .before .last-card .result in
+    let t = sym (c .before .before .before .is-trailer .ensures ∙ ap trailer (c .before .before .before .before .before .last-card .ensures)) ∙ not-false (c .before .before .before .is-trailer .result) (c .before .before .if3 .left) in
+    let k : getD v 1 0 ≡ getD z 1 0 = ap (λ (r : List ℕ). getD r 1 0) (c .before .before .before .before .before .last-card .ensures) in
+    let s = trailer-told z t in
+    let n : getD v 1 0 / 42 ≡ cards (countsOf z) = omega (arith, s .back, k) in
+    let st : length b - 42 - getD v 1 0 ≡ startOf b z = omega (arith, k) in
+    c .reads-from .ensures
+    ∙ ap (λ (r : List ℕ). readsFrom b room r (length b - 42 - getD v 1 0) (getD v 1 0 / 42)) (c .before .before .before .before .before .last-card .ensures)
+    ∙ ap (λ (j : ℕ). readsFrom b room z j (getD v 1 0 / 42)) st
+    ∙ ap (λ (j : ℕ). readsFrom b room z (startOf b z) j) n
+    ∙ reads-on b room (omega arith) (omega arith) t (omega (arith, k))
+
+pub reads-of-spec : {M : Type 1} → statement M
+reads-of-spec =
+    tie.close
+    (tie.spec
+    returns
+    returns-2
+    last-card-requires
+    slice-aggregate-is-trailer
+    is-trailer-requires
+    returns-3
+    array-read-back
+    cast-back
+    sub-last
+    returns-4
+    reads-from-requires
+    returns-5)

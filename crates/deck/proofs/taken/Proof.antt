@@ -1,0 +1,92 @@
+use borrow.Author.Needs.{needs}
+use Rattle.deck.proofs.taken.Statement.{statement}
+use Rattle.deck.proofs.taken.Tie as tie
+use mathlib.Core.Path.{_≡_, ap, _∙_}
+use mathlib.Core.List.{List, _++_}
+use Prim.Native.Nat.{ℕ, _+_, _-_, _*_, _/_}
+use native.Mathlib.Omega.{arith}
+use lib.ListN.{length, getD, take, drop, length-drop}
+use lib.Seq.{take-all}
+use Rattle.paper.specs.Cards.{cards, countsOf}
+use Rattle.paper.specs.Calls.{joined, cardAt, lastCard, startOf}
+use Rattle.paper.proofs.Reading.{trailer-told, accepted, table-read, part-read}
+
+last-card-requires : tie.Need-last-card-requires
+last-card-requires c κs =
+    let a = accepted (c .before .before .args .bytes .now) (length (c .before .before .args .table .now)) (c .before .before .pre) in
+    omega (arith, a .least)
+
+array-read-back : tie.Need-array-read-back
+array-read-back c = search needs
+
+cast-back : tie.Need-cast-back
+cast-back c = search needs
+
+sub-last : tie.Need-sub-last
+sub-last c =
+    let a = accepted (c .before .before .before .args .bytes .now) (length (c .before .before .before .args .table .now)) (c .before .before .before .pre) in
+    omega (arith, a .least)
+
+sub-start : tie.Need-sub-start
+sub-start c =
+    let a = accepted (c .before .before .before .args .bytes .now) (length (c .before .before .before .args .table .now)) (c .before .before .before .pre) in
+    let k = ap (λ (r : List ℕ). getD r 1 0) (c .last-card .ensures) in
+    omega (arith, a .within, k)
+
+add-rows-to : tie.Need-add-rows-to
+add-rows-to c =
+    let a = accepted (c .before .before .before .args .bytes .now) (length (c .before .before .before .args .table .now)) (c .before .before .before .pre) in
+    let k = ap (λ (r : List ℕ). getD r 1 0) (c .last-card .ensures) in
+    omega (arith, a .within, a .most, k)
+
+rows-to-requires : tie.Need-rows-to-requires
+rows-to-requires c κs =
+    let a = accepted (c .before .before .before .before .args .bytes .now) (length (c .before .before .before .before .args .table .now)) (c .before .before .before .before .pre) in
+    let k = ap (λ (r : List ℕ). getD r 1 0) (c .before .last-card .ensures) in
+    let s = trailer-told (lastCard (c .before .before .before .before .args .bytes .now)) (a .trails) in
+    (omega (arith, a .least, a .within, k, s .back), omega (arith, k, s .back, a .fits), omega (arith, k, s .back, s .few))
+
+sub-result : tie.Need-sub-result
+sub-result c = search needs
+
+part-result-start : tie.Need-part-result-start
+part-result-start c = search needs
+
+part-result-end : tie.Need-part-result-end
+part-result-end c = search needs
+
+same-length : tie.Need-same-length
+same-length c = search needs
+
+returns : tie.Need-returns
+returns c =
+    let b = c .before .before .before .before .before .before .before .before .args .bytes .now in
+    let t = c .before .before .before .before .before .before .before .before .args .table .now in
+    let z = lastCard b in
+    let v = c .before .before .before .before .before .last-card .result in
+    let a = accepted b (length t) (c .before .before .before .before .before .before .before .before .pre) in
+    let k : getD v 1 0 ≡ getD z 1 0 = ap (λ (r : List ℕ). getD r 1 0) (c .before .before .before .before .before .last-card .ensures) in
+    let s = trailer-told z (a .trails) in
+    let n : getD v 1 0 / 42 + 1 ≡ cards (countsOf z) + 1 = omega (arith, k, s .back) in
+    let st : length b - 42 - getD v 1 0 ≡ startOf b z = omega (arith, k) in (
+      ap (λ (j : ℕ). take (length b - j) (drop j b)) st ∙ take-all (length b - startOf b z) (drop (startOf b z) b) (simp length-drop (omega arith)) ∙ part-read b (length t) (c .before .before .before .before .before .before .before .before .pre),
+      c .before .before .before .rows-to .ensures ∙ ap (λ (j : ℕ). joined (cardAt b j) (getD v 1 0 / 42 + 1) 0 ++ drop ((getD v 1 0 / 42 + 1) * 6) t) st
+          ∙ ap (λ (m : ℕ). joined (cardAt b (startOf b z)) m 0 ++ drop (m * 6) t) n ∙ table-read b t (c .before .before .before .before .before .before .before .before .pre),
+    )
+
+pub taken-spec : {M : Type 1} → statement M
+taken-spec =
+    tie.close
+    (tie.spec
+    last-card-requires
+    array-read-back
+    cast-back
+    sub-last
+    sub-start
+    add-rows-to
+    rows-to-requires
+    sub-result
+    part-result-start
+    part-result-end
+    same-length
+    returns)

@@ -1,0 +1,54 @@
+use borrow.Author.Needs.{needs}
+use Rattle.deck.proofs.write.Statement.{statement}
+use Rattle.deck.proofs.write.Tie as tie
+use mathlib.Core.Path.{sym, _∙_}
+use native.Mathlib.Omega.{arith}
+use Rattle.paper.proofs.Judged.{top-told}
+use Rattle.deck.proofs.Writing.{write-refused, write-short, write-done}
+
+judge-requires : tie.Need-judge-requires
+judge-requires c κs = search needs
+
+enum-told : tie.Need-enum-told
+enum-told c = search needs
+
+enum-told-2 : tie.Need-enum-told-2
+enum-told-2 c = search needs
+
+returns : tie.Need-returns
+returns c =
+    let r = write-refused (c .before .before .before .before .before .args .table .now) (c .before .before .before .before .before .args .bytes .now) _ (sym (c .before .before .judge .ensures) ∙ c .enum-told2 .given .1) in
+    (c .enum-told2 .given .1 ∙ r .0, r .1)
+
+mul-if1 : tie.Need-mul-if1
+mul-if1 c = search needs
+
+returns-2 : tie.Need-returns-2
+returns-2 c = write-short (c .before .before .before .before .before .before .args .table .now) (c .before .before .before .before .before .before .args .bytes .now) (sym (c .before .before .before .judge .ensures) ∙ c .before .enum-told .given .1) (omega arith)
+
+cards-to-requires : tie.Need-cards-to-requires
+cards-to-requires c κs =
+    let s = top-told (c .before .before .before .before .before .before .before .args .table .now) (sym (c .before .before .before .before .judge .ensures) ∙ c .before .before .enum-told .given .1) in
+    (omega (arith, s .sixes, s .most), omega (arith, s .sixes, s .most), omega (arith, s .sixes, s .most))
+
+same-length : tie.Need-same-length
+same-length c = search needs
+
+returns-3 : tie.Need-returns-3
+returns-3 c =
+    let r = write-done (c .before .before .before .before .before .before .before .before .before .before .args .table .now) (c .before .before .before .before .before .before .before .before .before .before .args .bytes .now) (sym (c .before .before .before .before .before .before .before .judge .ensures) ∙ c .before .before .before .before .before .enum-told .given .1) (omega arith) in
+    (r .0, c .before .before .cards-to .ensures ∙ r .1)
+
+pub write-spec : {M : Type 1} → statement M
+write-spec =
+    tie.close
+    (tie.spec
+    judge-requires
+    enum-told
+    enum-told-2
+    returns
+    mul-if1
+    returns-2
+    cards-to-requires
+    same-length
+    returns-3)

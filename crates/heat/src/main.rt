@@ -1,0 +1,100 @@
+// The stepping program: reads a deck from standard input, builds, starts every node at D's start temperature, does D's steps
+// and prints the temperatures. A refusal prints `R number place` alone.
+use libc::STDIN_FILENO;
+use libc::STDOUT_FILENO;
+use paper::Answer;
+use paper::Ran;
+
+fn number(n: u64) {
+    io::write_all(STDOUT_FILENO, b" ");
+    io::print_decimal(STDOUT_FILENO, n);
+}
+
+fn line(letter: &[u8], a: u64, b: u64) {
+    io::write_all(STDOUT_FILENO, letter);
+    number(a);
+    number(b);
+    io::write_all(STDOUT_FILENO, b"\n");
+}
+
+// An answer as read gives it.
+fn refused(answer: u64) {
+    line(b"R", answer % 256, answer / 65_536);
+}
+
+fn fill(temperatures: &mut [i64], start: u32) {
+    let mut i = 0;
+    while i < temperatures.len() {
+        temperatures[i] = start as i64;
+        i += 1;
+    }
+}
+
+// Each node's temperature, then Z with the steps done and the lines to go back.
+fn printed(temperatures: &[i64], steps: u32) {
+    let mut i = 0;
+    while i < temperatures.len() {
+        line(b"T", i as u64 + 1, whole::size(temperatures[i]));
+        i += 1;
+    }
+    line(b"Z", steps as u64, temperatures.len() as u64);
+}
+
+// D's start temperature.
+fn start(table: &[u32]) -> u32 {
+    if table.len() < 3 { 0 } else { table[2] }
+}
+
+// Z's count of nodes.
+fn nodes(table: &[u32]) -> usize {
+    if table.len() < 4 {
+        return 0;
+    }
+    size(table[table.len() - 4])
+}
+
+fn size(x: u32) -> usize {
+    x as usize
+}
+
+// D's steps of a built model.
+fn stepped(table: &[u32], p: &[i64], a: &[i64], factor: &[i64], temperatures: &mut [i64]) {
+    match step::run(table, p, a, factor, &mut temperatures[..]) {
+        Ran::Finished(steps) => printed(&temperatures[..], steps),
+        Ran::Refused(why) => refused(deck::packed_refusal(why)),
+    }
+}
+
+fn ran(table: &[u32]) {
+    let mut p = [0i64; 4_656];
+    let mut a = [0i64; 4_656];
+    let mut factor = [0i64; 4_656];
+    let mut work = [0i64; 4_656];
+    let mut temperatures = [0i64; 96];
+    let answer = model::build(table, &mut p, &mut a, &mut factor, &mut work);
+    if let Answer::Refused(why) = answer {
+        refused(deck::packed_refusal(why));
+        return;
+    }
+    let n = nodes(table);
+    fill(&mut temperatures, start(table));
+    if n <= 96 {
+        stepped(table, &p, &a, &factor, &mut temperatures[0..n]);
+    }
+}
+
+fn main() {
+    let mut bytes = [0u8; 65_537];
+    let mut table = [0u32; 4_092];
+    let mut answer: u64 = 0;
+    let n = io::read_full(STDIN_FILENO, &mut bytes);
+    let part = deck::read(&bytes[..n], &mut table, &mut answer);
+    if answer != 0 {
+        refused(answer);
+        return;
+    }
+    let k = part.len() / 42 * 6;
+    if k <= 4_092 {
+        ran(&table[0..k]);
+    }
+}

@@ -1,0 +1,4 @@
+pub mod Leaving
+pub mod Moving
+pub mod Redoing
+pub mod Stages

@@ -1,0 +1,2 @@
+-- What the stages of build and replace ask of each other.
+pub mod Asks

@@ -1,0 +1,57 @@
+use borrow.Author.Needs.{needs}
+use Rattle.text.proofs.card_of.Statement.{statement}
+use Rattle.text.proofs.card_of.Tie as tie
+use mathlib.Core.Path.{sym, ap, _∙_}
+use mathlib.Core.List.{[], _∷_}
+use Prim.Native.Nat.{ℕ}
+use native.Mathlib.Omega.{arith}
+use lib.ListN.{getD}
+use Rattle.paper.specs.Cards.{used}
+use Rattle.paper.specs.Text.{fieldsFrom}
+use Rattle.paper.proofs.CardText.{card-none, card-line, card-fields}
+
+shared-slice-read-letter : tie.Need-shared-slice-read-letter
+shared-slice-read-letter c = search needs
+
+cast-letter : tie.Need-cast-letter
+cast-letter c = omega (arith, c .shared-slice-known2 .given 0)
+
+kind-requires : tie.Need-kind-requires
+kind-requires c κs = search needs
+
+used-of-requires : tie.Need-used-of-requires
+used-of-requires c κs = search needs
+
+returns : tie.Need-returns
+returns c = card-none (c .before .before .before .before .before .args .s .now) (sym (c .before .used-of .ensures .0 ∙ ap used (c .before .before .kind .ensures)) ∙ c .if1 .taken)
+
+shared-slice-read-if2 : tie.Need-shared-slice-read-if2
+shared-slice-read-if2 c = search needs
+
+returns-2 : tie.Need-returns-2
+returns-2 c =
+    let u = c .before .before .before .used-of .ensures .0 ∙ ap used (c .before .before .before .before .kind .ensures) in
+    card-line (c .before .before .before .before .before .before .before .args .s .now) (λ e. c .before .before .if1 .left (u ∙ e)) (c .if2 .taken)
+
+fields-of-requires : tie.Need-fields-of-requires
+fields-of-requires c κs = search needs
+
+returns-3 : tie.Need-returns-3
+returns-3 c =
+    let b = c .before .before .before .before .before .before .before .before .args .s .now in
+    let u = c .before .before .before .before .used-of .ensures .0 ∙ ap used (c .before .before .before .before .before .kind .ensures) in
+    c .fields-of .ensures ∙ ap (λ (v : ℕ). fieldsFrom v b 5 0 (getD b 0 0 ∷ 0 ∷ 0 ∷ 0 ∷ 0 ∷ 0 ∷ [])) u ∙ card-fields b (λ e. c .before .before .before .if1 .left (u ∙ e)) (c .before .if2 .left)
+
+pub card-of-spec : {M : Type 1} → statement M
+card-of-spec =
+    tie.close
+    (tie.spec
+    shared-slice-read-letter
+    cast-letter
+    kind-requires
+    used-of-requires
+    returns
+    shared-slice-read-if2
+    returns-2
+    fields-of-requires
+    returns-3)

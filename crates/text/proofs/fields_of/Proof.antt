@@ -1,0 +1,80 @@
+use Rattle.text.proofs.fields_of.Statement.{statement}
+use Rattle.text.proofs.fields_of.Tie as tie
+use borrow.Author.Needs.{needs}
+use mathlib.Core.Path.{_≡_, refl, sym, _∙_}
+use mathlib.Core.List.{[], _∷_}
+use Prim.Native.Nat.{_-_, _≤_}
+use native.Mathlib.Omega.{arith}
+use lib.ListN.{length, length-set}
+use Rattle.paper.specs.Text.{fieldsFrom}
+use Rattle.text.proofs.ReadCard.{fields-on, fields-here, fields-end}
+
+abbrev Inv-loop : tie.InvT-loop
+Inv-loop u s letter card₀ k₀ card k = (k ≤ 5) × (length card ≡ 6) × (fieldsFrom u s 5 0 (letter ∷ 0 ∷ 0 ∷ 0 ∷ 0 ∷ 0 ∷ []) ≡ fieldsFrom u s (5 - k) k card)
+
+abbrev μ-loop : tie.MeasureT-loop
+μ-loop u s letter card₀ k₀ card k = 5 - k
+
+loop-holds : tie.Need-loop-holds Inv-loop μ-loop
+loop-holds c = (search needs, refl, refl)
+
+field-of-requires : tie.Need-field-of-requires Inv-loop μ-loop
+field-of-requires c κs = search needs
+
+enum-known-f : tie.Need-enum-known-f Inv-loop μ-loop
+enum-known-f c = search needs
+
+enum-told : tie.Need-enum-told Inv-loop μ-loop
+enum-told c = search needs
+
+returns : tie.Need-returns Inv-loop μ-loop
+returns c =
+    let a = c .before .before .before .before .before .before .args in
+    let l = c .before .before .before .before .loop in
+    fields-here (a .u) (a .s .now) (l .k) (l .card) (omega arith) (sym (c .before .before .field-of .ensures) ∙ c .enum-told .given .1) ∙ sym (l .inv .2)
+
+add-card : tie.Need-add-card Inv-loop μ-loop
+add-card c = search needs
+
+mul-card : tie.Need-mul-card Inv-loop μ-loop
+mul-card c = search needs
+
+array-write-card : tie.Need-array-write-card Inv-loop μ-loop
+array-write-card c = search needs
+
+add-k : tie.Need-add-k Inv-loop μ-loop
+add-k c = search needs
+
+loop-less : tie.Need-loop-less Inv-loop μ-loop
+loop-less c = search needs
+
+loop-again : tie.Need-loop-again Inv-loop μ-loop
+loop-again c =
+    let a = c .before .before .before .before .before .before .before .args in
+    let l = c .before .before .before .before .before .loop in
+    (omega arith, simp length-set (l .inv .1), l .inv .2 ∙ fields-on (a .u) (a .s .now) (l .k) (l .card) _ (omega arith) (sym (c .before .before .before .field-of .ensures) ∙ c .before .f .given .1))
+
+returns-2 : tie.Need-returns-2 Inv-loop μ-loop
+returns-2 c =
+    let a = c .before .before .before .args in
+    let l = c .before .loop in
+    fields-end (a .u) (a .s .now) (l .k) (l .card) (omega arith) ∙ sym (l .inv .2)
+
+pub fields-of-spec : {M : Type 1} → statement M
+fields-of-spec =
+    tie.close
+    (tie.spec
+    Inv-loop
+    μ-loop
+    loop-holds
+    field-of-requires
+    enum-known-f
+    enum-told
+    returns
+    add-card
+    mul-card
+    array-write-card
+    add-k
+    loop-less
+    loop-again
+    returns-2)

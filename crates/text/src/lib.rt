@@ -1,0 +1,183 @@
+// A field's 8 columns and a card's 42 bytes, read and printed.
+use paper::Field;
+ghost use mathlib.Core.Path.{_≡_};
+ghost use mathlib.Core.List.{List, [], _∷_, _++_};
+ghost use Prim.Native.Nat.{ℕ, _+_, _≤_, _<_};
+ghost use lib.ListN.{length, take, drop};
+ghost use Rattle.paper.specs.Text.{digits, number, blank, column, columns, printed, fieldOf, fieldsFrom, cardOf, textField, textFrom, textOf};
+
+// ---- read
+
+// Digits to their end.
+fn digits_of(s: &[u8]) -> Field
+    requires { ⌜ length (now s) ≤ 8 ⌝ }
+    ensures { λ r. ⌜ r ≡ digits 0 (now (s .entry)) ⌝ }
+{
+    let mut v: u32 = 0;
+    let mut i = 0;
+    while i < s.len() {
+        let b = s[i] as u32;
+        if b < 48 {
+            return Field::Malformed;
+        }
+        if b > 57 {
+            return Field::Malformed;
+        }
+        v = v * 10 + (b - 48);
+        i += 1;
+    }
+    Field::Number(v)
+}
+
+// A used field's columns.
+fn number_of(s: &[u8]) -> Field
+    requires { ⌜ length (now s) ≤ 8 ⌝ }
+    ensures { λ r. ⌜ r ≡ number (now (s .entry)) ⌝ }
+{
+    let n = s.len();
+    let mut i = 0;
+    while i < n {
+        if s[i] != 32 {
+            if s[i] != 48 {
+                return digits_of(&s[i..n]);
+            }
+            if i + 1 < n {
+                return Field::Malformed;
+            }
+            return Field::Number(0);
+        }
+        i += 1;
+    }
+    Field::Malformed
+}
+
+// An unused field's columns.
+fn blank_of(s: &[u8]) -> Field
+    ensures { λ r. ⌜ r ≡ blank (now (s .entry)) ⌝ }
+{
+    let mut i = 0;
+    while i < s.len() {
+        if s[i] != 32 {
+            return Field::Malformed;
+        }
+        i += 1;
+    }
+    Field::Number(0)
+}
+
+// Field k of a card that uses u.
+fn field_of(u: usize, s: &[u8], k: usize) -> Field
+    requires { ⌜ (length (now s) ≡ 42) × (k < 5) ⌝ }
+    ensures { λ r. ⌜ r ≡ fieldOf u (now (s .entry)) k ⌝ }
+{
+    let at = 1 + k * 8;
+    let end = at + 8;
+    if k < u {
+        return number_of(&s[at..end]);
+    }
+    blank_of(&s[at..end])
+}
+
+// The five fields after the letter.
+fn fields_of(u: usize, s: &[u8], letter: u32) -> [u32; 6]
+    requires { ⌜ length (now s) ≡ 42 ⌝ }
+    ensures { λ r. ⌜ r ≡ fieldsFrom u (now (s .entry)) 5 0 (letter ∷ 0 ∷ 0 ∷ 0 ∷ 0 ∷ 0 ∷ []) ⌝ }
+{
+    let mut card = [letter, 0, 0, 0, 0, 0];
+    let mut k = 0;
+    while k < 5 {
+        let f = field_of(u, s, k);
+        let Field::Number(v) = f else {
+            return [0, 0, 0, 0, 0, 0];
+        };
+        card[k + 1] = v;
+        k += 1;
+    }
+    card
+}
+
+// A card's bytes as its six numbers; six zeros where it is malformed.
+pub fn card_of(s: &[u8]) -> [u32; 6]
+    requires { ⌜ length (now s) ≡ 42 ⌝ }
+    ensures { λ r. ⌜ r ≡ cardOf (now (s .entry)) ⌝ }
+{
+    let letter = s[0] as u32;
+    let u = cards::used_of(cards::kind(letter));
+    if u == 0 {
+        return [0, 0, 0, 0, 0, 0];
+    }
+    if s[41] != 10 {
+        return [0, 0, 0, 0, 0, 0];
+    }
+    fields_of(u, s, letter)
+}
+
+// ---- printed
+
+fn column_of(n: u32) -> u8
+    ensures { λ r. ⌜ r ≡ column n ⌝ }
+{
+    if n == 0 {
+        return 32;
+    }
+    48 + (n % 10) as u8
+}
+
+// w columns before what stands from w on.
+fn columns_to(w: usize, n: u32, out: &mut [u8])
+    requires { ⌜ w ≤ length (now out) ⌝ }
+    ensures { λ r. ⌜ now (out .exit) ≡ columns w n (drop w (now (out .entry))) ⌝ }
+{
+    let mut v = n;
+    let mut j = w;
+    while 0 < j {
+        j -= 1;
+        out[j] = column_of(v);
+        v = v / 10;
+    }
+}
+
+// A number in 8 columns.
+fn print_to(n: u32, out: &mut [u8])
+    requires { ⌜ length (now out) ≡ 8 ⌝ }
+    ensures { λ r. ⌜ now (out .exit) ≡ printed n ⌝ }
+{
+    out[7] = 48 + (n % 10) as u8;
+    columns_to(7, n / 10, out);
+}
+
+fn field_to(u: usize, k: usize, n: u32, out: &mut [u8])
+    requires { ⌜ length (now out) ≡ 8 ⌝ }
+    ensures { λ r. ⌜ now (out .exit) ≡ textField u k n ⌝ }
+{
+    if k < u {
+        print_to(n, out);
+        return;
+    }
+    columns_to(8, 0, out);
+}
+
+// The five fields after the letter.
+fn fields_to(u: usize, card: &[u32], out: &mut [u8])
+    requires { ⌜ (length (now card) ≡ 6) × (length (now out) ≡ 42) ⌝ }
+    ensures { λ r. ⌜ take 41 (now (out .exit)) ≡ take 1 (now (out .entry)) ++ textFrom u (now (card .entry)) 5 0 ⌝ }
+{
+    let mut k = 0;
+    while k < 5 {
+        let at = 1 + k * 8;
+        let end = at + 8;
+        field_to(u, k, card[k + 1], &mut out[at..end]);
+        k += 1;
+    }
+}
+
+// A card's 42 bytes.
+pub fn card_to(card: &[u32], out: &mut [u8])
+    requires { ⌜ (length (now card) ≡ 6) × (length (now out) ≡ 42) ⌝ }
+    ensures { λ r. ⌜ now (out .exit) ≡ textOf (now (card .entry)) ⌝ }
+{
+    let k = cards::kind(card[0]);
+    out[0] = cards::letter_of(k);
+    fields_to(cards::used_of(k), card, out);
+    out[41] = 10;
+}

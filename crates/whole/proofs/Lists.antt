@@ -1,0 +1,55 @@
+-- Lists written in order: one element, a part, a copy.
+use mathlib.Core.Path.{_≡_, sym, ap, _∙_}
+use mathlib.Core.List.{List, [], _∷_, _++_, append-assoc, append-nil}
+use Prim.Native.Nat.{ℕ, suc, _+_, _-_, _≤_, _<_}
+use native.Mathlib.Numerals.{add-one}
+use native.Mathlib.Omega.{arith}
+use borrow.Rule.Slice.PartMut.{putMid, postOf, same-len-mid, drop-put, mid-len}
+use lib.ListN.{length, getD, take, drop, set, length-append, drop-of-length-le}
+use lib.Seq.{take-at, drop-at, length-take-le, set-split, take-suc-set, drop-cons, take-all, drop-drop}
+
+-- what stands from a place on after a write there
+pub drop-set : (s : List ℕ) (k d : ℕ) → k < length s → drop k (set s k d) ≡ d ∷ drop (suc k) s
+drop-set s k d h =
+    let l : k ≤ length s = omega arith in
+    rw (set-split s k d h) (drop-at (take k s) (d ∷ drop (suc k) s) k (length-take-le k s l))
+
+-- n elements put after the a that stand
+pub put-front : (xs ys : List ℕ) (a n : ℕ) → a + n ≤ length xs → length ys ≡ n → take (a + n) (putMid a (a + n - a) xs ys) ≡ take a xs ++ ys
+put-front xs ys a n h e =
+    let l : a ≤ length xs = omega arith in
+    let f : length (take a xs ++ ys) ≡ a + n = length-append (take a xs) ys ∙ omega (arith, length-take-le a xs l) in
+    ap (take (a + n)) (sym (append-assoc (take a xs) ys (postOf a (a + n - a) xs))) ∙ take-at (take a xs ++ ys) (postOf a (a + n - a) xs) (a + n) f
+
+pub put-next : (xs ys rest : List ℕ) (a n m : ℕ) → m ≡ a + n → a + n ≤ length xs → length ys ≡ n
+    → take m (putMid a (a + n - a) xs ys) ++ rest ≡ take a xs ++ (ys ++ rest)
+put-next xs ys rest a n m q h e =
+    ap (λ (l : List ℕ). l ++ rest) (ap (λ (k : ℕ). take k (putMid a (a + n - a) xs ys)) q ∙ put-front xs ys a n h e) ∙ append-assoc (take a xs) ys rest
+
+pub put-length : (xs ys : List ℕ) (a n : ℕ) → a + n ≤ length xs → length ys ≡ n → length (putMid a (a + n - a) xs ys) ≡ length xs
+put-length xs ys a n h e =
+    let s : a + n - a ≡ n = omega arith in
+    same-len-mid a (a + n - a) xs ys (e ∙ sym s ∙ sym (mid-len a (a + n) xs h))
+
+-- what stands beyond a part stays
+pub put-beyond : (xs ys : List ℕ) (a n m : ℕ) → a + n ≤ m → a + n ≤ length xs → length ys ≡ n → drop m (putMid a (a + n - a) xs ys) ≡ drop m xs
+put-beyond xs ys a n m h g e =
+    let s : m ≡ a + n + (m - (a + n)) = omega arith in
+    let l : a ≤ a + n = omega arith in
+    let k : length ys ≡ a + n - a = e ∙ omega arith in
+    ap (λ (j : ℕ). drop j (putMid a (a + n - a) xs ys)) s ∙ sym (drop-drop (m - (a + n)) (a + n) (putMid a (a + n - a) xs ys))
+    ∙ ap (drop (m - (a + n))) (drop-put a (a + n) xs ys l g k) ∙ drop-drop (m - (a + n)) (a + n) xs ∙ ap (λ (j : ℕ). drop j xs) (sym s)
+
+-- a list copied over one of the same length, in order
+pub copy-on : (card out : List ℕ) (k : ℕ) → k < length card → k < length out → take k out ++ drop k card ≡ card → take (k + 1) (set out k (getD card k 0)) ++ drop (k + 1) card ≡ card
+copy-on card out k h l e =
+    rw add-one
+    (ap (λ (s : List ℕ). s ++ drop (suc k) card) (take-suc-set out k (getD card k 0) l) ∙ append-assoc (take k out) (getD card k 0 ∷ []) (drop (suc k) card)
+    ∙ ap (λ (s : List ℕ). take k out ++ s) (sym (drop-cons card k 0 h)) ∙ e)
+
+pub copy-end : (card out : List ℕ) (k : ℕ) → length card ≡ 6 → length out ≡ 6 → k ≡ 6 → take k out ++ drop k card ≡ card → out ≡ card
+copy-end card out k h l e i =
+    let a : length out ≤ 6 = omega arith in
+    let d : length card ≤ 6 = omega arith in
+    sym (append-nil out) ∙ ap (λ (s : List ℕ). s ++ []) (sym (take-all 6 out a)) ∙ ap (λ (s : List ℕ). take 6 out ++ s) (sym (drop-of-length-le card {i = 6} d))
+    ∙ ap (λ (j : ℕ). take j out ++ drop j card) (sym e) ∙ i

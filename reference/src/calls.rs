@@ -1,0 +1,311 @@
+//! The six calls.
+
+use crate::answer::*;
+use crate::card::*;
+use crate::element::{change, Form};
+use crate::judge::{in_range, judge_card, well_formed, Counts, Deck};
+use crate::step::{on_scale, Stepper};
+use crate::{factor as factoring, matrix, text};
+
+/// Reads the deck at the end of the bytes into the table. Answers also the bounds
+/// of the part from D to Z, both whole; 0 and 0 on a refusal.
+pub fn read(bytes: &[u8], table: &mut [u32]) -> (Answer, usize, usize) {
+    match try_read(bytes, table) {
+        Ok(start) => (Answer::Done, start, bytes.len()),
+        Err(refusal) => (Answer::Refused(refusal), 0, 0),
+    }
+}
+
+fn try_read(bytes: &[u8], table: &mut [u32]) -> Result<usize, Refusal> {
+    if bytes.len() < CARD_BYTES || bytes.len() > MAX_BYTES {
+        return Err(Refusal::whole(LENGTH));
+    }
+    let at_trailer = bytes.len() - CARD_BYTES;
+    let trailer = text::scan(&bytes[at_trailer..]).ok_or(Refusal::whole(TRAILER))?;
+    let counts = Counts::of(&trailer).ok_or(Refusal::whole(TRAILER))?;
+    let start = at_trailer
+        .checked_sub(counts.bytes_back())
+        .ok_or(Refusal::whole(TRAILER))?;
+
+    // Nothing may be written before the last card is judged: the cards are scanned twice.
+    let cards = || {
+        bytes[start..at_trailer]
+            .chunks_exact(CARD_BYTES)
+            .map(text::scan)
+    };
+    let mut before = [0; 6];
+    for (index, card) in cards().enumerate() {
+        let card = card.ok_or(Refusal::at_index(FORM, index))?;
+        judge_card(&counts, index, &before, &card)?;
+        before = card;
+    }
+    if table.len() < 6 * counts.rows() {
+        return Err(Refusal::whole(SHORT));
+    }
+    let all = cards().flatten().chain([trailer]);
+    for (row, card) in table.chunks_exact_mut(6).zip(all) {
+        row.copy_from_slice(&card);
+    }
+    Ok(start)
+}
+
+/// Writes the table's cards as bytes.
+pub fn write(table: &[u32], bytes: &mut [u8]) -> Answer {
+    try_write(table, bytes).into()
+}
+
+fn try_write(table: &[u32], bytes: &mut [u8]) -> Result<(), Refusal> {
+    let deck = Deck::judge(table)?;
+    if bytes.len() < CARD_BYTES * deck.counts.rows() {
+        return Err(Refusal::whole(SHORT));
+    }
+    for (part, card) in bytes.chunks_exact_mut(CARD_BYTES).zip(deck.cards()) {
+        text::print(&card, part);
+    }
+    Ok(())
+}
+
+/// Makes P, A and the factor of a deck. Until the factor is had, only the work slice is written.
+pub fn build(
+    table: &[u32],
+    p: &mut [i64],
+    a: &mut [i64],
+    factor: &mut [i64],
+    work: &mut [i64],
+) -> Answer {
+    try_build(table, p, a, factor, work).into()
+}
+
+fn try_build(
+    table: &[u32],
+    p: &mut [i64],
+    a: &mut [i64],
+    factor: &mut [i64],
+    work: &mut [i64],
+) -> Result<(), Refusal> {
+    let deck = Deck::judge(table)?;
+    let n = deck.counts.nodes;
+    let length = matrix::start(n);
+    let [p, a, factor, work] = [
+        cut(p, length)?,
+        cut(a, length)?,
+        cut(factor, length)?,
+        cut(work, length)?,
+    ];
+
+    let mut forms = [Form::EMPTY; MAX_ELEMENTS];
+    let forms = &mut forms[..deck.counts.elements];
+    for (element, form) in forms.iter_mut().enumerate() {
+        *form = Form::of(&deck, element, &deck.element(element))?;
+        form.judge(element)?;
+    }
+    for card in deck.loads().filter(|card| card[0] == F) {
+        let form = &mut forms[card[1] as usize - 1];
+        *form = form.with_film(card[2]);
+    }
+
+    work.fill(0);
+    for form in forms.iter() {
+        matrix::add(work, form.corners, form.total());
+    }
+    matrix::fix(work, 0, n, &deck.fixed());
+    let result = factoring::rows(&[], work, 0, n);
+    if result.is_ok() {
+        factor.copy_from_slice(work);
+        p.fill(0);
+        a.fill(0);
+        for form in forms.iter() {
+            matrix::add(p, form.corners, form.capacity());
+            matrix::add(a, form.corners, form.total());
+        }
+    }
+    work.fill(0);
+    result
+}
+
+/// Replaces one card of a deck, and of P, A and the factor what depends on it.
+pub fn replace(
+    table: &mut [u32],
+    p: &mut [i64],
+    a: &mut [i64],
+    factor: &mut [i64],
+    work: &mut [i64],
+    card: u32,
+    new: Card,
+) -> Answer {
+    try_replace(table, p, a, factor, work, card, new).into()
+}
+
+fn try_replace(
+    table: &mut [u32],
+    p: &mut [i64],
+    a: &mut [i64],
+    factor: &mut [i64],
+    work: &mut [i64],
+    card: u32,
+    new: Card,
+) -> Result<(), Refusal> {
+    let deck = Deck::judge(table)?;
+    let index = judge_new(&deck, card, &new)?;
+    let n = deck.counts.nodes;
+    let length = matrix::start(n);
+    let [p, a, factor, work] = [
+        cut(p, length)?,
+        cut(a, length)?,
+        cut(factor, length)?,
+        cut(work, length)?,
+    ];
+    judge_lent(n, p, a, factor)?;
+
+    if new[0] == E || new[0] == F {
+        let old = deck.card(index);
+        let (old_form, new_form) = forms_of_change(&deck, index, &old, &new)?;
+        let corners = new_form.corners;
+        let change_p = change(new_form.capacity(), old_form.capacity());
+        let change_a = change(new_form.total(), old_form.total());
+
+        // All six places are in the rows from the least corner on.
+        let first = corners[0].min(corners[1]).min(corners[2]);
+        let from = matrix::start(first);
+        work[from..].copy_from_slice(&a[from..]);
+        matrix::add(work, corners, change_a);
+        matrix::fix(work, first, n, &deck.fixed());
+        let (kept, lower) = factor.split_at_mut(from);
+        let result = factoring::rows(kept, &mut work[from..], first, n);
+        if result.is_ok() {
+            lower.copy_from_slice(&work[from..]);
+            matrix::add(p, corners, change_p);
+            matrix::add(a, corners, change_a);
+        }
+        work.fill(0);
+        result?;
+    }
+    table[6 * index..6 * index + 6].copy_from_slice(&new);
+    Ok(())
+}
+
+/// 3, 13 and 4 of a new card; the index of the card that it replaces, D being 0.
+fn judge_new(deck: &Deck, card: u32, new: &Card) -> Result<usize, Refusal> {
+    if !well_formed(new) {
+        return Err(Refusal::at(FORM, card));
+    }
+    let index = (card as usize)
+        .checked_sub(1)
+        .filter(|&index| index < deck.counts.rows())
+        .ok_or(Refusal::at(REPLACEMENT, card))?;
+    let old = deck.card(index);
+    // The letter and what must stay with it: E's corners, or the element or node named.
+    let kept = match new[0] {
+        E => 4,
+        H | F | T => 2,
+        _ => return Err(Refusal::at(REPLACEMENT, card)),
+    };
+    if old[..kept] != new[..kept] {
+        return Err(Refusal::at(REPLACEMENT, card));
+    }
+    // It still rises, since its key stays.
+    if !in_range(&deck.counts, new) {
+        return Err(Refusal::at(RANGE, card));
+    }
+    Ok(index)
+}
+
+/// The old and new form of the element that an E or F names: 5, and 6 of the new one.
+/// An E leaves the film as it is, so its film is left out of both.
+fn forms_of_change(
+    deck: &Deck,
+    index: usize,
+    old: &Card,
+    new: &Card,
+) -> Result<(Form, Form), Refusal> {
+    let (element, old_form, new_form);
+    if new[0] == E {
+        element = index - deck.counts.first_element();
+        new_form = Form::of(deck, element, new)?;
+        old_form = Form::of(deck, element, old)?;
+    } else {
+        element = new[1] as usize - 1;
+        let form = Form::of(deck, element, &deck.element(element))?;
+        new_form = form.with_film(new[2]);
+        old_form = form.with_film(old[2]);
+    }
+    new_form.judge(element)?;
+    Ok((old_form, new_form))
+}
+
+/// One step from the lent temperatures.
+pub fn step(
+    table: &[u32],
+    p: &[i64],
+    a: &[i64],
+    factor: &[i64],
+    temperatures: &mut [i64],
+) -> Stepped {
+    try_run(
+        table,
+        p,
+        a,
+        factor,
+        temperatures,
+        |stepper, _, temperatures| stepper.step(temperatures),
+    )
+    .into()
+}
+
+/// D's number of steps from the lent temperatures, up to the first refusal. What
+/// a step asks of the deck and the matrices is the same each time, and asked once.
+pub fn run(table: &[u32], p: &[i64], a: &[i64], factor: &[i64], temperatures: &mut [i64]) -> Ran {
+    try_run(
+        table,
+        p,
+        a,
+        factor,
+        temperatures,
+        |stepper, steps, temperatures| {
+            for _ in 0..steps {
+                stepper.step(temperatures)?;
+            }
+            Ok(steps)
+        },
+    )
+    .into()
+}
+
+/// The judging before a step, then `work` with the stepper, D's steps and the n temperatures.
+fn try_run(
+    table: &[u32],
+    p: &[i64],
+    a: &[i64],
+    factor: &[i64],
+    temperatures: &mut [i64],
+    work: impl Fn(&Stepper, u32, &mut [i64]) -> Result<u32, Refusal>,
+) -> Result<u32, Refusal> {
+    let deck = Deck::judge(table)?;
+    let n = deck.counts.nodes;
+    let length = matrix::start(n);
+    if p.len() < length || a.len() < length || factor.len() < length {
+        return Err(Refusal::whole(SHORT));
+    }
+    let temperatures = cut(temperatures, n)?;
+    judge_lent(n, p, a, factor)?;
+    on_scale(temperatures)?;
+    work(
+        &Stepper::new(&deck, p, a, factor),
+        deck.steps(),
+        temperatures,
+    )
+}
+
+/// The part of a lent slice that counts, or 9.
+fn cut(slice: &mut [i64], length: usize) -> Result<&mut [i64], Refusal> {
+    slice.get_mut(..length).ok_or(Refusal::whole(SHORT))
+}
+
+/// Refusal 10.
+fn judge_lent(n: usize, p: &[i64], a: &[i64], factor: &[i64]) -> Result<(), Refusal> {
+    if !matrix::sums_bounded(p, n) || !matrix::sums_bounded(a, n) || !factoring::bounded(factor, n)
+    {
+        return Err(Refusal::whole(LENT));
+    }
+    Ok(())
+}

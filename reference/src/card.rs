@@ -1,0 +1,36 @@
+//! A card as six numbers, and the sizes that a deck may have.
+
+/// The letter's ASCII code, then five fields; an unused one is 0.
+pub type Card = [u32; 6];
+
+pub const D: u32 = b'D' as u32;
+pub const N: u32 = b'N' as u32;
+pub const M: u32 = b'M' as u32;
+pub const E: u32 = b'E' as u32;
+pub const H: u32 = b'H' as u32;
+pub const F: u32 = b'F' as u32;
+pub const T: u32 = b'T' as u32;
+pub const Z: u32 = b'Z' as u32;
+
+pub const MAX_NODES: usize = 96;
+pub const MAX_MATERIALS: usize = 8;
+pub const MAX_ELEMENTS: usize = 160;
+pub const MAX_LOADS: usize = 416;
+/// D, every group full, and Z.
+pub const MAX_ROWS: usize = 2 + MAX_NODES + MAX_MATERIALS + MAX_ELEMENTS + MAX_LOADS;
+
+pub const CARD_BYTES: usize = 42;
+pub const MAX_BYTES: usize = 65_536;
+
+/// The top of the temperature scale, in ticks of 1/65,536 K.
+pub const TOP: u32 = 33_554_432;
+
+/// How many fields a letter's card uses; None of a letter that is none of the eight.
+pub fn fields_used(letter: u32) -> Option<usize> {
+    match letter {
+        N | H | T => Some(2),
+        D | M | F => Some(3),
+        E | Z => Some(5),
+        _ => None,
+    }
+}

@@ -1,0 +1,24 @@
+//! The board heat model of document 01 in plain Rust, written from that paper
+//! alone, to be compared with and measured against. No dependencies.
+//!
+//! Every call takes slices of any length and numbers of any size and never
+//! panics. Only `main` uses the heap.
+
+#![forbid(unsafe_code)]
+// Rows and columns go by number, as in the paper.
+#![allow(clippy::needless_range_loop)]
+
+pub mod answer;
+mod calls;
+mod card;
+mod element;
+mod factor;
+mod judge;
+mod matrix;
+mod round;
+mod step;
+mod text;
+
+pub use answer::{Answer, Ran, Refusal, Stepped};
+pub use calls::{build, read, replace, run, step, write};
+pub use card::{Card, MAX_BYTES, MAX_NODES, MAX_ROWS};

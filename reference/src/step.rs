@@ -1,0 +1,211 @@
+//! One implicit step.
+
+use crate::answer::*;
+use crate::card::{F, H, MAX_NODES, TOP};
+use crate::element::{corners, film_load, heat_load};
+use crate::factor::bound;
+use crate::judge::Deck;
+use crate::matrix::{multiply, multiply_sizes, start};
+use crate::round::{nearest, r, r_wide, ONE};
+
+const MAX_Y: i64 = 1 << 52;
+const MAX_X: i64 = 1 << 36;
+const MAX_CORRECTIONS: u32 = 4;
+/// Corrections are worked out in 1/256 tick.
+const FINE: i64 = 256;
+
+type Vector = [i64; MAX_NODES];
+
+/// A deck, its matrices and what stays the same from step to step.
+pub struct Stepper<'a> {
+    n: usize,
+    p: &'a [i64],
+    a: &'a [i64],
+    factor: &'a [i64],
+    fixed: [Option<i64>; MAX_NODES],
+    /// The right side without P times the old temperatures.
+    constant: Vector,
+    /// The sum of |A'| along each row.
+    tolerance: Vector,
+}
+
+impl<'a> Stepper<'a> {
+    /// Of slices that have passed 9 and 10.
+    pub fn new(deck: &Deck, p: &'a [i64], a: &'a [i64], factor: &'a [i64]) -> Stepper<'a> {
+        let n = deck.counts.nodes;
+        let fixed = deck.fixed();
+
+        let mut constant = [0; MAX_NODES];
+        for card in deck.loads().filter(|card| card[0] == H || card[0] == F) {
+            let corners = corners(&deck.element(card[1] as usize - 1));
+            let share = match card[0] {
+                H => heat_load(card[2]),
+                _ => film_load(deck, corners, card[2], card[3]),
+            };
+            for node in corners {
+                constant[node] += share;
+            }
+        }
+        // The columns cleared in A' go to the right side.
+        let moved = multiply(a, n, &fixed.map(|temperature| temperature.unwrap_or(0)));
+        let mut tolerance = multiply_sizes(
+            a,
+            n,
+            &fixed.map(|temperature| i64::from(temperature.is_none())),
+        );
+        for i in 0..n {
+            match fixed[i] {
+                Some(temperature) => {
+                    constant[i] = ONE * temperature;
+                    tolerance[i] = ONE;
+                }
+                None => constant[i] -= moved[i],
+            }
+        }
+        Stepper {
+            n,
+            p,
+            a,
+            factor,
+            fixed,
+            constant,
+            tolerance,
+        }
+    }
+
+    /// One step of n temperatures that are on the scale; they change only if it settles.
+    pub fn step(&self, temperatures: &mut [i64]) -> Result<u32, Refusal> {
+        let mut new = [0; MAX_NODES];
+        new[..self.n].copy_from_slice(temperatures);
+
+        let mut right = self.constant;
+        let capacity = multiply(self.p, self.n, &new);
+        for i in 0..self.n {
+            if self.fixed[i].is_none() {
+                right[i] += capacity[i];
+            }
+        }
+
+        let mut residual = self.residual(&right, &new);
+        let mut corrections = 0;
+        loop {
+            let x = self.back(self.forward(residual)?)?;
+            for i in 0..self.n {
+                new[i] += nearest(x[i], FINE);
+            }
+            on_scale(&new[..self.n])?;
+            corrections += 1;
+            residual = self.residual(&right, &new);
+            match (0..self.n).find(|&i| residual[i].abs() > self.tolerance[i]) {
+                None => {
+                    temperatures.copy_from_slice(&new[..self.n]);
+                    return Ok(corrections);
+                }
+                Some(row) if corrections == MAX_CORRECTIONS => {
+                    return Err(Refusal::at_index(UNSETTLED, row));
+                }
+                Some(_) => {}
+            }
+        }
+    }
+
+    /// Right side - A'·T. A free row of A' is A's with the fixed columns cleared,
+    /// so A is multiplied with those temperatures set to 0.
+    fn residual(&self, right: &Vector, temperatures: &Vector) -> Vector {
+        let mut free = *temperatures;
+        for i in 0..self.n {
+            if self.fixed[i].is_some() {
+                free[i] = 0;
+            }
+        }
+        let mut residual = multiply(self.a, self.n, &free);
+        for i in 0..self.n {
+            if self.fixed[i].is_some() {
+                residual[i] = ONE * temperatures[i];
+            }
+            residual[i] = right[i] - residual[i];
+        }
+        residual
+    }
+
+    fn row(&self, i: usize) -> &[i64] {
+        &self.factor[start(i)..=start(i) + i]
+    }
+
+    /// y, over r.
+    fn forward(&self, mut y: Vector) -> Result<Vector, Refusal> {
+        for i in 0..self.n {
+            let row = self.row(i);
+            let sum: i64 = row[..i].iter().zip(&y).map(|(&l, &y)| r_wide(l, y)).sum();
+            y[i] = bound(y[i] - sum, MAX_Y, i)?;
+        }
+        Ok(y)
+    }
+
+    /// z and then x, over y. From the last row: each x, once done, is taken out of
+    /// all the rows above it, so that the factor is walked along its rows.
+    fn back(&self, mut x: Vector) -> Result<Vector, Refusal> {
+        for i in 0..self.n {
+            x[i] = nearest(FINE * x[i], self.row(i)[i]);
+        }
+        for k in (0..self.n).rev() {
+            let done = bound(x[k], MAX_X, k)?;
+            for (x, l) in x.iter_mut().zip(&self.row(k)[..k]) {
+                *x -= r(l * done);
+            }
+        }
+        Ok(x)
+    }
+}
+
+/// Refusal 11, at the lowest node.
+pub fn on_scale(temperatures: &[i64]) -> Result<(), Refusal> {
+    let scale = 0..=i64::from(TOP);
+    match temperatures
+        .iter()
+        .position(|temperature| !scale.contains(temperature))
+    {
+        Some(node) => Err(Refusal::at_index(SCALE, node)),
+        None => Ok(()),
+    }
+}
+
+#[cfg(test)]
+mod tests {
+    use super::*;
+    use crate::build;
+    use crate::card::{D, E, M, N, Z};
+
+    /// What no call shows of P6: each residual is -4,464 and each row's bound 10,000.
+    #[test]
+    fn p6_residuals() {
+        let table = [
+            [D, 1_000, 19_660_800, 1, 0, 0],
+            [N, 0, 0, 0, 0, 0],
+            [N, 100, 0, 0, 0, 0],
+            [N, 0, 100, 0, 0, 0],
+            [M, 1_000, 1_000, 2_400, 0, 0],
+            [E, 1, 2, 3, 1, 1_000],
+            [H, 1, 3, 0, 0, 0],
+            [Z, 294, 3, 1, 1, 1],
+        ]
+        .concat();
+        let (mut p, mut a, mut factor, mut work) = ([0; 6], [0; 6], [0; 6], [0; 6]);
+        assert_eq!(
+            build(&table, &mut p, &mut a, &mut factor, &mut work),
+            Answer::Done
+        );
+        let stepper = Stepper::new(&Deck::judge(&table).unwrap(), &p, &a, &factor);
+        assert_eq!(stepper.tolerance[..3], [10_000; 3]);
+
+        let mut old = [0; MAX_NODES];
+        old[..3].fill(19_660_800);
+        let mut right = multiply(&p, 3, &old);
+        for i in 0..3 {
+            right[i] += stepper.constant[i];
+        }
+        let mut new = [0; MAX_NODES];
+        new[..3].fill(19_660_807);
+        assert_eq!(stepper.residual(&right, &new)[..3], [-4_464; 3]);
+    }
+}

@@ -1,0 +1,62 @@
+//! A card as 42 bytes: a letter, five fields of 8 columns, a newline.
+
+use crate::card::{fields_used, Card, CARD_BYTES};
+
+const COLUMNS: usize = 8;
+
+/// The card that the bytes spell; None if the letter is none of the eight, or
+/// the columns or the newline are wrong. Ranges are the judge's.
+pub fn scan(bytes: &[u8]) -> Option<Card> {
+    if bytes.len() != CARD_BYTES || bytes[CARD_BYTES - 1] != b'\n' {
+        return None;
+    }
+    let mut card = [0; 6];
+    card[0] = u32::from(bytes[0]);
+    let used = fields_used(card[0])?;
+    for (i, columns) in bytes[1..CARD_BYTES - 1].chunks_exact(COLUMNS).enumerate() {
+        if i < used {
+            card[i + 1] = number(columns)?;
+        } else if columns.iter().any(|&byte| byte != b' ') {
+            return None;
+        }
+    }
+    Some(card)
+}
+
+/// Blanks, then a decimal number without leading zeros. Eight digits fit 32 bits.
+fn number(columns: &[u8]) -> Option<u32> {
+    let blanks = columns.iter().take_while(|&&byte| byte == b' ').count();
+    let digits = &columns[blanks..];
+    if digits.is_empty() || (digits[0] == b'0' && digits.len() > 1) {
+        return None;
+    }
+    let mut value = 0;
+    for &byte in digits {
+        if !byte.is_ascii_digit() {
+            return None;
+        }
+        value = 10 * value + u32::from(byte - b'0');
+    }
+    Some(value)
+}
+
+/// The 42 bytes of an accepted card, whose fields all have 8 digits at most.
+pub fn print(card: &Card, bytes: &mut [u8]) {
+    bytes.fill(b' ');
+    bytes[0] = card[0] as u8;
+    bytes[CARD_BYTES - 1] = b'\n';
+    let used = fields_used(card[0]).unwrap_or(0);
+    for i in 0..used {
+        let mut rest = card[i + 1];
+        for column in bytes[1 + i * COLUMNS..1 + (i + 1) * COLUMNS]
+            .iter_mut()
+            .rev()
+        {
+            *column = b'0' + (rest % 10) as u8;
+            rest /= 10;
+            if rest == 0 {
+                break;
+            }
+        }
+    }
+}

@@ -1,0 +1,716 @@
+//! Each refusal by hand, with the order among them and what stays unwritten.
+
+mod common;
+
+use common::*;
+use reference::{read, write, Answer, Ran, Refusal, Stepped};
+
+/// All that takes a table refuses it the same way and writes nothing.
+fn table_refused(table: &[u32], number: u8, place: u32) {
+    let matrix = vec![MARK; triangle(96)];
+    let before = Lent {
+        table: table.to_vec(),
+        p: matrix.clone(),
+        a: matrix.clone(),
+        factor: matrix.clone(),
+        work: matrix,
+        temperatures: vec![MARK; 96],
+    };
+    let mut lent = before.clone();
+    assert_eq!(lent.build(), refused(number, place));
+    assert_eq!(
+        lent.replace(u32::MAX, [u32::MAX; 6]),
+        refused(number, place)
+    );
+    assert_eq!(lent.step(), step_refused(number, place));
+    assert_eq!(lent.run(), Ran::Refused(Refusal { number, place }));
+    assert_eq!(lent, before);
+    let mut bytes = vec![9; 30_000];
+    assert_eq!(write(table, &mut bytes), refused(number, place));
+    assert_eq!(bytes, vec![9; 30_000]);
+}
+
+fn bytes_refused(bytes: &[u8], number: u8, place: u32) {
+    let mut table = vec![9; 4_092];
+    assert_eq!(read(bytes, &mut table), (refused(number, place), 0, 0));
+    assert_eq!(table, vec![9; 4_092]);
+}
+
+/// A base with one of each load.
+fn loaded() -> Groups {
+    let mut groups = Groups::base();
+    groups.nodes.push([100, 100]);
+    groups.elements.push([2, 4, 3, 1, 1_000]);
+    groups.heats = vec![[1, 3], [2, 4]];
+    groups.films = vec![[1, 500, 1_000_000], [2, 600, 2_000_000]];
+    groups.fixed = vec![[3, 5_000_000], [4, 6_000_000]];
+    groups
+}
+
+#[test]
+fn r1_length() {
+    let deck = bytes_of(&loaded().table());
+    bytes_refused(b"", 1, 0);
+    bytes_refused(&deck[deck.len() - 41..], 1, 0);
+    bytes_refused(&[vec![b' '; 65_537 - deck.len()], deck].concat(), 1, 0);
+    table_refused(&[], 1, 0);
+    table_refused(&[0; 6], 1, 0);
+    table_refused(&[0; 13], 1, 0);
+    table_refused(&[0; 4_091], 1, 0);
+    table_refused(&[0; 4_098], 1, 0);
+    // The ends of the lengths allowed come to the trailer.
+    table_refused(&[0; 12], 2, 0);
+    table_refused(&[0; 4_092], 2, 0);
+    bytes_refused(&[b' '; 42], 2, 0);
+    bytes_refused(&[b' '; 65_536], 2, 0);
+}
+
+#[test]
+fn r2_trailer() {
+    let table = loaded().table();
+    let last = table.len() - 6;
+    for field in 0..6 {
+        for wrong in [
+            table[last + field] + 1,
+            table[last + field] - 1,
+            0,
+            u32::MAX,
+        ] {
+            let mut table = table.clone();
+            table[last + field] = wrong;
+            // A trailer that agrees with itself but not with the rows is wrong too.
+            let sum: u64 = table[last + 2..]
+                .iter()
+                .map(|&count| u64::from(count))
+                .sum();
+            table_refused(&table, 2, 0);
+            table[last + 1] = (42 * (1 + sum)) as u32;
+            if field != 1 {
+                table_refused(&table, 2, 0);
+            }
+        }
+    }
+    // Counts out of bounds that agree with the rows.
+    let mut few = Groups::base();
+    few.nodes.pop();
+    table_refused(&few.table(), 2, 0);
+    let mut none = Groups::base();
+    none.elements.pop();
+    table_refused(&none.table(), 2, 0);
+    let mut many = Groups::base();
+    many.nodes = vec![[0, 0]; 97];
+    table_refused(&many.table(), 2, 0);
+    let mut many = Groups::base();
+    many.heats = vec![[1, 1]; 417];
+    table_refused(&many.table(), 2, 0);
+
+    let bytes = bytes_of(&table);
+    bytes_refused(&bytes[1..], 2, 0);
+    bytes_refused(&bytes[..bytes.len() - 1], 2, 0);
+    let at = bytes.len() - 42;
+    for (column, wrong) in [
+        (0, b'Y'),
+        (1, b'0'),
+        (1, b'-'),
+        (8, b'x'),
+        (16, b' '),
+        (41, b' '),
+    ] {
+        let mut bytes = bytes.clone();
+        bytes[at + column] = wrong;
+        bytes_refused(&bytes, 2, 0);
+    }
+    // The trailer is judged before any card.
+    let mut both = table.clone();
+    both[0] = 0;
+    both[last] = 0;
+    table_refused(&both, 2, 0);
+}
+
+#[test]
+fn r3_form() {
+    let table = loaded().table();
+    let rows = table.len() / 6;
+    for row in 0..rows - 1 {
+        for letter in [
+            D,
+            N,
+            M,
+            E,
+            H,
+            F,
+            T,
+            Z,
+            0,
+            table[6 * row] + 256,
+            table[6 * row] + 32,
+            u32::MAX,
+        ] {
+            let before = if row == 0 { 0 } else { table[6 * row - 6] };
+            // Another letter of the same width may still stand here, as an H after an E.
+            let stands = matches!(
+                (before, letter),
+                (E | H, H) | (E | H | F, F) | (E | H | F | T, T)
+            ) && row >= 8;
+            if letter != table[6 * row] && !stands {
+                let mut table = table.clone();
+                table[6 * row] = letter;
+                table_refused(&table, 3, row as u32 + 1);
+            }
+        }
+        let used = match table[6 * row] {
+            D | M | F => 3,
+            E => 5,
+            _ => 2,
+        };
+        for field in used + 1..6 {
+            let mut table = table.clone();
+            table[6 * row + field] = 1;
+            table_refused(&table, 3, row as u32 + 1);
+            let mut bytes = bytes_of(&loaded().table());
+            bytes[42 * row + 8 * field] = b'0';
+            bytes_refused(&bytes, 3, row as u32 + 1);
+        }
+        for (column, wrong) in [
+            (0, b'Q'),
+            (1, b'0'),
+            (8, b' '),
+            (8, b'A'),
+            (7, b'-'),
+            (16, b'\t'),
+            (41, b'\r'),
+        ] {
+            let mut bytes = bytes_of(&loaded().table());
+            bytes[42 * row + column] = wrong;
+            bytes_refused(&bytes, 3, row as u32 + 1);
+        }
+    }
+    // H after F, F after T.
+    let mut groups = loaded();
+    let swap = |groups: &Groups, i: usize, j: usize| {
+        let mut table = groups.table();
+        for field in 0..6 {
+            table.swap(6 * i + field, 6 * j + field);
+        }
+        table
+    };
+    table_refused(&swap(&groups, 9, 10), 3, 11);
+    groups.films.pop();
+    table_refused(&swap(&groups, 10, 11), 3, 12);
+    // A leading zero and a number broken by a blank.
+    let bytes = bytes_of(&loaded().table());
+    for spelled in [
+        &b"    0100"[..],
+        b"    1 00",
+        b"100     ",
+        b"   +1000",
+        b"00000000",
+    ] {
+        let mut bytes = bytes.clone();
+        bytes[1..1 + spelled.len()].copy_from_slice(spelled);
+        bytes_refused(&bytes, 3, 1);
+    }
+}
+
+#[test]
+fn r4_range() {
+    let table = loaded().table();
+    // Row, field, least and most.
+    let ranges = [
+        (0, 1, 1, 60_000),
+        (0, 2, 0, TOP),
+        (0, 3, 1, 100_000),
+        (1, 1, 0, 4_095),
+        (1, 2, 0, 4_095),
+        (5, 1, 1, 500_000),
+        (5, 2, 1, 500_000),
+        (5, 3, 1, 5_000),
+        (6, 1, 1, 4),
+        (6, 2, 1, 4),
+        (6, 3, 1, 4),
+        (6, 4, 1, 1),
+        (6, 5, 1, 4_000),
+        (8, 2, 1, 5_000_000),
+        (9, 1, 2, 2),
+        (10, 2, 1, 100_000),
+        (10, 3, 0, TOP),
+        (11, 1, 2, 2),
+        (12, 1, 1, 3),
+        (13, 1, 4, 4),
+        (13, 2, 0, TOP),
+    ];
+    for (row, field, least, most) in ranges {
+        for (value, good) in [
+            (least, true),
+            (most, true),
+            (least.wrapping_sub(1), false),
+            (most + 1, false),
+            (u32::MAX, false),
+        ] {
+            let mut table = table.clone();
+            table[6 * row + field] = value;
+            if good {
+                let bytes = bytes_of(&table);
+                let mut again = vec![0; table.len()];
+                assert_eq!(read(&bytes, &mut again), (Answer::Done, 0, bytes.len()));
+                assert_eq!(again, table);
+            } else {
+                table_refused(
+                    &table,
+                    4,
+                    row as u32 + 1 + u32::from((row, field) == (12, 1) && value == 4),
+                );
+                if value <= 99_999_999 {
+                    let mut bytes = bytes_of(&loaded().table());
+                    bytes[42 * row + 8 * field - 7..=42 * row + 8 * field]
+                        .copy_from_slice(format!("{value:8}").as_bytes());
+                    let place = row as u32 + 1 + u32::from((row, field) == (12, 1) && value == 4);
+                    bytes_refused(&bytes, 4, place);
+                }
+            }
+        }
+    }
+    // Of each card 3, then 4, then the next card.
+    let mut two = table.clone();
+    two[6] = H;
+    two[2] = TOP + 1;
+    table_refused(&two, 4, 1);
+    two[4] = 1;
+    table_refused(&two, 3, 1);
+    // Rising starts again in the next group: loaded() has element 1 in H and in F.
+    assert_eq!(table[6 * 9 + 1], 2);
+    assert_eq!(table[6 * 10 + 1], 1);
+}
+
+#[test]
+fn r5_and_r6_elements() {
+    let check = |groups: &Groups, number, place| {
+        let before = Lent::new(groups.table());
+        let mut lent = before.clone();
+        assert_eq!(lent.build(), refused(number, place));
+        assert_eq!(lent, before);
+    };
+    let mut groups = loaded();
+    groups.elements[1] = [2, 2, 3, 1, 1_000];
+    check(&groups, 5, 2);
+    groups.materials[0][2] = 5_000;
+    groups.d[0] = 1;
+    // Element 1's 6 comes before element 2's 5.
+    check(&groups, 6, 1);
+    groups.elements[0][2] = 1;
+    check(&groups, 5, 1);
+
+    // A pair's conductance. b = (-1, 1, 0), c = (-32, 0, 32): pair 13 is
+    // -t·250,000·1,024/(2,000·32), or -4,000,000 with t = 1,000.
+    let mut edge = Groups::base();
+    edge.nodes = vec![[0, 0], [32, 0], [0, 1]];
+    edge.materials[0] = [1, 250_000, 5_000];
+    assert_eq!(Lent::built(edge.table()).a[3], -4_000_000 + 17);
+    // One more: 903·276,855·1,024/64,000 is 4,000,001.04.
+    edge.materials[0][1] = 276_855;
+    edge.elements[0][4] = 903;
+    check(&edge, 6, 1);
+    // And of u, S being 97·98: 1,885·2,143·9,506/9,600 is 4,000,001.02.
+    let mut full = Groups::base();
+    full.d[0] = 1;
+    full.nodes = vec![[0, 0], [97, 0], [0, 98]];
+    full.materials[0][2] = 1_885;
+    full.elements[0][4] = 2_143;
+    check(&full, 6, 1);
+    // Of the other sign: nodes 1 and 2 on one side of 3, in line with it but for a hair.
+    let mut needle = Groups::base();
+    needle.nodes = vec![[4_000, 0], [2_000, 1], [0, 0]];
+    needle.materials[0] = [500_000, 500_000, 1];
+    check(&needle, 6, 1);
+}
+
+#[test]
+fn r7_and_r8_factor() {
+    let check = |groups: &Groups, number, place| {
+        let before = Lent::new(groups.table());
+        let mut lent = before.clone();
+        assert_eq!(lent.build(), refused(number, place));
+        assert_eq!(lent, before.with_zeroed_work());
+    };
+    // A node of no element: its row is empty. A fixed one has 2^20 there.
+    let mut groups = Groups::base();
+    groups.nodes.insert(1, [7, 7]);
+    groups.elements[0] = [1, 3, 4, 1, 1_000];
+    check(&groups, 7, 2);
+    groups.fixed.push([2, 5]);
+    assert_eq!(Lent::built(groups.table()).factor[1..3], [0, 1 << 20]);
+    // P9: l past its bound.
+    let mut groups = Groups::base();
+    groups.nodes[2] = [101, 1];
+    groups.materials[0] = [10_000, 10_000, 1];
+    check(&groups, 8, 2);
+}
+
+#[test]
+fn r7_and_r8_of_replacements() {
+    let mut base = Lent::built(loaded().table());
+    base.work.fill(MARK);
+    let thicker = card(E, &[1, 2, 3, 1, 1_001]);
+    // The diagonal of a foreign A under the change: 7 at the row, work zeroed, all else as before.
+    let mut before = base.clone();
+    before.a[2] = -1_000_000;
+    let mut lent = before.clone();
+    assert_eq!(lent.replace(7, thicker), refused(7, 2));
+    assert_eq!(lent, before.clone().with_zeroed_work());
+    // l past its bound: a large number over d(1).
+    let mut before = base.clone();
+    before.a[1] = 1 << 32;
+    let mut lent = before.clone();
+    assert_eq!(lent.replace(7, thicker), refused(8, 2));
+    assert_eq!(lent, before.with_zeroed_work());
+    // Under 16, but first past the bound on w: A is 0 and the old element a long sliver, which the
+    // test of 6 never met. Its pair 12 is 4,000·500,000·(4,094·-4,093 + ..)/(2,000·1), near -2^45.
+    let mut groups = Groups::base();
+    groups.nodes = vec![[4_095, 4_094], [4_094, 4_093], [0, 0]];
+    groups.materials = vec![[500_000, 500_000, 1], [1, 1, 1]];
+    groups.elements[0] = [1, 2, 3, 1, 4_000];
+    let mut before = Lent::new(groups.table());
+    before.p[..6].fill(0);
+    before.a[..6].fill(0);
+    before.factor[..6].copy_from_slice(&[16, 0, 16, 0, 0, 16]);
+    let mut lent = before.clone();
+    assert_eq!(lent.replace(7, card(E, &[1, 2, 3, 2, 1])), refused(8, 1));
+    assert_eq!(lent, before.with_zeroed_work());
+    // Thin before and after, the change is small, and the diagonal of 0 is under 16.
+    groups.materials[0] = [2, 2, 1];
+    groups.elements[0][4] = 1;
+    before = Lent {
+        table: groups.table(),
+        ..lent
+    };
+    let mut lent = before.clone();
+    assert_eq!(lent.replace(7, card(E, &[1, 2, 3, 2, 1])), refused(7, 1));
+    assert_eq!(lent, before.with_zeroed_work());
+}
+
+#[test]
+fn r9_short() {
+    let own = Lent::built(loaded().table());
+    let length = triangle(4);
+    // Cuts p, a, factor, work or the temperatures to what is asked, less some.
+    let cut = |slice: usize, less: usize| {
+        let mut lent = own.clone();
+        match slice {
+            0 => lent.p.truncate(length - less),
+            1 => lent.a.truncate(length - less),
+            2 => lent.factor.truncate(length - less),
+            3 => lent.work.truncate(length - less),
+            _ => lent.temperatures.truncate(4 - less),
+        }
+        lent
+    };
+    let cards = [
+        (7, card(E, &[1, 2, 3, 1, 2_000])),
+        (9, card(H, &[1, 9])),
+        (11, card(F, &[1, 9, 9])),
+        (13, card(T, &[3, 9])),
+    ];
+    for slice in 0..5 {
+        // Just long enough.
+        for (number, new) in cards {
+            assert_eq!(cut(slice, 0).replace(number, new), Answer::Done);
+        }
+        assert_eq!(cut(slice, 0).build(), Answer::Done);
+        assert!(matches!(cut(slice, 0).step(), Stepped::Settled(_)));
+        // One too short. Build and replace don't ask for temperatures, nor step for work.
+        let before = cut(slice, 1);
+        let mut lent = before.clone();
+        if slice != 4 {
+            for (number, new) in cards {
+                assert_eq!(lent.replace(number, new), refused(9, 0));
+            }
+            assert_eq!(lent.build(), refused(9, 0));
+        }
+        if slice != 3 {
+            assert_eq!(lent.step(), step_refused(9, 0));
+            assert_eq!(
+                lent.run(),
+                Ran::Refused(Refusal {
+                    number: 9,
+                    place: 0
+                })
+            );
+        }
+        assert_eq!(lent, before);
+    }
+    // Bytes and the reader's table; 9 comes after the cards.
+    let table = loaded().table();
+    let bytes = bytes_of(&table);
+    let mut short = vec![9; bytes.len() - 1];
+    assert_eq!(write(&table, &mut short), refused(9, 0));
+    assert_eq!(short, vec![9; bytes.len() - 1]);
+    for length in [0, 1, table.len() - 1] {
+        let mut short = vec![9; length];
+        assert_eq!(read(&bytes, &mut short), (refused(9, 0), 0, 0));
+        assert_eq!(short, vec![9; length]);
+        let mut wrong = bytes.clone();
+        wrong[0] = b'N';
+        assert_eq!(read(&wrong, &mut short), (refused(3, 1), 0, 0));
+    }
+    // 9 before 5.
+    let mut flat = loaded();
+    flat.elements[0] = [1, 1, 1, 1, 1];
+    let mut lent = Lent::new(flat.table());
+    lent.work.truncate(length - 1);
+    assert_eq!(lent.build(), refused(9, 0));
+}
+
+#[test]
+fn r10_lent() {
+    let own = Lent::built(loaded().table());
+    let both = |before: &Lent, good: bool| {
+        for (number, new) in [
+            (9, card(H, &[1, 9])),
+            (13, card(T, &[3, 9])),
+            (7, card(E, &[1, 2, 3, 1, 1_000])),
+        ] {
+            let mut lent = before.clone();
+            let answer = lent.replace(number, new);
+            if good {
+                assert_ne!(answer, refused(10, 0));
+            } else {
+                assert_eq!(answer, refused(10, 0));
+                assert_eq!(lent, *before);
+            }
+        }
+        let mut lent = before.clone();
+        assert_eq!(lent.step() == step_refused(10, 0), !good);
+        assert!(good || lent == *before);
+        // A build has no 10.
+        assert_eq!(lent.build(), Answer::Done);
+    };
+    // Row 3 has entries at 3, 4, 5 and, below, at 8: exactly 2^33, then one more, by either sign.
+    for which in 0..2 {
+        for at in [3, 4, 5, 8] {
+            for sign in [1, -1] {
+                let mut lent = own.clone();
+                lent.temperatures[..4].fill(0);
+                let matrix = if which == 0 { &mut lent.p } else { &mut lent.a };
+                matrix[..10].fill(0);
+                for i in [3, 4, 5, 8] {
+                    matrix[i] = if i == at { sign * ((1 << 33) - 3) } else { -1 };
+                }
+                both(&lent, true);
+                let matrix = if which == 0 { &mut lent.p } else { &mut lent.a };
+                matrix[at] += sign;
+                both(&lent, false);
+            }
+        }
+        for wrong in [i64::MIN, i64::MAX] {
+            for at in 0..10 {
+                let mut lent = own.clone();
+                let matrix = if which == 0 { &mut lent.p } else { &mut lent.a };
+                matrix[at] = wrong;
+                both(&lent, false);
+            }
+        }
+    }
+    for (at, good, bad) in [
+        (
+            1,
+            vec![1 << 24, -(1 << 24)],
+            vec![(1 << 24) + 1, -(1 << 24) - 1, i64::MIN, i64::MAX],
+        ),
+        (
+            9,
+            vec![16, 1 << 38],
+            vec![15, (1 << 38) + 1, 0, -16, i64::MIN, i64::MAX],
+        ),
+    ] {
+        for (values, fine) in [(good, true), (bad, false)] {
+            for value in values {
+                let mut lent = own.clone();
+                lent.factor[at] = value;
+                both(&lent, fine);
+            }
+        }
+    }
+}
+
+#[test]
+fn r11_scale() {
+    let own = Lent::built(Groups::base().table());
+    for (temperatures, place) in [
+        ([0, i64::from(TOP) + 1, -1], 2),
+        ([0, 0, -1], 3),
+        ([i64::MIN, i64::MAX, 0], 1),
+    ] {
+        let mut before = own.clone();
+        before.temperatures[..3].copy_from_slice(&temperatures);
+        let mut lent = before.clone();
+        assert_eq!(lent.step(), step_refused(11, place));
+        assert_eq!(lent.run(), Ran::Refused(Refusal { number: 11, place }));
+        assert_eq!(lent, before);
+    }
+    // 10 before 11.
+    let mut lent = own.clone();
+    lent.temperatures[0] = -1;
+    lent.p[0] = i64::MIN;
+    assert_eq!(lent.step(), step_refused(10, 0));
+    // New temperatures: seven ticks up are too many, six ticks below the top.
+    let mut groups = Groups::base();
+    groups.heats.push([1, 3]);
+    for (start, answer) in [
+        (TOP - 7, Stepped::Settled(1)),
+        (TOP - 6, step_refused(11, 1)),
+    ] {
+        groups.d[1] = start;
+        let before = Lent::built(groups.table());
+        let mut lent = before.clone();
+        assert_eq!(lent.step(), answer);
+        assert_eq!(lent == before, start == TOP - 6);
+    }
+    // A run keeps the temperatures of its last accepted step.
+    groups.d = [1_000, TOP - 20, 3];
+    let mut lent = Lent::built(groups.table());
+    assert_eq!(
+        lent.run(),
+        Ran::Refused(Refusal {
+            number: 11,
+            place: 1
+        })
+    );
+    assert_eq!(
+        lent.temperatures,
+        [
+            i64::from(TOP) - 6,
+            i64::from(TOP) - 6,
+            i64::from(TOP) - 6,
+            MARK,
+            MARK,
+            MARK
+        ]
+    );
+    groups.d[2] = 2;
+    assert_eq!(Lent::built(groups.table()).run(), Ran::Done(2));
+}
+
+#[test]
+fn r8_and_r12_of_steps() {
+    // d of its own factor is thousands: with d = 16 the first x is far too great.
+    let mut groups = Groups::base();
+    groups.heats.push([1, 5_000_000]);
+    let mut before = Lent::built(groups.table());
+    before.factor[..6].copy_from_slice(&[16, 0, 16, 0, 0, 16]);
+    let mut lent = before.clone();
+    // Back substitution meets the last row first.
+    assert_eq!(lent.step(), step_refused(8, 3));
+    assert_eq!(lent, before);
+    // y: l = 2^24 over a right side of 2^36.7 and more.
+    let mut steep = before.clone();
+    steep.factor[1] = 1 << 24;
+    steep.factor[4] = 1 << 24;
+    let big = 1 << 32;
+    steep.p[..6].copy_from_slice(&[big, 0, big, 0, 0, big]);
+    steep.temperatures[..3].copy_from_slice(&[33_000_000, 0, 0]);
+    let mut lent = steep.clone();
+    assert_eq!(lent.step(), step_refused(8, 1));
+    assert_eq!(lent, steep);
+    // With d so great that nothing moves, the first row is never settled.
+    let mut still = before.clone();
+    still.factor[..6].copy_from_slice(&[1 << 38, 0, 1 << 38, 0, 0, 1 << 38]);
+    let mut lent = still.clone();
+    assert_eq!(lent.step(), step_refused(12, 1));
+    assert_eq!(lent, still);
+    // A settled row is not the place of a 12: here the fixed node 3 is.
+    let mut groups = Groups::base();
+    groups.fixed.push([3, 19_660_802]);
+    let mut far = Lent::built(groups.table());
+    far.factor[..6].copy_from_slice(&[1 << 38, 0, 1 << 38, 0, 0, 1 << 38]);
+    let mut lent = far.clone();
+    assert_eq!(lent.step(), step_refused(12, 3));
+    assert_eq!(lent, far);
+    // One tick off is within a fixed row's 2^20.
+    far.table[6 * 6 + 2] = 19_660_801;
+    assert_eq!(far.step(), Stepped::Settled(1));
+    assert_eq!(far.temperatures[2], 19_660_800);
+}
+
+#[test]
+fn r13_replacement() {
+    let own = Lent::built(loaded().table());
+    let check = |number: u32, new: [u32; 6], answer: Answer| {
+        let mut lent = own.clone();
+        assert_eq!(lent.replace(number, new), answer, "{number} {new:?}");
+        assert!(answer == Answer::Done || lent == own);
+    };
+    // 1 D, 2-5 N, 6 M, 7-8 E, 9-10 H, 11-12 F, 13-14 T, 15 Z.
+    check(9, card(H, &[1, 9]), Answer::Done);
+    for number in [0, 1, 2, 6, 7, 10, 11, 13, 15, 16, u32::MAX] {
+        check(number, card(H, &[1, 9]), refused(13, number));
+    }
+    check(9, card(H, &[2, 9]), refused(13, 9));
+    check(11, card(F, &[2, 9, 9]), refused(13, 11));
+    check(13, card(T, &[4, 9]), refused(13, 13));
+    check(7, card(E, &[2, 3, 1, 1, 1_000]), refused(13, 7));
+    check(7, card(E, &[1, 3, 2, 1, 1_000]), refused(13, 7));
+    // The very card itself, of the letters that may not be replaced.
+    for number in [1, 2, 6, 15] {
+        let at = 6 * (number as usize - 1);
+        let mut same = [0; 6];
+        same.copy_from_slice(&own.table[at..at + 6]);
+        check(number, same, refused(13, number));
+    }
+    // 3 comes first, wherever it is put.
+    for number in [0, 9, 15, u32::MAX] {
+        check(number, [0; 6], refused(3, number));
+        check(number, [u32::MAX; 6], refused(3, number));
+        check(number, [H, 1, 9, 0, 0, 1], refused(3, number));
+        check(number, [N, 1, 9, 1, 0, 0], refused(3, number));
+    }
+    // 13 before 4, and 4 at the number asked for.
+    check(9, card(H, &[2, 0]), refused(13, 9));
+    check(9, card(H, &[1, 0]), refused(4, 9));
+    check(9, card(H, &[1, 5_000_001]), refused(4, 9));
+    check(11, card(F, &[1, 0, 9]), refused(4, 11));
+    check(11, card(F, &[1, 1, TOP + 1]), refused(4, 11));
+    check(13, card(T, &[3, TOP + 1]), refused(4, 13));
+    check(7, card(E, &[1, 2, 3, 2, 1_000]), refused(4, 7));
+    check(7, card(E, &[1, 2, 3, 1, 0]), refused(4, 7));
+    // 5 and 6 of the element that an F names, which no build has judged.
+    let mut flat = loaded();
+    flat.elements[1] = [2, 3, 3, 1, 1_000];
+    let mut lent = own.clone();
+    lent.table = flat.table();
+    let before = lent.clone();
+    assert_eq!(lent.replace(12, card(F, &[2, 9, 9])), refused(5, 2));
+    assert_eq!(lent.replace(8, card(E, &[2, 3, 3, 1, 9])), refused(5, 2));
+    assert_eq!(lent, before);
+    let mut stiff = loaded();
+    stiff.d[0] = 1;
+    stiff.materials[0][2] = 5_000;
+    lent.table = stiff.table();
+    assert_eq!(lent.replace(12, card(F, &[2, 9, 9])), refused(6, 2));
+    assert_eq!(
+        lent.replace(8, card(E, &[2, 4, 3, 1, 1_000])),
+        refused(6, 2)
+    );
+    // The old form is not tested for 6.
+    lent.a[..10].fill(0);
+    let answer = lent.replace(8, card(E, &[2, 4, 3, 1, 1]));
+    assert_ne!(answer, refused(6, 2));
+    // H and T write nothing but the card.
+    let mut lent = own.clone();
+    lent.work.fill(MARK);
+    let mut after = lent.clone();
+    after.table[6 * 8 + 2] = 9;
+    assert_eq!(lent.replace(9, card(H, &[1, 9])), Answer::Done);
+    assert_eq!(lent, after);
+    after.table[6 * 12 + 2] = 9;
+    assert_eq!(lent.replace(13, card(T, &[3, 9])), Answer::Done);
+    assert_eq!(lent, after);
+}
+
+#[test]
+fn packed_answers() {
+    assert_eq!(Answer::Done.packed(), 0);
+    assert_eq!(refused(8, 2).packed(), 8 + 65_536 * 2);
+    assert_eq!(refused(13, u32::MAX).packed(), 13 + 65_536 * 4_294_967_295);
+    assert_eq!(Stepped::Settled(3).packed(), 768);
+    assert_eq!(step_refused(12, 96).packed(), 12 + 65_536 * 96);
+}

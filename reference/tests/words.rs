@@ -1,0 +1,536 @@
+//! The paper's words once more, as full squares of 128-bit numbers and with no
+//! thought of speed, against build, replace and step: own buffers and foreign.
+
+#![allow(clippy::needless_range_loop)]
+
+mod common;
+
+use common::*;
+use reference::{Answer, Ran, Refusal, Stepped};
+
+type Matrix = Vec<Vec<i128>>;
+type Refused = (u8, u32);
+
+const ONE: i128 = 1 << 20;
+
+fn rounded(n: i128, d: i128) -> i128 {
+    n.signum() * ((2 * n.abs() + d) / (2 * d))
+}
+
+fn r(x: i128) -> i128 {
+    rounded(x, ONE)
+}
+
+/// A table that is known to be good.
+struct Words<'a>(&'a [u32]);
+
+impl Words<'_> {
+    fn cards(&self, letter: u32) -> Vec<Vec<i128>> {
+        let cards = self.0.chunks(6).filter(|card| card[0] == letter);
+        cards
+            .map(|card| card[1..].iter().map(|&field| i128::from(field)).collect())
+            .collect()
+    }
+
+    fn nodes(&self) -> usize {
+        self.cards(N).len()
+    }
+
+    fn s(&self, e: &[i128]) -> i128 {
+        let nodes = self.cards(N);
+        let point = |i: usize| &nodes[e[i] as usize - 1];
+        let (p1, p2, p3) = (point(0), point(1), point(2));
+        ((p2[0] - p1[0]) * (p3[1] - p1[1]) - (p3[0] - p1[0]) * (p2[1] - p1[1])).abs()
+    }
+
+    /// Conductance, then u, of an E card; None if it is flat.
+    fn form(&self, e: &[i128]) -> Option<([[i128; 3]; 3], i128)> {
+        let s = self.s(e);
+        if s == 0 {
+            return None;
+        }
+        let nodes = self.cards(N);
+        let material = &self.cards(M)[e[3] as usize - 1];
+        let (kx, ky, capacity, t) = (material[0], material[1], material[2], e[4]);
+        let x = |i: usize| nodes[e[i % 3] as usize - 1][0];
+        let y = |i: usize| nodes[e[i % 3] as usize - 1][1];
+        let b = |i: usize| y(i + 1) - y(i + 2);
+        let c = |i: usize| x(i + 2) - x(i + 1);
+        let mut square = [[0; 3]; 3];
+        for i in 0..3 {
+            for j in 0..3 {
+                if i != j {
+                    square[i][j] = rounded(t * (kx * b(i) * b(j) + ky * c(i) * c(j)), 2_000 * s);
+                }
+            }
+        }
+        for i in 0..3 {
+            square[i][i] = -square[i][(i + 1) % 3] - square[i][(i + 2) % 3];
+        }
+        Some((
+            square,
+            rounded(capacity * t * s, 9_600 * self.cards(D)[0][0]),
+        ))
+    }
+
+    fn v(&self, f: &[i128]) -> i128 {
+        let e = &self.cards(E)[f[0] as usize - 1];
+        rounded(f[1] * self.s(e), 9_600_000)
+    }
+
+    fn fixed(&self, node: usize) -> Option<i128> {
+        self.cards(T)
+            .iter()
+            .find(|t| t[0] as usize == node + 1)
+            .map(|t| t[1])
+    }
+
+    fn fix(&self, a: &Matrix) -> Matrix {
+        let mut a = a.clone();
+        let n = self.nodes();
+        for i in 0..n {
+            for j in 0..n {
+                if self.fixed(i).is_some() || self.fixed(j).is_some() {
+                    a[i][j] = if i == j { ONE } else { 0 };
+                }
+            }
+        }
+        a
+    }
+
+    /// P, A and the factor.
+    fn build(&self) -> Result<[Matrix; 3], Refused> {
+        let n = self.nodes();
+        let (mut p, mut a) = (vec![vec![0; n]; n], vec![vec![0; n]; n]);
+        for (number, e) in self.cards(E).iter().enumerate() {
+            let place = number as u32 + 1;
+            let (square, u) = self.form(e).ok_or((5, place))?;
+            if u > 4_000_000 || (0..3).any(|i| square[i][(i + 1) % 3].abs() > 4_000_000) {
+                return Err((6, place));
+            }
+            for i in 0..3 {
+                for j in 0..3 {
+                    let (row, column) = (e[i] as usize - 1, e[j] as usize - 1);
+                    let capacity = if i == j { 2 * u } else { u };
+                    p[row][column] += capacity;
+                    a[row][column] += capacity + square[i][j];
+                }
+            }
+        }
+        for f in self.cards(F) {
+            let e = &self.cards(E)[f[0] as usize - 1];
+            for i in 0..3 {
+                for j in 0..3 {
+                    a[e[i] as usize - 1][e[j] as usize - 1] +=
+                        self.v(&f) * if i == j { 2 } else { 1 };
+                }
+            }
+        }
+        let factor = factor(&self.fix(&a), 0, vec![vec![0; n]; n])?;
+        Ok([p, a, factor])
+    }
+
+    /// The card is one that may be put there.
+    fn replace(
+        &self,
+        lent: [Matrix; 3],
+        index: usize,
+        new: &[u32; 6],
+    ) -> Result<[Matrix; 3], Refused> {
+        ten(&lent)?;
+        let [mut p, mut a, old_factor] = lent;
+        if new[0] == H || new[0] == T {
+            return Ok([p, a, old_factor]);
+        }
+        let mut table = self.0.to_vec();
+        table[6 * index..6 * index + 6].copy_from_slice(new);
+        let after = Words(&table);
+        let first_element = 1 + self.nodes() + self.cards(M).len();
+        let element = if new[0] == E {
+            index - first_element
+        } else {
+            new[1] as usize - 1
+        };
+        let place = element as u32 + 1;
+        let e = &self.cards(E)[element];
+        let film = |words: &Words| {
+            let films = words.cards(F);
+            films
+                .iter()
+                .find(|f| f[0] as usize == element + 1)
+                .map_or(0, |f| words.v(f))
+        };
+        let (square, u) = after.form(&after.cards(E)[element]).ok_or((5, place))?;
+        if u > 4_000_000 || (0..3).any(|i| square[i][(i + 1) % 3].abs() > 4_000_000) {
+            return Err((6, place));
+        }
+        let (old_square, old_u) = self.form(e).unwrap();
+        for i in 0..3 {
+            for j in 0..3 {
+                let (row, column) = (e[i] as usize - 1, e[j] as usize - 1);
+                let times = if i == j { 2 } else { 1 };
+                p[row][column] += times * (u - old_u);
+                a[row][column] += times * (u - old_u + film(&after) - film(self)) + square[i][j]
+                    - old_square[i][j];
+            }
+        }
+        let least = e[..3].iter().min().unwrap() - 1;
+        let factor = factor(&after.fix(&a), least as usize, old_factor)?;
+        Ok([p, a, factor])
+    }
+
+    fn step(&self, lent: &[Matrix; 3], old: &[i128]) -> Result<(u32, Vec<i128>), Refused> {
+        ten(lent)?;
+        let [p, a, factor] = lent;
+        let n = self.nodes();
+        let fixed: Matrix = self.fix(a);
+        let mut right = vec![0; n];
+        for i in 0..n {
+            for j in 0..n {
+                right[i] += p[i][j] * old[j];
+                if let Some(temperature) = self.fixed(j) {
+                    right[i] -= a[i][j] * temperature;
+                }
+            }
+        }
+        let elements = self.cards(E);
+        for h in self.cards(H) {
+            for &node in &elements[h[0] as usize - 1][..3] {
+                right[node as usize - 1] += 65_536 * h[1] / 3;
+            }
+        }
+        for f in self.cards(F) {
+            for &node in &elements[f[0] as usize - 1][..3] {
+                right[node as usize - 1] += 4 * self.v(&f) * f[2];
+            }
+        }
+        for i in 0..n {
+            if let Some(temperature) = self.fixed(i) {
+                right[i] = ONE * temperature;
+            }
+        }
+        let residual = |t: &[i128]| -> Vec<i128> {
+            (0..n)
+                .map(|i| right[i] - (0..n).map(|j| fixed[i][j] * t[j]).sum::<i128>())
+                .collect()
+        };
+        let mut new = old.to_vec();
+        for correction in 1..=4 {
+            let rest = residual(&new);
+            let mut y = vec![0; n];
+            for i in 0..n {
+                y[i] = rest[i] - (0..i).map(|k| r(factor[i][k] * y[k])).sum::<i128>();
+                bound(y[i], 1 << 52, i)?;
+            }
+            let mut x = vec![0; n];
+            for i in (0..n).rev() {
+                let z = rounded(256 * y[i], factor[i][i]);
+                x[i] = z - (i + 1..n).map(|k| r(factor[k][i] * x[k])).sum::<i128>();
+                bound(x[i], 1 << 36, i)?;
+            }
+            for i in 0..n {
+                new[i] += rounded(x[i], 256);
+            }
+            if let Some(node) = new.iter().position(|&t| t < 0 || t > i128::from(TOP)) {
+                return Err((11, node as u32 + 1));
+            }
+            let rest = residual(&new);
+            let far = (0..n).find(|&i| rest[i].abs() > fixed[i].iter().map(|a| a.abs()).sum());
+            match far {
+                None => return Ok((correction, new)),
+                Some(row) if correction == 4 => return Err((12, row as u32 + 1)),
+                Some(_) => {}
+            }
+        }
+        unreachable!()
+    }
+}
+
+fn bound(value: i128, most: i128, row: usize) -> Result<(), Refused> {
+    if value.abs() > most {
+        return Err((8, row as u32 + 1));
+    }
+    Ok(())
+}
+
+fn factor(a: &Matrix, first: usize, mut l: Matrix) -> Result<Matrix, Refused> {
+    for i in first..a.len() {
+        let mut w = vec![0; i + 1];
+        for j in 0..=i {
+            // At the row's end l(j,k) is this row's own.
+            w[j] = a[i][j] - (0..j).map(|k| r(l[j][k] * w[k])).sum::<i128>();
+            bound(w[j], 1 << 38, i)?;
+            if j < i {
+                l[i][j] = rounded(w[j] * ONE, l[j][j]);
+                bound(l[i][j], 1 << 24, i)?;
+            } else {
+                l[i][i] = w[i];
+                if w[i] < 16 {
+                    return Err((7, i as u32 + 1));
+                }
+            }
+        }
+    }
+    Ok(l)
+}
+
+/// A full square from a lower triangle, both sides alike.
+fn full(packed: &[i64], n: usize) -> Matrix {
+    let at = |i: usize, j: usize| i128::from(packed[i * (i + 1) / 2 + j]);
+    (0..n)
+        .map(|i| {
+            (0..n)
+                .map(|j| if j <= i { at(i, j) } else { at(j, i) })
+                .collect()
+        })
+        .collect()
+}
+
+fn packed(square: &Matrix) -> Vec<i64> {
+    let rows = square.iter().enumerate();
+    rows.flat_map(|(i, row)| {
+        row[..=i]
+            .iter()
+            .map(|&number| i64::try_from(number).unwrap())
+    })
+    .collect()
+}
+
+fn set(lent: &mut Lent, squares: &[Matrix; 3]) {
+    for (slice, square) in [&mut lent.p, &mut lent.a, &mut lent.factor]
+        .into_iter()
+        .zip(squares)
+    {
+        let numbers = packed(square);
+        slice[..numbers.len()].copy_from_slice(&numbers);
+    }
+}
+
+fn squares(lent: &Lent) -> [Matrix; 3] {
+    let n = nodes_of(&lent.table);
+    [&lent.p, &lent.a, &lent.factor].map(|slice| full(slice, n))
+}
+
+fn any_deck(chance: &mut Chance) -> Vec<u32> {
+    match chance.within(0, 4) {
+        0 => Groups::slivers(chance).table(),
+        1 | 2 => Groups::wild(chance).table(),
+        _ => {
+            let (columns, rows) = (chance.within(2, 4), chance.within(2, 4));
+            Groups::sheet(chance, columns, rows).table()
+        }
+    }
+}
+
+/// Own P, A and factor, bent; or foreign ones, where the deck has none of its own.
+fn lend(chance: &mut Chance, lent: &mut Lent) {
+    let n = nodes_of(&lent.table);
+    let length = triangle(n);
+    let own = lent.build() == Answer::Done;
+    lent.work.fill(MARK);
+    if own {
+        // With a larger d the step settles later, or never.
+        let bend = i64::from(chance.pick(&[0, 0, 1, 2, 3, 5, 10, 30, 100]));
+        for i in 0..n {
+            let d = &mut lent.factor[triangle(i) + i];
+            *d += *d * bend / 100;
+        }
+        if chance.one_in(5) {
+            let at = chance.index(length);
+            lent.a[at] += i64::from(chance.within(0, 2_000)) - 1_000;
+            let at = chance.index(length);
+            lent.p[at] += i64::from(chance.within(0, 2_000)) - 1_000;
+        }
+    } else {
+        // Sometimes just past refusal 10.
+        let most = chance.pick(&[
+            10,
+            1_000,
+            100_000,
+            10_000_000,
+            (1 << 33) / n as i64,
+            (3 << 32) / n as i64,
+        ]);
+        let shift = chance.within(0, 24);
+        for at in 0..length {
+            lent.p[at] = chance.bits() as i64 % (most + 1);
+            lent.a[at] = chance.bits() as i64 % (most + 1);
+            lent.factor[at] = (chance.bits() as i64 % ((1 << 24) + 1)) >> shift;
+        }
+        let shift = chance.within(0, 34);
+        for i in 0..n {
+            lent.factor[triangle(i) + i] = 16 + (chance.bits() >> 27 >> shift) as i64;
+        }
+    }
+}
+
+/// Refusal 10, by its words.
+fn ten(squares: &[Matrix; 3]) -> Result<(), Refused> {
+    let [p, a, factor] = squares;
+    let sums = |matrix: &Matrix| {
+        matrix
+            .iter()
+            .all(|row| row.iter().map(|x| x.abs()).sum::<i128>() <= 1 << 33)
+    };
+    let row = |i: usize| {
+        (16..=1 << 38).contains(&factor[i][i]) && factor[i][..i].iter().all(|l| l.abs() <= 1 << 24)
+    };
+    if sums(p) && sums(a) && (0..factor.len()).all(row) {
+        return Ok(());
+    }
+    Err((10, 0))
+}
+
+#[test]
+fn builds() {
+    let mut chance = Chance::seeded(6);
+    let mut met = [0; 14];
+    for _ in 0..2_000 {
+        let before = Lent::new(any_deck(&mut chance));
+        let mut lent = before.clone();
+        let answer = lent.build();
+        let mut expected = before;
+        match Words(&lent.table).build() {
+            Ok(squares) => {
+                assert_eq!(answer, Answer::Done);
+                expected = expected.with_zeroed_work();
+                set(&mut expected, &squares);
+                met[0] += 1;
+            }
+            Err((number, place)) => {
+                assert_eq!(answer, refused(number, place));
+                if number == 7 || number == 8 {
+                    expected = expected.with_zeroed_work();
+                }
+                met[number as usize] += 1;
+            }
+        }
+        assert_eq!(lent, expected);
+    }
+    assert!(
+        [0, 5, 6, 7, 8].iter().all(|&number| met[number] > 20),
+        "{met:?}"
+    );
+}
+
+#[test]
+fn replacements() {
+    let mut chance = Chance::seeded(7);
+    let mut met = [0; 14];
+    for _ in 0..2_500 {
+        let mut before = Lent::new(any_deck(&mut chance));
+        lend(&mut chance, &mut before);
+        let words = Words(&before.table);
+        let first = 1 + words.nodes() + words.cards(M).len();
+        let index = first + chance.index(before.table.len() / 6 - 1 - first);
+        let mut new = [0; 6];
+        new.copy_from_slice(&before.table[6 * index..6 * index + 6]);
+        match new[0] {
+            E => {
+                new[4] = chance.within(1, words.cards(M).len() as u32);
+                new[5] = chance.within(1, 4_000);
+            }
+            F => new[2] = chance.within(1, 100_000),
+            _ => new[2] = chance.within(1, 1_000_000),
+        }
+        let mut lent = before.clone();
+        let answer = lent.replace(index as u32 + 1, new);
+        let mut expected = before.clone();
+        let redone = new[0] == E || new[0] == F;
+        match words.replace(squares(&before), index, &new) {
+            Ok(squares) => {
+                assert_eq!(answer, Answer::Done);
+                set(&mut expected, &squares);
+                expected.table[6 * index..6 * index + 6].copy_from_slice(&new);
+                met[0] += 1;
+                if redone {
+                    expected = expected.with_zeroed_work();
+                }
+            }
+            Err((number, place)) => {
+                assert_eq!(answer, refused(number, place));
+                met[number as usize] += 1;
+                if number == 7 || number == 8 {
+                    expected = expected.with_zeroed_work();
+                }
+            }
+        }
+        assert_eq!(lent, expected);
+    }
+    assert!(
+        [0, 5, 6, 7, 8, 10].iter().all(|&number| met[number] > 20),
+        "{met:?}"
+    );
+}
+
+#[test]
+fn steps() {
+    let mut chance = Chance::seeded(8);
+    let (mut met, mut corrected) = ([0; 14], [0; 5]);
+    for _ in 0..2_500 {
+        let mut before = Lent::new(any_deck(&mut chance));
+        lend(&mut chance, &mut before);
+        let n = nodes_of(&before.table);
+        let spread = chance.pick(&[0, 10, 1_000, 1_000_000]);
+        for t in &mut before.temperatures[..n] {
+            *t = (*t + i64::from(chance.within(0, spread))).min(i64::from(TOP));
+        }
+        let old: Vec<i128> = before.temperatures[..n]
+            .iter()
+            .map(|&t| i128::from(t))
+            .collect();
+        let mut lent = before.clone();
+        let answer = lent.step();
+        let mut expected = before.clone();
+        match Words(&before.table).step(&squares(&before), &old) {
+            Ok((corrections, new)) => {
+                assert_eq!(answer, Stepped::Settled(corrections));
+                for i in 0..n {
+                    expected.temperatures[i] = new[i] as i64;
+                }
+                corrected[corrections as usize] += 1;
+            }
+            Err((number, place)) => {
+                assert_eq!(answer, step_refused(number, place));
+                met[number as usize] += 1;
+            }
+        }
+        assert_eq!(lent, expected);
+    }
+    assert!(
+        corrected[1..].iter().all(|&times| times > 20),
+        "{corrected:?}"
+    );
+    assert!(
+        [8, 10, 11, 12].iter().all(|&number| met[number] > 20),
+        "{met:?}"
+    );
+}
+
+/// A run is its steps, one after another.
+#[test]
+fn runs() {
+    let mut chance = Chance::seeded(9);
+    let (mut whole, mut cut) = (0, 0);
+    for _ in 0..400 {
+        let mut before = Lent::new(any_deck(&mut chance));
+        lend(&mut chance, &mut before);
+        let steps = before.table[3];
+        let mut stepped = before.clone();
+        let mut expected = Ran::Done(steps);
+        for _ in 0..steps {
+            if let Stepped::Refused(refusal) = stepped.step() {
+                expected = Ran::Refused(refusal);
+                break;
+            }
+        }
+        let mut lent = before.clone();
+        assert_eq!(lent.run(), expected);
+        assert_eq!(lent, stepped);
+        match expected {
+            Ran::Done(_) => whole += 1,
+            Ran::Refused(Refusal { .. }) => cut += 1,
+        }
+    }
+    assert!(whole > 50 && cut > 50, "{whole} {cut}");
+}
