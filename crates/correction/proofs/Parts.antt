@@ -2,10 +2,9 @@
 use mathlib.Core.Path.{_≡_, refl, sym, ap, _∙_}
 use mathlib.Core.List.{List}
 use Prim.Native.Nat.{ℕ, zero, suc}
-use native.Mathlib.Omega.{arith}
 use lib.IntN.{ℤ}
 use Rattle.paper.specs.Refusals.{Outcome, refused, done, then}
-use Rattle.paper.specs.Step.{forwardFrom, backFrom, addFrom, correct}
+use Rattle.paper.specs.Step.{backFrom, addFrom, correct}
 use Rattle.paper.specs.declared.Answer.the-variants.{Done, Refused}
 use Rattle.paper.specs.declared.Refusal.{Refusal}
 use Rattle.paper.specs.declared.Refusal.the-variants.{Bound, OffScale}

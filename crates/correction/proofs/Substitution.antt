@@ -1,9 +1,9 @@
 -- The two substitutions: the sizes of their sums, and what their loops keep.
-use mathlib.Core.Path.{_≡_, refl, sym, ap, subst, _∙_}
+use mathlib.Core.Path.{_≡_, sym, ap, subst, _∙_}
 use mathlib.Core.Bool.{Bool, true, false}
 use mathlib.Core.Logic.{⊎-elim}
 use mathlib.Core.List.{List}
-use Prim.Native.Nat.{ℕ, zero, suc, _+_, _-_, _*_, _^_, _≤_, _<_}
+use Prim.Native.Nat.{ℕ, suc, _+_, _-_, _*_, _^_, _≤_, _<_}
 use native.Mathlib.Nat.{eq-or-lt-of-le}
 use native.Mathlib.Numerals.{add-one}
 use native.Mathlib.Omega.{arith}
@@ -24,7 +24,7 @@ use Rattle.whole.proofs.Rounding.{nearest-size, nearestN-le, above-zero, scaled
 use Rattle.whole.proofs.Sums.{sum-size-each, sum-more}
 use Rattle.whole.proofs.Packed.{tri-below}
 use Rattle.whole.proofs.Calc.{Is, rd, arg, num, is, lit, plus, minus, times, again, size-of, known}
-use Rattle.paper.specs.Refusals.{Outcome, when}
+use Rattle.paper.specs.Refusals.{when}
 use Rattle.paper.specs.Factor.{R, small}
 use Rattle.paper.specs.Step.{yAt, xAt, forwardFrom, backFrom}
 use Rattle.paper.specs.declared.Refusal.the-variants.{Bound}

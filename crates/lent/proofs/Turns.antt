@@ -1,5 +1,5 @@
 -- One turn of each test of lent numbers.
-use mathlib.Core.Path.{_≡_, refl, sym, ap, _∙_}
+use mathlib.Core.Path.{_≡_, sym, ap, _∙_}
 use mathlib.Core.Bool.{Bool, true, false, not, cond, _||_}
 use mathlib.Core.List.{List}
 use Prim.Native.Nat.{ℕ, suc, _+_, _-_, _^_, _≤_, _<_}
@@ -15,7 +15,7 @@ use Rattle.whole.specs.Sums.{sumN, any, firstFrom}
 use Rattle.whole.specs.Packed.{tri, cell, place, entry}
 use Rattle.whole.proofs.Calc.{rd}
 use Rattle.whole.proofs.Signs.{size}
-use Rattle.whole.proofs.Sums.{sumN-more, sumN-upto, any-one, any-next}
+use Rattle.whole.proofs.Sums.{sumN-more, sumN-upto, any-one}
 use Rattle.paper.specs.Ticks.{onScale}
 use Rattle.paper.specs.Factor.{small}
 use Rattle.paper.specs.Step.{offScale}

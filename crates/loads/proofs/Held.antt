@@ -1,8 +1,8 @@
 -- The temperature of each T card at its node, and the walk over them.
-use mathlib.Core.Path.{_≡_, refl, sym, ap, subst, _∙_}
+use mathlib.Core.Path.{_≡_, refl, sym, ap, _∙_}
 use mathlib.Core.Bool.{Bool, true, false, cond, _&&_, _||_}
 use mathlib.Core.List.{List}
-use Prim.Native.Nat.{ℕ, zero, suc, _+_, _-_, _*_, _^_, _≤_, _<_}
+use Prim.Native.Nat.{ℕ, suc, _+_, _-_, _^_, _≤_, _<_}
 use native.Mathlib.Omega.{arith}
 use lib.Dec.{eqb}
 use lib.IntN.{ℤ, pos, negsuc, natAbs}
@@ -19,8 +19,8 @@ use Rattle.paper.specs.Ticks.{top}
 use Rattle.paper.specs.Cards.{field, letter, isCard, rows, nodes, materials, elements}
 use Rattle.paper.specs.Matrices.{fixes, fixed, held}
 use Rattle.paper.specs.declared.Kind.the-variants.{T}
-use Rattle.paper.proofs.Decks.{Deck, Is, Load, hold}
-use Rattle.loads.specs.Asks.{Each, AtRow}
+use Rattle.paper.proofs.Decks.{Deck, Is, hold}
+use Rattle.loads.specs.Asks.{AtRow}
 
 -- what a row leaves
 abbrev pub after : List ℕ → List ℤ → ℕ → ℕ → ℤ

@@ -1,8 +1,8 @@
 -- What each row adds to the loads, its size, and the walk from the first row after the elements.
 use mathlib.Core.Path.{_≡_, refl, sym, ap, subst, _∙_}
 use mathlib.Core.Bool.{Bool, true, false, cond}
-use mathlib.Core.List.{List, map}
-use Prim.Native.Nat.{ℕ, zero, suc, _+_, _-_, _*_, _/_, _^_, _≤_, _<_}
+use mathlib.Core.List.{List}
+use Prim.Native.Nat.{ℕ, zero, suc, _+_, _*_, _^_, _≤_, _<_}
 use native.Mathlib.Nat.{mul-le-mul}
 use native.Mathlib.Omega.{arith}
 use lib.Dec.{eqb}
@@ -13,11 +13,11 @@ use Rattle.whole.specs.Sums.{sum, table}
 use Rattle.whole.specs.Packed.{cell}
 use Rattle.whole.proofs.Sums.{sum-size-each, sum-none, sum-more, table-cells, table-at, table-ext, table-length}
 use Rattle.whole.proofs.Tests.{cond-true, cond-false}
-use Rattle.paper.specs.Ticks.{kelvin, top}
+use Rattle.paper.specs.Ticks.{top}
 use Rattle.paper.specs.Cards.{field, letter, isCard, rows, nodes, materials, elements, elementRow}
 use Rattle.paper.specs.Triangle.{Shape, shapeAt, v, heatLoad, filmLoad}
 use Rattle.paper.specs.Matrices.{named, share, addsLoad, loadOf}
-use Rattle.paper.specs.declared.Kind.the-variants.{E, H, F}
+use Rattle.paper.specs.declared.Kind.the-variants.{H, F}
 use Rattle.paper.proofs.Decks.{Deck, Is, In}
 use Rattle.triangle.specs.Forms.{shapeOf}
 use Rattle.triangle.specs.declared.Shape as code
@@ -25,7 +25,7 @@ use Rattle.triangle.specs.Asks.{Placed}
 use Rattle.triangle.proofs.Sizes.{v-small}
 use Rattle.element.specs.Asks.{ElementCard}
 use Rattle.element.proofs.Ranges.{placed-at, card-of}
-use Rattle.loads.specs.Asks.{Each, AtRow, Room, HeatCard, FilmCard, numbers, Corners}
+use Rattle.loads.specs.Asks.{AtRow, Room, numbers, Corners}
 
 -- ---- by the letter
 
@@ -93,9 +93,6 @@ module _ {t : List ℕ} (d : Deck t) where
 
   -- ---- the walk
 
-  first : ℕ
-  first = nodes t + materials t + elements t + 1
-
   before : (i row : ℕ) → row < nodes t + materials t + elements t + 1 → addsLoad t row i ≡ pos 0
   before i row l =
       none-adds t row i
@@ -145,29 +142,23 @@ module _ {t : List ℕ} (d : Deck t) where
 pub corners-of : {t : List ℕ} {r : List ℤ} {row : ℕ} (s : code.Shape) (w : ℕ) → Room t r row → In 1 (elements t) (field t row 1) → shapeOf s ≡ named t row → w ≤ 2 ^ 46 → Corners r (numbers (s .corners)) w
 unfolding shapeAt
 corners-of {t} {r} {row} s w q h e k =
-    let d = q .here .each .deck in
-    let c = named-card d row h in
-    let m = elementRow t (field t row 1) in
     let es : numbers (s .corners) ≡ named t row .corners = ap (λ (x : Shape). x .corners) e in
     subst (λ (ns : List ℕ). Corners r ns w) (sym es)
     (record {
-      least = λ a l. low d c m a l;
-      most = λ a l. high d c m a l;
+      least = λ a l. corner a l .0;
+      most = λ a l. omega (arith, corner a l .1, q .here .each .long);
       share-small = k;
       small = λ i l. q .small i (omega (arith, q .here .each .long));
     })
   where
-    low : Deck t → ElementCard t (elementRow t (field t row 1)) → (m : ℕ) → (a : ℕ) → a < 3 → 1 ≤ getD (named t row .corners) a 0
-    low d c m zero l = d .corner (elementRow t (field t row 1)) (c .inside) (c .isE) 1 (omega arith) (omega arith) .0
-    low d c m (suc zero) l = d .corner (elementRow t (field t row 1)) (c .inside) (c .isE) 2 (omega arith) (omega arith) .0
-    low d c m (suc (suc zero)) l = d .corner (elementRow t (field t row 1)) (c .inside) (c .isE) 3 (omega arith) (omega arith) .0
-    low d c m (suc (suc (suc a))) l = absurd (omega arith)
+    at : (k : ℕ) → 1 ≤ k → k ≤ 3 → In 1 (nodes t) (field t (elementRow t (field t row 1)) k)
+    at k lo hi = let d = q .here .each .deck in let c = named-card d row h in d .corner (elementRow t (field t row 1)) (c .inside) (c .isE) k lo hi
 
-    high : Deck t → ElementCard t (elementRow t (field t row 1)) → (m : ℕ) → (a : ℕ) → a < 3 → getD (named t row .corners) a 0 ≤ length r
-    high d c m zero l = omega (arith, q .here .each .long, d .corner (elementRow t (field t row 1)) (c .inside) (c .isE) 1 (omega arith) (omega arith) .1)
-    high d c m (suc zero) l = omega (arith, q .here .each .long, d .corner (elementRow t (field t row 1)) (c .inside) (c .isE) 2 (omega arith) (omega arith) .1)
-    high d c m (suc (suc zero)) l = omega (arith, q .here .each .long, d .corner (elementRow t (field t row 1)) (c .inside) (c .isE) 3 (omega arith) (omega arith) .1)
-    high d c m (suc (suc (suc a))) l = absurd (omega arith)
+    corner : (a : ℕ) → a < 3 → In 1 (nodes t) (getD (named t row .corners) a 0)
+    corner zero l = at 1 (omega arith) (omega arith)
+    corner (suc zero) l = at 2 (omega arith) (omega arith)
+    corner (suc (suc zero)) l = at 3 (omega arith) (omega arith)
+    corner (suc (suc (suc a))) l = absurd (omega arith)
 
 -- the shares of a card's corners are what it adds
 module _ {t : List ℕ} {r : List ℤ} {row : ℕ} (q : AtRow t r row) (s : code.Shape) (es : shapeOf s ≡ named t row) where

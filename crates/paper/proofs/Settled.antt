@@ -1,20 +1,19 @@
 -- What an accepted step promises: every residual of its temperatures is within its row's bound, after 1 to 4 corrections.
 use mathlib.Core.Path.{_≡_, refl, sym, ap, subst, _∙_}
-use mathlib.Core.Bool.{Bool, true, not, _&&_}
+use mathlib.Core.Bool.{not, _&&_}
 use mathlib.Core.List.{List, _++_}
 use Prim.Native.Nat.{ℕ, zero, suc, _+_, _≤_, _<_}
 use native.Mathlib.Omega.{arith}
 use lib.Dec.{leb}
-use lib.IntN.{ℤ, pos, natAbs, _+ℤ_, _-ℤ_, _*ℤ_}
+use lib.IntN.{ℤ, pos, natAbs, _-ℤ_, _*ℤ_}
 use lib.ListN.{length, set, take, drop, length-set, List·getD-append}
 use lib.Seq.{length-take-le}
 use borrow.Author.Tests.{leb-true, not-false}
-use Rattle.whole.specs.Sums.{sum}
 use Rattle.whole.specs.Packed.{cell}
 use Rattle.whole.proofs.Sums.{sum-ext, first-none, table-at}
 use Rattle.whole.proofs.Tests.{and-told}
 use Rattle.paper.specs.Ticks.{onScale}
-use Rattle.paper.specs.Refusals.{Outcome, refused, done, when, then, after}
+use Rattle.paper.specs.Refusals.{Outcome, refused, done, after}
 use Rattle.paper.specs.Cards.{nodes}
 use Rattle.paper.specs.Judge.{judged}
 use Rattle.paper.specs.Building.{Slices}
@@ -22,8 +21,7 @@ use Rattle.paper.specs.Lent.{foreign}
 use Rattle.paper.specs.Step.{Board, boardOf, A′, rightSide, residual, residuals, rowBound, warmed, forwardFrom, backFrom, addFrom, correct, unsettled, Settling, settled, unless, attempts, stepped, offScale}
 use Rattle.paper.specs.Calls.{front, roomy, endsStep, onwards, stepOutcome, stepCall}
 use Rattle.paper.specs.declared.Refusal.the-variants.{Short, Foreign, OffScale, Unsettled}
-use Rattle.paper.specs.declared.Stepped.{Stepped}
-use Rattle.paper.specs.declared.Stepped.the-variants.{Settled, Refused}
+use Rattle.paper.specs.declared.Stepped.the-variants.{Settled}
 use Rattle.paper.proofs.Outcomes.{after-done, when-done, done-inj, Ends, ends-all, ends-map, when-ends, then-ends, then-done}
 
 abbrev pub Within : Board → List ℤ → Type 0

@@ -1,21 +1,20 @@
 -- A row's residual and its bound, as the code sums them, are the paper's.
-use mathlib.Core.Path.{_≡_, refl, sym, ap, subst, _∙_}
+use mathlib.Core.Path.{_≡_, refl, sym, ap, _∙_}
 use mathlib.Core.Bool.{Bool, true, false, cond, _||_, true≢false}
 use mathlib.Core.List.{List}
-use Prim.Native.Nat.{ℕ, _+_, _*_, _^_, _≤_, _<_}
+use Prim.Native.Nat.{ℕ, _^_, _≤_, _<_}
 use native.Mathlib.Omega.{arith}
 use lib.Dec.{eqb}
 use lib.IntN.{ℤ, pos, natAbs, _+ℤ_, _-ℤ_, _*ℤ_, zero-*ℤ, +ℤ-idl, +ℤ-idr}
-use lib.Signed.{leZ}
 use borrow.Author.Tests.{eq-eqb, ne-eqb}
 use Rattle.whole.specs.Sums.{sum, sumN}
 use Rattle.whole.specs.Packed.{cell, entry}
 use Rattle.whole.proofs.Signs.{natAbs-minus, natAbs-times}
 use Rattle.whole.proofs.Linear.{zarith, plusL, minusL}
-use Rattle.whole.proofs.Sums.{sum-plus, sum-minus, sum-ext, sum-single, sumN-single, sumN-ext, table-at, table-length}
+use Rattle.whole.proofs.Sums.{sum-plus, sum-minus, sum-ext, sum-single, sumN-single, sumN-ext}
 use Rattle.paper.specs.Matrices.{cleared}
-use Rattle.paper.specs.Step.{Board, isFixed, A′, rightSide, residual, residuals, rowBound}
-use Rattle.lent.specs.Rows.{Light, Mild}
+use Rattle.paper.specs.Step.{Board, isFixed, A′, rightSide, residual, rowBound}
+use Rattle.lent.specs.Rows.{Mild}
 use Rattle.residual.specs.Asks.{Fair, heldOr, mixed, share, rowResidual, InRow}
 use Rattle.residual.proofs.Terms.{part-size}
 

@@ -1,10 +1,9 @@
 // The residuals of a step, row by row, with the row bounds: one pass over P and A.
 ghost use mathlib.Core.Path.{_≡_};
 ghost use mathlib.Core.Bool.{cond, not};
-ghost use Prim.Native.Nat.{ℕ, suc, _+_, _^_, _≤_, _<_};
+ghost use Prim.Native.Nat.{suc, _+_, _^_, _≤_, _<_};
 ghost use lib.Dec.{leb};
 ghost use lib.IntN.{ℤ, pos, natAbs, _+ℤ_, _-ℤ_, _*ℤ_};
-ghost use lib.ListN.{length};
 ghost use Rattle.whole.specs.Sums.{sum, sumN};
 ghost use Rattle.whole.specs.Packed.{cell, entry};
 ghost use Rattle.whole.proofs.Sums.{orElse};

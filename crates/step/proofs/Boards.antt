@@ -1,12 +1,11 @@
 -- The board of a deck: its numbers are fair, so no sum passes 64 bits.
-use mathlib.Core.Path.{_≡_, refl, sym, ap, subst, _∙_}
+use mathlib.Core.Path.{_≡_, sym, subst, _∙_}
 use mathlib.Core.List.{List}
-use Prim.Native.Nat.{ℕ, _^_, _≤_, _<_}
+use Prim.Native.Nat.{ℕ, _^_, _≤_}
 use native.Mathlib.Omega.{arith}
 use lib.IntN.{ℤ, natAbs}
 use lib.ListN.{length}
 use Rattle.whole.specs.Sums.{table}
-use Rattle.whole.specs.Packed.{cell}
 use Rattle.whole.proofs.Sums.{table-at, table-length}
 use Rattle.paper.specs.Cards.{rows, nodes}
 use Rattle.paper.specs.Matrices.{loadOf, held}
@@ -25,9 +24,9 @@ load-small : {t : List ℕ} → Deck t → (i : ℕ) → natAbs (loadOf t i) ≤
 unfolding loadOf
 load-small {t} d i = load-size d i (rows t) (omega arith)
 
-pub fair : {t : List ℕ} {p a l old : List ℤ} {n : ℕ} → Ready t p a l old n → Fair (boardOf t p a old)
+pub fair : {t : List ℕ} {p a old : List ℤ} {n : ℕ} → Ready t p a old n → Fair (boardOf t p a old)
 unfolding boardOf
-fair {t} {p} {a} {l} {old} {n} q = record {
+fair {t} {p} {a} {old} {n} q = record {
   p-light = subst (Light p) (q .count) (q .p-light);
   a-light = subst (Light a) (q .count) (q .a-light);
   loads-long = table-length (nodes t) (loadOf t);
@@ -39,7 +38,7 @@ fair {t} {p} {a} {l} {old} {n} q = record {
   old-mild = subst (Mild old) (q .count) (q .old-mild);
 }
 
-pub count-is : {t : List ℕ} {p a l old : List ℤ} {n : ℕ} → Ready t p a l old n → n ≡ boardOf t p a old .n
+pub count-is : {t : List ℕ} {p a old : List ℤ} {n : ℕ} → Ready t p a old n → n ≡ boardOf t p a old .n
 unfolding boardOf
 count-is q = q .count
 
@@ -55,7 +54,7 @@ forth {b} {t} q s = record {
 
 -- ---- the pass, from the loads on
 
-module _ {t : List ℕ} {p a l fixed old u r : List ℤ} {n : ℕ} (q : Trying t p a l fixed old u r n) where
+module _ {t : List ℕ} {p a fixed old u r : List ℤ} {n : ℕ} (q : Trying t p a fixed old u r n) where
   pub loads-asks : Each t r
   loads-asks = record { deck = q .ready .deck; long = q .r-long ∙ q .ready .count }
 
@@ -71,5 +70,5 @@ module _ {t : List ℕ} {p a l fixed old u r : List ℤ} {n : ℕ} (q : Trying t
     pass-is {row} {x} w = subst (λ (b : Board). Weighed row b u x) board-is w
 
 -- other temperatures, and what the pass left
-pub again : {t : List ℕ} {p a l fixed old u r u′ r′ : List ℤ} {n : ℕ} → Trying t p a l fixed old u r n → Mild u′ n → length r′ ≡ n → Trying t p a l fixed old u′ r′ n
+pub again : {t : List ℕ} {p a fixed old u r u′ r′ : List ℤ} {n : ℕ} → Trying t p a fixed old u r n → Mild u′ n → length r′ ≡ n → Trying t p a fixed old u′ r′ n
 again q s h = record { ready = q .ready; fixed-is = q .fixed-is; u-mild = s; r-long = h }

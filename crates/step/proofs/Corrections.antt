@@ -5,9 +5,8 @@ use Prim.Native.Nat.{ℕ, zero, suc, _+_, _-_, _≤_, _<_}
 use native.Mathlib.Numerals.{add-one}
 use native.Mathlib.Omega.{arith}
 use lib.IntN.{ℤ}
-use lib.ListN.{length}
 use Rattle.paper.specs.Refusals.{Outcome, refused, done, then}
-use Rattle.paper.specs.Step.{Board, boardOf, residuals, unsettled, correct, Settling, settled, unless, attempts}
+use Rattle.paper.specs.Step.{Board, residuals, unsettled, correct, Settling, settled, unless, attempts}
 use Rattle.paper.specs.declared.Answer.{Answer}
 use Rattle.paper.specs.declared.Answer.the-variants as answer
 use Rattle.paper.specs.declared.Refusal.{Refusal}

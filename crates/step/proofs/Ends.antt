@@ -1,21 +1,17 @@
 -- How the corrections end, and what that leaves in place of the old temperatures.
-use mathlib.Core.Path.{_≡_, refl, sym, ap, subst, _∙_}
+use mathlib.Core.Path.{_≡_, sym, ap, _∙_}
 use mathlib.Core.List.{List}
 use Prim.Native.Nat.{ℕ, _-_, _≤_}
 use native.Mathlib.Omega.{arith}
-use lib.IntN.{ℤ, pos}
-use lib.ListN.{length, take, replicate}
+use lib.IntN.{ℤ}
+use lib.ListN.{length, take}
 use lib.Seq.{length-take-le}
-use Rattle.whole.specs.Sums.{table}
 use Rattle.paper.specs.Refusals.{Outcome}
-use Rattle.paper.specs.Cards.{nodes}
-use Rattle.paper.specs.Matrices.{held}
-use Rattle.paper.specs.Step.{Board, boardOf, residuals, Settling, attempts, stepped}
+use Rattle.paper.specs.Step.{boardOf, residuals, Settling, attempts, stepped}
 use Rattle.paper.specs.declared.Refusal.{Refusal}
 use Rattle.paper.specs.declared.Stepped.{Stepped}
 use Rattle.paper.specs.declared.Stepped.the-variants.{Settled, Refused}
-use Rattle.lent.specs.Rows.{Mild}
-use Rattle.step.specs.Asks.{Ready, Trying, ended, answerOf, leftOf, Exits}
+use Rattle.step.specs.Asks.{ended, answerOf, leftOf, Exits}
 
 module _ (e : Stepped) (u : List ℤ) {old : List ℤ} {o : Outcome Settling} (q : ended e u ≡ o) where
   pub exits-refused : (why : Refusal) → e ≡ Refused why → Exits e old old o
@@ -36,7 +32,3 @@ from-old t p a l old u e = ap (λ (x : List ℤ). attempts (boardOf t p a old) l
 -- `&mut t[0..n]` of an array of 96
 pub part-long : (s : List ℤ) (n : ℕ) → length s ≡ 96 → n ≤ 96 → length (take (n - 0) s) ≡ n
 part-long s n e h = length-take-le (n - 0) s (omega arith) ∙ omega arith
-
--- with the T cards' temperatures looked up
-pub looked-up : {t : List ℕ} {p a l fixed old r : List ℤ} {n : ℕ} → Ready t p a l old n → length r ≡ n → fixed ≡ table (nodes t) (held t) → Trying t p a l fixed old old r n
-looked-up q h e = record { ready = q; fixed-is = e; u-mild = q .old-mild; r-long = h }

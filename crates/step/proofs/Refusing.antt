@@ -2,13 +2,13 @@
 use mathlib.Core.Path.{_≡_, refl, sym, ap, subst, _∙_}
 use mathlib.Core.Bool.{Bool, true, false, not, _&&_}
 use mathlib.Core.List.{List, _++_}
-use Prim.Native.Nat.{ℕ, zero, suc, _+_, _-_, _≤_, _<_}
+use Prim.Native.Nat.{ℕ, zero, suc, _-_, _≤_}
 use native.Mathlib.Omega.{arith}
 use lib.Dec.{leb}
 use lib.IntN.{ℤ, pos}
 use lib.ListN.{length, take, drop, take-append-drop}
 use lib.Seq.{take-all, length-take-le, getD-take}
-use borrow.Author.Tests.{le-leb, lt-leb, leb-true}
+use borrow.Author.Tests.{leb-true}
 use Rattle.whole.specs.Packed.{tri}
 use Rattle.whole.proofs.Sums.{first-ext}
 use Rattle.whole.proofs.Tests.{and-told}
@@ -18,16 +18,14 @@ use Rattle.paper.specs.Cards.{nodes}
 use Rattle.paper.specs.Judge.{judged}
 use Rattle.paper.specs.Lent.{foreign}
 use Rattle.paper.specs.Step.{Settling, boardOf, stepped, offScale}
-use Rattle.paper.specs.Calls.{StepExit, endsStep, onwards, stepOutcome, stepCall}
-use Rattle.paper.specs.declared.Answer.{Answer}
+use Rattle.paper.specs.Calls.{endsStep, onwards, stepOutcome, stepCall}
 use Rattle.paper.specs.declared.Answer.the-variants as answer
 use Rattle.paper.specs.declared.Refusal.{Refusal}
 use Rattle.paper.specs.declared.Refusal.the-variants.{Short, Foreign, OffScale}
 use Rattle.paper.specs.declared.Stepped.{Stepped}
-use Rattle.paper.specs.declared.Stepped.the-variants.{Settled, Refused}
-use Rattle.paper.proofs.Decks.{Deck}
+use Rattle.paper.specs.declared.Stepped.the-variants.{Refused}
 use Rattle.paper.proofs.Judged.{deck}
-use Rattle.lent.specs.Rows.{lent, Rows, Light, Sound, Mild}
+use Rattle.lent.specs.Rows.{lent, Mild}
 use Rattle.lent.proofs.Told.{light, sound, mild, foreign-told}
 use Rattle.step.specs.Asks.{Cut, Own, Ready, answerOf, leftOf, Exits, Returns}
 
@@ -51,13 +49,12 @@ module _ {t : List ℕ} {p a l old : List ℤ} {n : ℕ} (q : Own t p a l old n)
   off-exits h = refusing (OffScale node) (off-is node (stepped (boardOf t p a old) l) h ∙ ap (λ (k : ℕ). onwards k (stepped (boardOf t p a old) l)) e)
 
   module _ (z : node ≡ 0) where
-    pub ready : Ready t p a l old n
+    pub ready : Ready t p a old n
     ready = record {
       deck = q .deck;
       count = q .count;
       p-light = q .p-light;
       a-light = q .a-light;
-      sound = q .sound;
       old-mild = subst (λ (x : List ℤ). Mild x n) (take-all n old (omega (arith, q .old-long))) (mild n old (omega (arith, q .old-long)) (sym e ∙ z));
     }
 

@@ -34,18 +34,17 @@ pub record Own (t : List ℕ) (p a l old : List ℤ) (n : ℕ) : Type 0 where
   pub sound : Sound l n
   pub old-long : length old ≡ n
 
--- past refusal 11
-pub record Ready (t : List ℕ) (p a l old : List ℤ) (n : ℕ) : Type 0 where
+-- past refusal 11: what the residuals are of
+pub record Ready (t : List ℕ) (p a old : List ℤ) (n : ℕ) : Type 0 where
   pub deck : Deck t
   pub count : n ≡ nodes t
   pub p-light : Light p n
   pub a-light : Light a n
-  pub sound : Sound l n
   pub old-mild : Mild old n
 
 -- with the T cards' temperatures looked up, the temperatures u so far, and room for residuals
-pub record Trying (t : List ℕ) (p a l fixed old u r : List ℤ) (n : ℕ) : Type 0 where
-  pub ready : Ready t p a l old n
+pub record Trying (t : List ℕ) (p a fixed old u r : List ℤ) (n : ℕ) : Type 0 where
+  pub ready : Ready t p a old n
   pub fixed-is : fixed ≡ table (nodes t) (held t)
   pub u-mild : Mild u n
   pub r-long : length r ≡ n

@@ -5,7 +5,6 @@ use paper::Refusal;
 use paper::Stepped;
 ghost use mathlib.Core.Path.{_≡_};
 ghost use mathlib.Core.Bool.{not, _&&_};
-ghost use Prim.Native.Nat.{_≤_};
 ghost use lib.Dec.{leb};
 ghost use lib.ListN.{length};
 ghost use Rattle.paper.specs.Refusals.{when};
@@ -15,7 +14,7 @@ ghost use Rattle.paper.specs.Step.{boardOf, residuals, attempts, stepped, offSc
 ghost use Rattle.paper.specs.Calls.{onwards, stepCall, runFrom, runCall};
 ghost use Rattle.paper.specs.declared.Answer.the-variants.{Done};
 ghost use Rattle.paper.specs.declared.Refusal.the-variants.{Foreign};
-ghost use Rattle.lent.specs.Rows.{lent};
+ghost use Rattle.lent.specs.Rows.{lent, Sound};
 ghost use Rattle.residual.specs.Asks.{Weighed};
 ghost use Rattle.step.specs.Asks.{Cut, Own, Ready, Trying, ended, Exits, Returns, Leaves};
 
@@ -26,14 +25,13 @@ fn weigh(
     table: &[u32],
     p: &[i64],
     a: &[i64],
-    l: &[i64],
     fixed: &[i64],
     old: &[i64],
     t: &[i64],
     r: &mut [i64],
     n: usize,
 ) -> u32
-    requires { ⌜ Trying (now table) (now p) (now a) (now l) (now fixed) (now old) (now t) (now r) n ⌝ }
+    requires { ⌜ Trying (now table) (now p) (now a) (now fixed) (now old) (now t) (now r) n ⌝ }
     ensures { λ row. ⌜ Weighed row (boardOf (now (table .entry)) (now (p .entry)) (now (a .entry)) (now (old .entry))) (now (t .entry)) (now (r .exit)) ⌝ }
 {
     loads::loads(table, &mut r[..]);
@@ -52,17 +50,17 @@ fn attempts(
     r: &mut [i64],
     n: usize,
 ) -> Stepped
-    requires { ⌜ Trying (now table) (now p) (now a) (now l) (now fixed) (now old) (now t) (now r) n ⌝ }
+    requires { ⌜ Trying (now table) (now p) (now a) (now fixed) (now old) (now t) (now r) n × Sound (now l) n ⌝ }
     ensures { λ e. ⌜ ended e (now (t .exit)) ≡ attempts (boardOf (now (table .entry)) (now (p .entry)) (now (a .entry)) (now (old .entry))) (now (l .entry)) 3 1 (now (t .entry)) (residuals (boardOf (now (table .entry)) (now (p .entry)) (now (a .entry)) (now (old .entry))) (now (t .entry))) ⌝ }
 {
-    weigh(table, p, a, l, fixed, old, &t[..], &mut r[..], n);
+    weigh(table, p, a, fixed, old, &t[..], &mut r[..], n);
     let mut c: u32 = 1;
     loop {
         let v = correction::correct(l, &mut t[..], &mut r[..], n);
         if let Answer::Refused(why) = v {
             return Stepped::Refused(why);
         }
-        let row = weigh(table, p, a, l, fixed, old, &t[..], &mut r[..], n);
+        let row = weigh(table, p, a, fixed, old, &t[..], &mut r[..], n);
         if row == 0 {
             return Stepped::Settled(c);
         }
@@ -99,7 +97,7 @@ fn finish(
     r: &mut [i64],
     n: usize,
 ) -> Stepped
-    requires { ⌜ Trying (now table) (now p) (now a) (now l) (now fixed) (now old) (now old) (now r) n × (length (now t) ≡ n) ⌝ }
+    requires { ⌜ Trying (now table) (now p) (now a) (now fixed) (now old) (now old) (now r) n × Sound (now l) n × (length (now t) ≡ n) ⌝ }
     ensures { λ e. ⌜ Exits e (now (old .exit)) (now (old .entry)) (stepped (boardOf (now (table .entry)) (now (p .entry)) (now (a .entry)) (now (old .entry))) (now (l .entry))) ⌝ }
 {
     copy(&old[..], &mut t[..]);
@@ -123,7 +121,7 @@ fn prepared(
     r: &mut [i64],
     n: usize,
 ) -> Stepped
-    requires { ⌜ Ready (now table) (now p) (now a) (now l) (now old) n × (length (now fixed) ≡ n) × (length (now t) ≡ n) × (length (now r) ≡ n) ⌝ }
+    requires { ⌜ Ready (now table) (now p) (now a) (now old) n × Sound (now l) n × (length (now fixed) ≡ n) × (length (now t) ≡ n) × (length (now r) ≡ n) ⌝ }
     ensures { λ e. ⌜ Exits e (now (old .exit)) (now (old .entry)) (stepped (boardOf (now (table .entry)) (now (p .entry)) (now (a .entry)) (now (old .entry))) (now (l .entry))) ⌝ }
 {
     loads::fixed(table, &mut fixed[..]);
@@ -142,7 +140,7 @@ fn prepared(
 
 // The three arrays: the T cards' temperatures, the new temperatures, and one for r, y, z and x.
 fn work(table: &[u32], p: &[i64], a: &[i64], l: &[i64], old: &mut [i64], n: usize) -> Stepped
-    requires { ⌜ Ready (now table) (now p) (now a) (now l) (now old) n ⌝ }
+    requires { ⌜ Ready (now table) (now p) (now a) (now old) n × Sound (now l) n ⌝ }
     ensures { λ e. ⌜ Exits e (now (old .exit)) (now (old .entry)) (stepped (boardOf (now (table .entry)) (now (p .entry)) (now (a .entry)) (now (old .entry))) (now (l .entry))) ⌝ }
 {
     let mut fixed = [0i64; 96];

@@ -13,7 +13,7 @@ copy-requires : tie.Need-copy-requires
 copy-requires c κs = search needs
 
 attempts-requires : tie.Need-attempts-requires
-attempts-requires c κs = again (c .before .before .before .before .before .before .before .before .pre .0) (subst (λ (x : List ℤ). Mild x (c .before .before .before .before .before .before .before .before .args .n)) (sym (c .before .before .before .before .copy .ensures)) (c .before .before .before .before .before .before .before .before .pre .0 .u-mild)) (c .before .before .before .before .before .before .before .before .pre .0 .r-long)
+attempts-requires c κs = (again (c .before .before .before .before .before .before .before .before .pre .0) (subst (λ (x : List ℤ). Mild x (c .before .before .before .before .before .before .before .before .args .n)) (sym (c .before .before .before .before .copy .ensures)) (c .before .before .before .before .before .before .before .before .pre .0 .u-mild)) (c .before .before .before .before .before .before .before .before .pre .0 .r-long), c .before .before .before .before .before .before .before .before .pre .1)
 
 enum-known-e : tie.Need-enum-known-e
 enum-known-e c = search needs

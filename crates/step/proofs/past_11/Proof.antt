@@ -14,7 +14,7 @@ returns : tie.Need-returns
 returns c = off-exits (c .before .before .before .before .pre) (c .before .off-scale .result) (c .before .off-scale .ensures) (c .if1 .taken)
 
 work-requires : tie.Need-work-requires
-work-requires c κs = ready (c .before .before .before .before .before .pre) (c .before .before .off-scale .result) (c .before .before .off-scale .ensures) (c .before .if1 .left)
+work-requires c κs = (ready (c .before .before .before .before .before .pre) (c .before .before .off-scale .result) (c .before .before .off-scale .ensures) (c .before .if1 .left), c .before .before .before .before .before .pre .sound)
 
 same-length-2 : tie.Need-same-length-2
 same-length-2 c = search needs

@@ -36,8 +36,8 @@ part-r-end c = search needs
 
 prepared-requires : tie.Need-prepared-requires
 prepared-requires c κs =
-    let n = c .before .before .before .before .before .args .n in let few = c .before .before .before .before .before .pre .sound .rows .few in
-    (c .before .before .before .before .before .pre, part-long (replicate 96 (pos 0)) n refl few, part-long (replicate 96 (pos 0)) n refl few, part-long (replicate 96 (pos 0)) n refl few)
+    let n = c .before .before .before .before .before .args .n in let few = c .before .before .before .before .before .pre .1 .rows .few in
+    (c .before .before .before .before .before .pre .0, c .before .before .before .before .before .pre .1, part-long (replicate 96 (pos 0)) n refl few, part-long (replicate 96 (pos 0)) n refl few, part-long (replicate 96 (pos 0)) n refl few)
 
 same-length : tie.Need-same-length
 same-length c = search needs
