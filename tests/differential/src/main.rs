@@ -9,6 +9,7 @@ mod decks;
 
 mod archive;
 mod case;
+mod face;
 mod plan;
 mod show;
 mod shrink;
