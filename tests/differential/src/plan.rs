@@ -111,7 +111,7 @@ fn card_of(table: &[u32], index: usize) -> Card {
 // ---- reader and writer
 
 fn valid_decks(trial: &mut Trial) {
-    for _ in trial.times(8 * 1_500) {
+    for _ in trial.times(1_500) {
         let chance = &mut trial.chance;
         let table = deck(chance);
         let notes = chance.pick(&[0, 0, 1, 41, 42, 300]);
@@ -166,7 +166,7 @@ fn each_byte(trial: &mut Trial) {
 }
 
 fn damaged_bytes(trial: &mut Trial) {
-    for _ in trial.times(8 * 20_000) {
+    for _ in trial.times(20_000) {
         let chance = &mut trial.chance;
         let table = if chance.one_in(2) {
             Groups::wild(chance).table()
@@ -208,7 +208,7 @@ fn cuts(trial: &mut Trial) {
 }
 
 fn random_bytes(trial: &mut Trial) {
-    for _ in trial.times(8 * 4_000) {
+    for _ in trial.times(4_000) {
         let chance = &mut trial.chance;
         let length = match chance.within(0, 9) {
             0 => chance.within(65_500, 65_600),
@@ -285,7 +285,7 @@ fn checked_decks(trial: &mut Trial) {
 }
 
 fn builds(trial: &mut Trial) {
-    for _ in trial.times(8 * 8_000) {
+    for _ in trial.times(8_000) {
         let chance = &mut trial.chance;
         let table = deck(chance);
         let length = triangle(nodes_of(&table));
@@ -346,7 +346,7 @@ fn replacement(chance: &mut Chance, table: &[u32]) -> Call {
 }
 
 fn replacements(trial: &mut Trial) {
-    for _ in trial.times(8 * 220) {
+    for _ in trial.times(220) {
         let chance = &mut trial.chance;
         let table = deck(chance);
         let length = triangle(nodes_of(&table));
@@ -444,7 +444,7 @@ fn strange(trial: &mut Trial) -> Lent {
 }
 
 fn foreign_replacements(trial: &mut Trial) {
-    for _ in trial.times(8 * 1_500) {
+    for _ in trial.times(1_500) {
         let mut lent = strange(trial);
         for _ in 0..4 {
             let call = replacement(&mut trial.chance, &lent.table);
@@ -456,7 +456,7 @@ fn foreign_replacements(trial: &mut Trial) {
 // ---- steps
 
 fn own_steps(trial: &mut Trial) {
-    for _ in trial.times(8 * 600) {
+    for _ in trial.times(600) {
         let table = deck(&mut trial.chance);
         let n = nodes_of(&table);
         let mut lent = lend(&mut trial.chance, table);
@@ -473,7 +473,7 @@ fn own_steps(trial: &mut Trial) {
 }
 
 fn foreign_steps(trial: &mut Trial) {
-    for _ in trial.times(8 * 6_000) {
+    for _ in trial.times(6_000) {
         let mut lent = strange(trial);
         let chance = &mut trial.chance;
         let n = nodes_of(&lent.table);
@@ -540,7 +540,7 @@ fn edge(chance: &mut Chance, number: u32) -> u32 {
 }
 
 fn damaged_tables(trial: &mut Trial) {
-    for _ in trial.times(8 * 12_000) {
+    for _ in trial.times(12_000) {
         let chance = &mut trial.chance;
         let table = if chance.one_in(20) {
             deck(chance)

@@ -7,6 +7,9 @@ use crate::shrink::shrink;
 use std::process::exit;
 use std::time::{Duration, Instant};
 
+/// About a minute in all.
+const EFFORT: u32 = 8;
+
 pub struct Trial {
     pub chance: Chance,
     /// Cases by call and by number: 0 is acceptance.
@@ -25,10 +28,10 @@ impl Trial {
         }
     }
 
-    /// `count` times, or until the time is over.
+    /// EFFORT times `count`, or until the time is over.
     pub fn times(&self, count: u32) -> impl Iterator<Item = u32> {
         let (began, most) = (self.began, self.most);
-        (0..count).take_while(move |_| began.elapsed() < most)
+        (0..EFFORT * count).take_while(move |_| began.elapsed() < most)
     }
 
     /// Runs one case on both. They agree, or the program ends here.
