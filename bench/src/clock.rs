@@ -9,7 +9,7 @@ pub struct Times {
     pub archive: f64,
 }
 
-const RUNS: usize = 401;
+const RUNS: usize = 1_501;
 /// A run is as many calls as take about this long.
 const RUN_NANOSECONDS: u128 = 40_000;
 
