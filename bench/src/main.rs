@@ -16,6 +16,7 @@ use reference::Card;
 
 /// Sizes whose every call is shown.
 const SHOWN: [usize; 3] = [12, 48, 96];
+const ROUNDS: usize = 5;
 
 fn main() {
     let boards: Vec<Board> = std::env::args()
@@ -51,18 +52,21 @@ fn show(call: &str, board: &Board, times: Times) {
     println!("{call:14} {nodes:>5} {reference:>9.0} ns {archive:>9.0} ns {ratio:>7.2}{mark}");
 }
 
-/// How the cost of a build rises: the power of n from each size to the next.
+/// How the cost of a build rises: the power of n from each size to the next. Other work on the machine comes and goes, so
+/// every size is measured in each of some rounds, and its least median counts.
 fn growth(boards: &[Board]) {
+    let mut least = vec![Times::MOST; boards.len()];
+    for _ in 0..ROUNDS {
+        for (least, board) in least.iter_mut().zip(boards) {
+            *least = least.min(builds(board));
+        }
+    }
     println!("build, from each size to the next as a power of n:");
-    let times: Vec<(f64, Times)> = boards
-        .iter()
-        .map(|board| (board.nodes as f64, builds(board)))
-        .collect();
-    for pair in times.windows(2) {
-        let [(n, from), (m, to)] = [pair[0], pair[1]];
-        let power = |from: f64, to: f64| (to / from).ln() / (m / n).ln();
-        let reference = power(from.reference, to.reference);
-        let archive = power(from.archive, to.archive);
+    for (boards, times) in boards.windows(2).zip(least.windows(2)) {
+        let (n, m) = (boards[0].nodes, boards[1].nodes);
+        let power = |from: f64, to: f64| (to / from).ln() / (m as f64 / n as f64).ln();
+        let reference = power(times[0].reference, times[1].reference);
+        let archive = power(times[0].archive, times[1].archive);
         println!("{n:>3} to {m:>3} nodes   reference {reference:.2}   archive {archive:.2}");
     }
 }
