@@ -1,0 +1,55 @@
+//! The decks that are measured.
+
+use reference::{Answer, Card, MAX_ROWS};
+
+const E: u32 = b'E' as u32;
+
+pub struct Board {
+    pub bytes: Vec<u8>,
+    pub table: Vec<u32>,
+    pub nodes: usize,
+}
+
+impl Board {
+    pub fn read(path: &str) -> Board {
+        let bytes = std::fs::read(path).expect("a deck can be read");
+        let mut table = vec![0; 6 * MAX_ROWS];
+        let (answer, start, end) = reference::read(&bytes, &mut table);
+        assert_eq!(answer, Answer::Done, "{path} is a deck");
+        table.truncate((end - start) / 7);
+        let nodes = table[table.len() - 4] as usize;
+        Board {
+            bytes,
+            table,
+            nodes,
+        }
+    }
+
+    /// P, A, the factor and a work slice.
+    pub fn built(&self) -> [Vec<i64>; 4] {
+        let matrix = || vec![0; self.nodes * (self.nodes + 1) / 2];
+        let mut matrices = [matrix(), matrix(), matrix(), matrix()];
+        let [p, a, factor, work] = &mut matrices;
+        assert_eq!(
+            reference::build(&self.table, p, a, factor, work),
+            Answer::Done
+        );
+        matrices
+    }
+
+    /// The E card whose least corner is nearest to a node: that corner, the card's number, the card.
+    pub fn element_near(&self, node: u32) -> (u32, u32, Card) {
+        let cards = (1..).zip(self.table.chunks_exact(6));
+        cards
+            .filter(|(_, card)| card[0] == E)
+            .map(|(number, card)| {
+                (
+                    card[1].min(card[2]).min(card[3]),
+                    number,
+                    card.try_into().unwrap(),
+                )
+            })
+            .min_by_key(|(least, ..)| least.abs_diff(node))
+            .expect("a deck has an element")
+    }
+}

@@ -1,0 +1,207 @@
+//! The archive's calls against reference/'s, in one run: medians of many, taken in turns.
+//!
+//!     bench DECK..
+//!
+//! The decks rise in nodes and build. reference/ divides as the paper writes it: its R is x/2^20 by a division.
+
+#[path = "../../tests/differential/src/face.rs"]
+mod face;
+
+mod boards;
+mod clock;
+
+use boards::Board;
+use clock::{in_turns, Times};
+use reference::Card;
+
+/// Sizes whose every call is shown.
+const SHOWN: [usize; 3] = [12, 48, 96];
+const ROUNDS: usize = 5;
+
+fn main() {
+    let boards: Vec<Board> = std::env::args()
+        .skip(1)
+        .map(|path| Board::read(&path))
+        .collect();
+    println!(
+        "{:14} {:>5} {:>12} {:>12} {:>7}",
+        "call", "nodes", "reference", "archive", "ratio"
+    );
+    for board in boards.iter().filter(|board| SHOWN.contains(&board.nodes)) {
+        show("read", board, reads(board));
+        show("write", board, writes(board));
+        show("build", board, builds(board));
+        // In the first quarter of the nodes, in the middle and as near to the last as a board has one.
+        for eighths in [1, 4, 7] {
+            let (least, card, even) = board.element_near(board.nodes as u32 * eighths / 8);
+            show(
+                &format!("replace at {least}"),
+                board,
+                replaces(board, card, even),
+            );
+        }
+        show("step", board, steps(board));
+    }
+    growth(&boards);
+}
+
+fn show(call: &str, board: &Board, times: Times) {
+    let ratio = times.archive / times.reference;
+    let mark = if ratio < 1.0 { "" } else { "  more" };
+    let (nodes, Times { reference, archive }) = (board.nodes, times);
+    println!("{call:14} {nodes:>5} {reference:>9.0} ns {archive:>9.0} ns {ratio:>7.2}{mark}");
+}
+
+/// How the cost of a build rises: the power of n from each size to the next. Other work on the machine comes and goes, so
+/// every size is measured in each of some rounds, and its least median counts.
+fn growth(boards: &[Board]) {
+    let mut least = vec![Times::MOST; boards.len()];
+    for _ in 0..ROUNDS {
+        for (least, board) in least.iter_mut().zip(boards) {
+            *least = least.min(builds(board));
+        }
+    }
+    println!("build, from each size to the next as a power of n:");
+    for (boards, times) in boards.windows(2).zip(least.windows(2)) {
+        let (n, m) = (boards[0].nodes, boards[1].nodes);
+        let power = |from: f64, to: f64| (to / from).ln() / (m as f64 / n as f64).ln();
+        let reference = power(times[0].reference, times[1].reference);
+        let archive = power(times[0].archive, times[1].archive);
+        println!("{n:>3} to {m:>3} nodes   reference {reference:.2}   archive {archive:.2}");
+    }
+}
+
+fn reads(board: &Board) -> Times {
+    let (mut right, mut ours) = (board.table.clone(), board.table.clone());
+    let bytes = &board.bytes;
+    in_turns(
+        || reference::read(bytes, &mut right).0.packed(),
+        || {
+            let (mut start, mut end) = (0, 0);
+            // Safety, here and below: each pointer is good for the length beside it, and no two overlap.
+            unsafe {
+                face::gormulast_read(
+                    bytes.as_ptr(),
+                    bytes.len(),
+                    ours.as_mut_ptr(),
+                    ours.len(),
+                    &mut start,
+                    &mut end,
+                )
+            }
+        },
+    )
+}
+
+fn writes(board: &Board) -> Times {
+    let (mut right, mut ours) = (board.bytes.clone(), board.bytes.clone());
+    let table = &board.table;
+    in_turns(
+        || reference::write(table, &mut right).packed(),
+        || unsafe {
+            face::gormulast_write(table.as_ptr(), table.len(), ours.as_mut_ptr(), ours.len())
+        },
+    )
+}
+
+fn builds(board: &Board) -> Times {
+    let ([mut p, mut a, mut factor, mut work], mut ours) = (board.built(), board.built());
+    let table = &board.table;
+    in_turns(
+        || reference::build(table, &mut p, &mut a, &mut factor, &mut work).packed(),
+        || {
+            let length = ours[0].len();
+            let [p, a, factor, work] = ours.each_mut().map(|matrix| matrix.as_mut_ptr());
+            unsafe {
+                face::gormulast_build(
+                    table.as_ptr(),
+                    table.len(),
+                    p,
+                    length,
+                    a,
+                    length,
+                    factor,
+                    length,
+                    work,
+                    length,
+                )
+            }
+        },
+    )
+}
+
+/// An element a micrometre thicker and back.
+fn replaces(board: &Board, card: u32, even: Card) -> Times {
+    let mut odd = even;
+    odd[5] += 1;
+    let ([mut p, mut a, mut factor, mut work], mut ours) = (board.built(), board.built());
+    let (mut right_table, mut our_table) = (board.table.clone(), board.table.clone());
+    let (mut right_turn, mut our_turn) = (false, false);
+    in_turns(
+        || {
+            right_turn = !right_turn;
+            let new = if right_turn { odd } else { even };
+            let table = &mut right_table;
+            reference::replace(table, &mut p, &mut a, &mut factor, &mut work, card, new).packed()
+        },
+        || {
+            our_turn = !our_turn;
+            let [letter, f1, f2, f3, f4, f5] = if our_turn { odd } else { even };
+            let length = ours[0].len();
+            let [p, a, factor, work] = ours.each_mut().map(|matrix| matrix.as_mut_ptr());
+            unsafe {
+                face::gormulast_replace(
+                    our_table.as_mut_ptr(),
+                    our_table.len(),
+                    p,
+                    length,
+                    a,
+                    length,
+                    factor,
+                    length,
+                    work,
+                    length,
+                    card,
+                    letter,
+                    f1,
+                    f2,
+                    f3,
+                    f4,
+                    f5,
+                )
+            }
+        },
+    )
+}
+
+/// Always the first step of the deck.
+fn steps(board: &Board) -> Times {
+    let [p, a, factor, _] = &board.built();
+    let table = &board.table;
+    let start = vec![i64::from(table[2]); board.nodes];
+    let (mut right, mut ours) = (start.clone(), start.clone());
+    in_turns(
+        || {
+            right.copy_from_slice(&start);
+            reference::step(table, p, a, factor, &mut right).packed() & 255
+        },
+        || {
+            ours.copy_from_slice(&start);
+            let answer = unsafe {
+                face::gormulast_step(
+                    table.as_ptr(),
+                    table.len(),
+                    p.as_ptr(),
+                    p.len(),
+                    a.as_ptr(),
+                    a.len(),
+                    factor.as_ptr(),
+                    factor.len(),
+                    ours.as_mut_ptr(),
+                    ours.len(),
+                )
+            };
+            answer & 255
+        },
+    )
+}

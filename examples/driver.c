@@ -1,0 +1,152 @@
+/* driver DECK: an e-reader's page loop over Gormulast, as a panel driver has it.
+ *
+ * After each page the model takes one step. The reading light and the case are cards of the deck: switching the light
+ * replaces the H cards, opening the case replaces the F cards, and the model redoes only what depends on them. Each line has
+ * a page and the temperature of the panel at every corner of its zones, in degrees Celsius.
+ *
+ * panel_open, panel_page and the two switches are what would stand in a kernel; main and the printing are not.
+ */
+#include <gormulast.h>
+#include <stdio.h>
+
+#define MATRIX GORMULAST_MATRIX(GORMULAST_MAX_NODES)
+
+/* All that a panel's model is: no call keeps anything of its own. */
+struct panel {
+	uint32_t table[GORMULAST_MAX_TABLE];
+	size_t length; /* of the table: six numbers a card */
+	int64_t p[MATRIX], a[MATRIX], factor[MATRIX], work[MATRIX];
+	int64_t temperatures[GORMULAST_MAX_NODES];
+	size_t nodes;
+};
+
+static uint64_t panel_build(struct panel *panel)
+{
+	return gormulast_build(panel->table, panel->length, panel->p, MATRIX, panel->a, MATRIX,
+			       panel->factor, MATRIX, panel->work, MATRIX);
+}
+
+/* Reads a deck, builds its matrices and starts every node at D's temperature. */
+static uint64_t panel_open(struct panel *panel, const uint8_t *bytes, size_t length)
+{
+	uint64_t start, end, answer;
+	size_t node;
+
+	answer = gormulast_read(bytes, length, panel->table, GORMULAST_MAX_TABLE, &start, &end);
+	if (answer)
+		return answer;
+	panel->length = (end - start) / GORMULAST_CARD_BYTES * GORMULAST_CARD_NUMBERS;
+	panel->nodes = panel->table[panel->length - 4];
+	for (node = 0; node < panel->nodes; node++)
+		panel->temperatures[node] = panel->table[2];
+	return panel_build(panel);
+}
+
+/* After a page: one step. Refused, it leaves the temperatures as they were. */
+static uint64_t panel_page(struct panel *panel)
+{
+	return gormulast_step(panel->table, panel->length, panel->p, MATRIX, panel->a, MATRIX,
+			      panel->factor, MATRIX, panel->temperatures, panel->nodes);
+}
+
+/* Gives fields 2 and 3 of every card of a letter new values; stops at the first that is refused. */
+static uint64_t panel_set(struct panel *panel, char letter, uint32_t second, uint32_t third)
+{
+	uint64_t answer = 0;
+	size_t at;
+
+	for (at = 0; at < panel->length && !answer; at += GORMULAST_CARD_NUMBERS)
+		if (panel->table[at] == (uint32_t)letter)
+			answer = gormulast_replace(panel->table, panel->length, panel->p, MATRIX, panel->a, MATRIX,
+						   panel->factor, MATRIX, panel->work, MATRIX,
+						   (uint32_t)(at / GORMULAST_CARD_NUMBERS + 1), (uint32_t)letter,
+						   panel->table[at + 1], second, third, 0, 0);
+	return answer;
+}
+
+/* The heat of each lit element, in microwatts. An H card can't be without any, so off is 1. */
+static uint64_t panel_light(struct panel *panel, int on)
+{
+	return panel_set(panel, 'H', on ? 750000 : 1, 0);
+}
+
+/* The film over each element, in mW/(m2 K), and the air about it. */
+static uint64_t panel_case(struct panel *panel, int open)
+{
+	return open ? panel_set(panel, 'F', 40000, 278 * GORMULAST_KELVIN)
+		    : panel_set(panel, 'F', 12000, 298 * GORMULAST_KELVIN);
+}
+
+/* ---- the rest is for the eye */
+
+static int refused(const char *what, uint64_t answer)
+{
+	if (GORMULAST_NUMBER(answer))
+		printf("%s refused: %u, place %u\n", what, GORMULAST_NUMBER(answer), GORMULAST_PLACE(answer));
+	return GORMULAST_NUMBER(answer) != 0;
+}
+
+/* In hundredths of a degree, rounded. */
+static void print_celsius(int64_t ticks)
+{
+	int64_t hundredths = (ticks * 100 + GORMULAST_KELVIN / 2) / GORMULAST_KELVIN - 27315;
+	int64_t size = hundredths < 0 ? -hundredths : hundredths;
+
+	printf(" %s%lld.%02lld", hundredths < 0 ? "-" : "", (long long)(size / 100), (long long)(size % 100));
+}
+
+static void print_page(const struct panel *panel, int page, unsigned corrections)
+{
+	size_t node;
+
+	printf("page %2d (%u)", page, corrections);
+	for (node = 0; node < panel->nodes; node++)
+		print_celsius(panel->temperatures[node]);
+	printf("\n");
+}
+
+static struct panel panel;
+static uint8_t bytes[GORMULAST_MAX_BYTES];
+
+int main(int count, char **words)
+{
+	FILE *deck = count == 2 ? fopen(words[1], "rb") : NULL;
+	size_t length;
+	uint64_t answer;
+	int page;
+
+	if (!deck) {
+		fprintf(stderr, "usage: driver DECK\n");
+		return 2;
+	}
+	length = fread(bytes, 1, sizeof bytes, deck);
+	fclose(deck);
+	if (refused("deck", panel_open(&panel, bytes, length)) || refused("light", panel_light(&panel, 0)))
+		return 1;
+
+	for (page = 1; page <= 16; page++) {
+		if (page == 3) {
+			printf("light on\n");
+			if (refused("light", panel_light(&panel, 1)))
+				return 1;
+		}
+		if (page == 9) {
+			printf("case opened\n");
+			if (refused("case", panel_case(&panel, 1)))
+				return 1;
+		}
+		if (page == 13) {
+			printf("case closed, light off\n");
+			if (refused("case", panel_case(&panel, 0)) || refused("light", panel_light(&panel, 0)))
+				return 1;
+		}
+		/* A film of 0 is out of its range. The first card is refused, so all is as it was. */
+		if (page == 16)
+			refused("film of 0", panel_set(&panel, 'F', 0, 298 * GORMULAST_KELVIN));
+		answer = panel_page(&panel);
+		if (refused("step", answer))
+			return 1;
+		print_page(&panel, page, GORMULAST_CORRECTIONS(answer));
+	}
+	return 0;
+}

@@ -1,0 +1,124 @@
+/* stack DECK: how much stack each call takes, by painting it.
+ *
+ * Each call runs on a stack of its own that was painted before; what is no longer painted after it was used. An empty call
+ * says how much of that is not the call's. The deck has E, H, F and T cards and builds.
+ */
+#include <gormulast.h>
+#include <stdio.h>
+#include <string.h>
+#include <ucontext.h>
+
+enum { MATRIX = GORMULAST_MATRIX(GORMULAST_MAX_NODES), PAINT = 0xA5, STACK = 65536 };
+
+static uint8_t bytes[GORMULAST_MAX_BYTES], written[GORMULAST_MAX_BYTES];
+static size_t length, rows;
+static uint32_t table[GORMULAST_MAX_TABLE];
+static int64_t p[MATRIX], a[MATRIX], factor[MATRIX], work[MATRIX], temperatures[GORMULAST_MAX_NODES];
+static uint64_t answer;
+static uint32_t card;
+
+static unsigned char stack[STACK];
+static ucontext_t here, there;
+
+/* The stack that a call takes. */
+static size_t used(void (*call)(void))
+{
+	size_t untouched = 0;
+
+	memset(stack, PAINT, sizeof stack);
+	getcontext(&there);
+	there.uc_stack.ss_sp = stack;
+	there.uc_stack.ss_size = sizeof stack;
+	there.uc_link = &here;
+	makecontext(&there, call, 0);
+	swapcontext(&here, &there);
+	while (untouched < sizeof stack && stack[untouched] == PAINT)
+		untouched++;
+	return sizeof stack - untouched;
+}
+
+static void empty(void)
+{
+}
+
+static void call_read(void)
+{
+	uint64_t start, end;
+
+	answer = gormulast_read(bytes, length, table, GORMULAST_MAX_TABLE, &start, &end);
+	if (answer == 0)
+		rows = (end - start) / GORMULAST_CARD_BYTES;
+}
+
+static void call_write(void)
+{
+	answer = gormulast_write(table, 6 * rows, written, sizeof written);
+}
+
+static void call_build(void)
+{
+	answer = gormulast_build(table, 6 * rows, p, MATRIX, a, MATRIX, factor, MATRIX, work, MATRIX);
+}
+
+/* Puts a card in its own place. */
+static void call_replace(void)
+{
+	const uint32_t *old = table + 6 * card;
+
+	answer = gormulast_replace(table, 6 * rows, p, MATRIX, a, MATRIX, factor, MATRIX, work, MATRIX,
+				   card + 1, old[0], old[1], old[2], old[3], old[4], old[5]);
+}
+
+static void call_step(void)
+{
+	answer = gormulast_step(table, 6 * rows, p, MATRIX, a, MATRIX, factor, MATRIX, temperatures, GORMULAST_MAX_NODES);
+}
+
+static int failed;
+
+static void measure(const char *name, void (*call)(void), size_t most)
+{
+	size_t took = used(call) - used(empty);
+	int good = took <= most && GORMULAST_NUMBER(answer) == 0;
+
+	printf("%-10s %5zu of %zu bytes%s\n", name, took, most, good ? "" : "   FAILED");
+	if (GORMULAST_NUMBER(answer) != 0)
+		printf("%s was refused: %u, place %u\n", name, GORMULAST_NUMBER(answer), GORMULAST_PLACE(answer));
+	failed |= !good;
+}
+
+/* Replaces the last card of each letter. */
+static void measure_replaces(void)
+{
+	static const char letters[] = "EHFT";
+	char name[] = "replace ?";
+	const char *letter;
+
+	for (letter = letters; *letter; letter++) {
+		for (card = (uint32_t)rows; card-- > 0 && table[6 * card] != (uint32_t)*letter;)
+			;
+		name[8] = *letter;
+		measure(name, call_replace, 2048);
+	}
+}
+
+int main(int count, char **words)
+{
+	FILE *deck = count == 2 ? fopen(words[1], "rb") : NULL;
+	size_t i;
+
+	if (!deck) {
+		fprintf(stderr, "usage: stack DECK\n");
+		return 2;
+	}
+	length = fread(bytes, 1, sizeof bytes, deck);
+	fclose(deck);
+	measure("read", call_read, 2048);
+	measure("write", call_write, 2048);
+	measure("build", call_build, 2048);
+	measure_replaces();
+	for (i = 0; i < GORMULAST_MAX_NODES; i++)
+		temperatures[i] = table[2];
+	measure("step", call_step, 3072);
+	return failed;
+}

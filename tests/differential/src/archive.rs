@@ -1,0 +1,132 @@
+//! Calls of the archive. The only unsafe code here.
+
+use crate::case::{Call, Lent};
+use crate::face::*;
+
+/// A slice with marks before and after it, to see a number written outside of what was lent.
+struct Fenced<A> {
+    numbers: Vec<A>,
+    mark: A,
+}
+
+const FENCE: usize = 8;
+
+impl<A: Copy + PartialEq> Fenced<A> {
+    fn new(slice: &[A], mark: A) -> Fenced<A> {
+        let mut numbers = vec![mark; FENCE];
+        numbers.extend_from_slice(slice);
+        numbers.extend([mark; FENCE]);
+        Fenced { numbers, mark }
+    }
+
+    fn length(&self) -> usize {
+        self.numbers.len() - 2 * FENCE
+    }
+
+    fn pointer(&mut self) -> *mut A {
+        self.numbers[FENCE..].as_mut_ptr()
+    }
+
+    /// Writes what is there now into the slice that it was made of.
+    fn open(&self, what: &str, slice: &mut [A]) {
+        let (before, rest) = self.numbers.split_at(FENCE);
+        let (now, after) = rest.split_at(slice.len());
+        if before
+            .iter()
+            .chain(after)
+            .any(|&number| number != self.mark)
+        {
+            println!("the archive wrote outside of the lent {what}");
+            std::process::exit(1);
+        }
+        slice.copy_from_slice(now);
+    }
+}
+
+pub fn call(call: Call, lent: &mut Lent) -> u64 {
+    let mut bytes = Fenced::new(&lent.bytes, 0xA5);
+    let mut table = Fenced::new(&lent.table, 0xA5A5_A5A5);
+    let mut temperatures = Fenced::new(&lent.temperatures, MARK);
+    let [mut p, mut a, mut factor, mut work] = lent
+        .matrices
+        .each_ref()
+        .map(|matrix| Fenced::new(matrix, MARK));
+    let [start, end] = &mut lent.part;
+
+    // Safety: each pointer is good for the length beside it, and no two of them overlap.
+    let answer = unsafe {
+        match call {
+            Call::Read => gormulast_read(
+                bytes.pointer(),
+                bytes.length(),
+                table.pointer(),
+                table.length(),
+                start,
+                end,
+            ),
+            Call::Write => gormulast_write(
+                table.pointer(),
+                table.length(),
+                bytes.pointer(),
+                bytes.length(),
+            ),
+            Call::Build => gormulast_build(
+                table.pointer(),
+                table.length(),
+                p.pointer(),
+                p.length(),
+                a.pointer(),
+                a.length(),
+                factor.pointer(),
+                factor.length(),
+                work.pointer(),
+                work.length(),
+            ),
+            Call::Replace {
+                card,
+                new: [letter, f1, f2, f3, f4, f5],
+            } => gormulast_replace(
+                table.pointer(),
+                table.length(),
+                p.pointer(),
+                p.length(),
+                a.pointer(),
+                a.length(),
+                factor.pointer(),
+                factor.length(),
+                work.pointer(),
+                work.length(),
+                card,
+                letter,
+                f1,
+                f2,
+                f3,
+                f4,
+                f5,
+            ),
+            Call::Step => gormulast_step(
+                table.pointer(),
+                table.length(),
+                p.pointer(),
+                p.length(),
+                a.pointer(),
+                a.length(),
+                factor.pointer(),
+                factor.length(),
+                temperatures.pointer(),
+                temperatures.length(),
+            ),
+        }
+    };
+
+    bytes.open("bytes", &mut lent.bytes);
+    table.open("table", &mut lent.table);
+    temperatures.open("temperatures", &mut lent.temperatures);
+    let fenced = [p, a, factor, work].into_iter();
+    for ((matrix, slice), name) in fenced.zip(&mut lent.matrices).zip(crate::case::MATRICES) {
+        matrix.open(name, slice);
+    }
+    answer
+}
+
+const MARK: i64 = i64::MIN + 77;

@@ -1,0 +1,49 @@
+//! The archive against reference/: the same cases to both, and every number compared.
+//!
+//!     differential [SEED]
+//!
+//! With the same seed the cases are the same. A case that disagrees is made small and shown.
+
+#[path = "../../../reference/tests/common/mod.rs"]
+mod decks;
+
+mod archive;
+mod case;
+mod face;
+mod plan;
+mod show;
+mod shrink;
+mod trial;
+
+use std::process::ExitCode;
+use std::time::Duration;
+
+const SEED: u64 = 1;
+const MOST: Duration = Duration::from_secs(150);
+
+fn main() -> ExitCode {
+    let seed = match std::env::args().nth(1).map(|word| word.parse()) {
+        None => SEED,
+        Some(Ok(seed)) => seed,
+        Some(Err(_)) => {
+            eprintln!("differential: a seed is a number");
+            return ExitCode::from(2);
+        }
+    };
+    println!("seed {seed}");
+    let mut trial = trial::Trial::new(seed, MOST);
+    for (name, part) in plan::PARTS {
+        let (cases, seconds) = (trial.cases(), trial.seconds());
+        part(&mut trial);
+        println!(
+            "{:>8} cases {:>5.1} s  {name}",
+            trial.cases() - cases,
+            trial.seconds() - seconds
+        );
+    }
+    if !trial.report() {
+        return ExitCode::FAILURE;
+    }
+    println!("{} cases, and every number agrees", trial.cases());
+    ExitCode::SUCCESS
+}

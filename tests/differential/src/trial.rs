@@ -1,0 +1,84 @@
+//! Runs cases on both programs, counts them, and stops at the first that disagrees.
+
+use crate::case::{Call, Case, Lent};
+use crate::decks::Chance;
+use crate::show;
+use crate::shrink::shrink;
+use std::process::exit;
+use std::time::{Duration, Instant};
+
+/// About a minute in all.
+const EFFORT: u32 = 8;
+
+pub struct Trial {
+    pub chance: Chance,
+    /// Cases by call and by number: 0 is acceptance.
+    met: [[u64; 14]; 5],
+    began: Instant,
+    most: Duration,
+}
+
+impl Trial {
+    pub fn new(seed: u64, most: Duration) -> Trial {
+        Trial {
+            chance: Chance::seeded(seed),
+            met: [[0; 14]; 5],
+            began: Instant::now(),
+            most,
+        }
+    }
+
+    /// EFFORT times `count`, or until the time is over.
+    pub fn times(&self, count: u32) -> impl Iterator<Item = u32> {
+        let (began, most) = (self.began, self.most);
+        (0..EFFORT * count).take_while(move |_| began.elapsed() < most)
+    }
+
+    /// Runs one case on both. They agree, or the program ends here.
+    pub fn call(&mut self, lent: &mut Lent, call: Call) -> u64 {
+        lent.part = [u64::MAX, 5];
+        let case = Case {
+            call,
+            lent: std::mem::take(lent),
+        };
+        let (right, ours) = (case.by_reference(), case.by_archive());
+        if right != ours {
+            println!(
+                "a {} disagrees; the case made small:",
+                Call::NAMES[call.index()]
+            );
+            show::disagreement(&shrink(case));
+            exit(1);
+        }
+        self.met[call.index()][(ours.answer & 255) as usize] += 1;
+        *lent = ours.lent;
+        ours.answer
+    }
+
+    pub fn seconds(&self) -> f64 {
+        self.began.elapsed().as_secs_f64()
+    }
+
+    pub fn cases(&self) -> u64 {
+        self.met.iter().flatten().sum()
+    }
+
+    /// Prints what was met. Was every refusal?
+    pub fn report(&self) -> bool {
+        print!("{:8} {:>8} {:>8}", "call", "cases", "done");
+        (1..14).for_each(|number| print!(" {number:>6}"));
+        println!();
+        for (name, met) in Call::NAMES.iter().zip(&self.met) {
+            print!("{name:8} {:>8} {:>8}", met.iter().sum::<u64>(), met[0]);
+            met[1..].iter().for_each(|count| print!(" {count:>6}"));
+            println!();
+        }
+        let unmet: Vec<usize> = (1..14)
+            .filter(|&number| self.met.iter().all(|met| met[number] == 0))
+            .collect();
+        if !unmet.is_empty() {
+            println!("refusals not met: {unmet:?}");
+        }
+        unmet.is_empty()
+    }
+}
