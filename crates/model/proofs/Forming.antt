@@ -8,12 +8,11 @@ use lib.Dec.{eqb}
 use lib.ListN.{getD}
 use Rattle.whole.proofs.Tests.{or-told}
 use Rattle.paper.specs.Cards.{letter, rows, materials, elements, elementRow, stepOf, put}
-use Rattle.paper.specs.Triangle.{shapeAt, triangleAt, elementJudged}
+use Rattle.paper.specs.Triangle.{shapeAt, triangleAt, formJudged, elementJudged}
 use Rattle.paper.specs.Replacing.{elementOf}
 use Rattle.paper.specs.declared.Kind.the-variants.{E, F}
 use Rattle.paper.proofs.Decks.{Is, In}
 use Rattle.paper.proofs.Changed.{here, nodes-same, materials-same, letter-same, step-same, row-same, judged-same, rows-same}
-use Rattle.triangle.specs.Forms.{judgedAs}
 use Rattle.triangle.specs.Asks.{Sized}
 use Rattle.element.specs.Forms.{with}
 use Rattle.element.specs.Asks.{ElementCard}
@@ -60,12 +59,12 @@ module _ (t : List ℕ) (row : ℕ) (card : List ℕ) (s : Stirring t row card) 
     unfolding elementOf
     number-E = rw (letter-same t row card (s .deck) (s .change) row, e, nodes-same t row card (s .deck) (s .change), materials-same t row card (s .deck) (s .change)) (omega arith)
 
-    pub judged-E : judgedAs (stepOf t) (with t (shapeAt t row) (getD card 4 0) (getD card 5 0)) (row - elementRow t 0) ≡ elementJudged (put t row card) (elementOf (put t row card) row)
-    unfolding elementJudged judgedAs
+    pub judged-E : formJudged (stepOf t) (with t (shapeAt t row) (getD card 4 0) (getD card 5 0)) (row - elementRow t 0) ≡ elementJudged (put t row card) (elementOf (put t row card) row)
+    unfolding elementJudged
     judged-E =
         let at : elementRow (put t row card) (elementOf (put t row card) row) ≡ row =
         row-same t row card (s .deck) (s .change) (elementOf (put t row card) row) ∙ rw number-E (omega (arith, s .deck .inE row (s .change .inside) e)) in
-        λ i. judgedAs (sym (step-same t row card (s .deck) (s .change)) i) ((sym (new-form t row card (s .deck) (s .change) (s .deck′) e) ∙ ap (triangleAt (put t row card)) (sym at)) i) (sym number-E i)
+        λ i. formJudged (sym (step-same t row card (s .deck) (s .change)) i) ((sym (new-form t row card (s .deck) (s .change) (s .deck′) e) ∙ ap (triangleAt (put t row card)) (sym at)) i) (sym number-E i)
 
   module _ (e : Is F t row) where
     number-F : elementOf (put t row card) row ≡ getD card 1 0

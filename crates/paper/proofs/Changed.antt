@@ -13,7 +13,7 @@ use Rattle.whole.specs.Sums.{sum, any}
 use Rattle.whole.proofs.Tests.{cond-same}
 use Rattle.whole.proofs.Sums.{sum-change, any-ext}
 use Rattle.paper.specs.Cards.{letterOf, field, letter, isCard, rows, nodes, materials, elements, elementRow, stepOf, put}
-use Rattle.paper.specs.Triangle.{shapeAt, triangleAt, elementJudged}
+use Rattle.paper.specs.Triangle.{shapeAt, triangleAt, formJudged, elementJudged}
 use Rattle.paper.specs.Matrices.{named, addsK, addsP, addsF, addsA, P, A, fixed}
 use Rattle.paper.specs.declared.Kind.the-variants.{E, F}
 use Rattle.paper.proofs.Decks.{Is, heat, film, hold, Deck, Replaceable, element, load, Change}
@@ -171,5 +171,5 @@ module _ (t : List ℕ) (c : ℕ) (card : List ℕ) (d : Deck t) (g : Change t c
 
   -- ---- refusals 5 and 6 of every other element
   pub judged-same : (e : ℕ) → 1 ≤ e → e ≤ elements t → (elementRow t e ≡ c → ⊥) → elementJudged (put t c card) e ≡ elementJudged t e
-  unfolding elementJudged
+  unfolding elementJudged formJudged
   judged-same e a b n = rw (row-same e, step-same, triangle-same (elementRow t e) (omega (arith, d .all)) (d .isE e a b) n)

@@ -11,7 +11,7 @@ use Rattle.paper.specs.Refusals.{numberOf, placeOf}
 use Rattle.paper.specs.Cards.{kindOf, order, cards, fields, used, zeros, inRange, field, nodes, materials, elements, put}
 use Rattle.paper.specs.Text.{digits, alone, number, blank, columns, printed, fieldOf, fieldsFrom, cardOf, textField, textFrom, textOf}
 use Rattle.paper.specs.Judge.{load, stands, rises, clean, formed, ranged, judgeCard, judgeFrom, trailer, judgeRows, judged, answers, newJudged}
-use Rattle.paper.specs.Triangle.{shapeAt, triangleAt, b, c, S, square, mass, pair, conductance, u, v, heatLoad, filmLoad, fair, elementJudged}
+use Rattle.paper.specs.Triangle.{shapeAt, triangleAt, b, c, S, square, mass, pair, conductance, u, v, heatLoad, filmLoad, fair, formJudged, elementJudged}
 use Rattle.paper.specs.Matrices.{spread, share, addsK, addsP, addsF, P, A, addsLoad, loadOf, fixed, held, cleared}
 use Rattle.paper.specs.Factor.{w, l, rowFrom, rowsFrom}
 use Rattle.paper.specs.Building.{elementsFrom, build}
@@ -109,5 +109,5 @@ cases =
     ∷ []
 
 pub all-checked : map (λ (k : Case). k .got) cases ≡ map (λ (k : Case). k .want) cases
-unfolding nearestN nearest sum sumN any firstFrom table tri place lower numberOf placeOf kindOf order cards fields used zeros inRange field nodes materials elements put digits alone number blank columns printed fieldOf fieldsFrom cardOf textField textFrom textOf load stands rises clean formed ranged judgeCard judgeFrom trailer judgeRows judged answers newJudged shapeAt triangleAt b c S square mass pair conductance u v heatLoad filmLoad fair elementJudged spread share addsK addsP addsF P A addsLoad loadOf fixed held cleared w l rowFrom rowsFrom elementsFrom build elementOf leastRow moved redone replaced rowSize heavy badRow noFactor foreign boardOf rightSide residual residuals rowBound yAt forwardFrom xAt backFrom warmed addFrom correct unsettled attempts stepped offScale packed packedStep joined writes written readsFrom reads readPart readTable cut enough leaves buildOutcome replaceOutcome buildCall replaceCall stepOutcome stepCall runFrom runCall
+unfolding nearestN nearest sum sumN any firstFrom table tri place lower numberOf placeOf kindOf order cards fields used zeros inRange field nodes materials elements put digits alone number blank columns printed fieldOf fieldsFrom cardOf textField textFrom textOf load stands rises clean formed ranged judgeCard judgeFrom trailer judgeRows judged answers newJudged shapeAt triangleAt b c S square mass pair conductance u v heatLoad filmLoad fair elementJudged formJudged spread share addsK addsP addsF P A addsLoad loadOf fixed held cleared w l rowFrom rowsFrom elementsFrom build elementOf leastRow moved redone replaced rowSize heavy badRow noFactor foreign boardOf rightSide residual residuals rowBound yAt forwardFrom xAt backFrom warmed addFrom correct unsettled attempts stepped offScale packed packedStep joined writes written readsFrom reads readPart readTable cut enough leaves buildOutcome replaceOutcome buildCall replaceCall stepOutcome stepCall runFrom runCall
 all-checked = refl

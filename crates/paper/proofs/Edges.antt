@@ -9,7 +9,7 @@ use Rattle.whole.specs.Sums.{sum, sumN, any, table}
 use Rattle.whole.specs.Packed.{tri, place, lower}
 use Rattle.paper.specs.Refusals.{Outcome, refused, done, numberOf}
 use Rattle.paper.specs.Cards.{field, nodes, materials, elements}
-use Rattle.paper.specs.Triangle.{shapeAt, triangleAt, b, c, S, square, mass, pair, conductance, u, fair, elementJudged}
+use Rattle.paper.specs.Triangle.{shapeAt, triangleAt, b, c, S, square, mass, pair, conductance, u, fair, formJudged, elementJudged}
 use Rattle.paper.specs.Factor.{w, l, rowFrom, rowsFrom}
 use Rattle.paper.specs.Lent.{rowSize, heavy, badRow, noFactor}
 use Rattle.paper.specs.declared.Answer.{Answer}
@@ -59,5 +59,5 @@ edges =
     ∷ []
 
 pub at-the-edges : map (λ (e : Edge). e .passes ∷ e .fails ∷ []) edges ≡ map (λ (e : Edge). 0 ∷ e .number ∷ []) edges
-unfolding nearestN nearest sum sumN any table tri place lower numberOf field nodes materials elements shapeAt triangleAt b c S square mass pair conductance u fair elementJudged w l rowFrom rowsFrom rowSize heavy badRow noFactor
+unfolding nearestN nearest sum sumN any table tri place lower numberOf field nodes materials elements shapeAt triangleAt b c S square mass pair conductance u fair elementJudged formJudged w l rowFrom rowsFrom rowSize heavy badRow noFactor
 at-the-edges = refl

@@ -12,10 +12,10 @@ use lib.ListN.{getD}
 use Rattle.whole.specs.Nearest.{nearestN}
 use Rattle.whole.specs.Sums.{sum, sumN}
 use Rattle.whole.proofs.Signs.{natAbs-plus, natAbs-minus, natAbs-times, natAbs-neg}
-use Rattle.whole.proofs.Linear.{zarith, minusL, split}
+use Rattle.whole.proofs.Linear.{apart-size}
 use Rattle.whole.proofs.Tests.{and-told}
 use Rattle.paper.specs.Cards.{field, rows, nodes, materials, elements, elementRow, stepOf}
-use Rattle.paper.specs.Triangle.{Shape, Triangle, shapeAt, triangleAt, xAt, yAt, S, square, mass, pair, conductance, u, v, fair, soft, elementJudged}
+use Rattle.paper.specs.Triangle.{Shape, Triangle, shapeAt, triangleAt, xAt, yAt, S, square, mass, pair, conductance, u, v, fair, soft, formJudged, elementJudged}
 use Rattle.paper.specs.Building.{elementsFrom}
 use Rattle.paper.specs.declared.Answer.the-variants.{Done}
 use Rattle.paper.specs.declared.Refusal.the-variants.{Flat, Stiff}
@@ -103,7 +103,8 @@ fair-told ms e h =
     let (a, b) = and-told (soft (u ms e)) (soft (natAbs (pair e 0 1))) h₁ in
     record { fu = leb-true _ _ a; f01 = leb-true _ _ b; f02 = leb-true _ _ c; f12 = leb-true _ _ d }
 
-three : (x y z : ℤ) → natAbs (negℤ (pos 0 +ℤ x +ℤ y +ℤ z)) ≤ natAbs x + natAbs y + natAbs z
+-- minus a sum of three
+pub three : (x y z : ℤ) → natAbs (negℤ (pos 0 +ℤ x +ℤ y +ℤ z)) ≤ natAbs x + natAbs y + natAbs z
 three x y z = rw (natAbs-neg (pos 0 +ℤ x +ℤ y +ℤ z)) (omega (arith, natAbs-plus (pos 0 +ℤ x +ℤ y) z, natAbs-plus (pos 0 +ℤ x) y, natAbs-plus (pos 0) x))
 
 -- two pairs, and a diagonal of at most their sum
@@ -116,9 +117,6 @@ conductance-row ms e f (suc (suc zero)) l =
 conductance-row ms e f (suc (suc (suc a))) l = absurd (omega arith)
 
 -- ---- the film
-far : (m n : ℕ) → m ≤ 4095 → n ≤ 4095 → natAbs (pos m -ℤ pos n) ≤ 4095
-far m n h k = omega (zarith, minusL (pos m) (pos n), split (pos m -ℤ pos n))
-
 product : (a b c d : ℤ) → natAbs a ≤ 4095 → natAbs b ≤ 4095 → natAbs c ≤ 4095 → natAbs d ≤ 4095 → natAbs (a *ℤ b -ℤ c *ℤ d) ≤ 33538050
 product a b c d ha hb hc hd =
     omega (arith, natAbs-minus (a *ℤ b) (c *ℤ d), natAbs-times a b, natAbs-times c d, mul-le-mul ha hb, mul-le-mul hc hd)
@@ -129,7 +127,7 @@ S-size s h =
     let (x₀, y₀) = h 0 (omega arith) in
     let (x₁, y₁) = h 1 (omega arith) in
     let (x₂, y₂) = h 2 (omega arith) in
-    product (xAt s 1 -ℤ xAt s 0) (yAt s 2 -ℤ yAt s 0) (xAt s 2 -ℤ xAt s 0) (yAt s 1 -ℤ yAt s 0) (far _ _ x₁ x₀) (far _ _ y₂ y₀) (far _ _ x₂ x₀) (far _ _ y₁ y₀)
+    product (xAt s 1 -ℤ xAt s 0) (yAt s 2 -ℤ yAt s 0) (xAt s 2 -ℤ xAt s 0) (yAt s 1 -ℤ yAt s 0) (apart-size _ _ 4095 x₁ x₀) (apart-size _ _ 4095 y₂ y₀) (apart-size _ _ 4095 x₂ x₀) (apart-size _ _ 4095 y₁ y₀)
 
 pub v-size : (film : ℕ) (s : Shape) → film ≤ 100000 → S s ≤ 33538050 → v film s ≤ 349500
 unfolding v nearestN
@@ -166,7 +164,7 @@ pub record Sound (t : List ℕ) (row : ℕ) : Type 0 where
   pub fair : Fair (stepOf t) (triangleAt t row)
 
 pub sound-one : (t : List ℕ) (e row : ℕ) → elementRow t e ≡ row → elementJudged t e ≡ Done → Sound t row
-unfolding elementJudged triangleAt
+unfolding elementJudged formJudged triangleAt
 sound-one t e row q p =
     let (a, p′) = cond-done _ _ (Flat e) p in
     let (b, _) = cond-done _ Done (Stiff e) p′ in

@@ -87,6 +87,3 @@ unfolding Judge.load order
 load-order l (heat e) = rw (kind-of l H e)
 load-order l (film e) = rw (kind-of l F e)
 load-order l (hold e) = rw (kind-of l T e)
-
-pub load-not : (l : ℕ) (k : Kind) → l ≡ letterOf k → Judge.load (order k) ≡ false → Load l → ⊥
-load-not l k e f h = let g : true ≡ false = sym (load-order l h) ∙ ap (λ (q : Kind). Judge.load (order q)) (kind-of l k e) ∙ f in (let z : _≡_ {A = ℕ} 0 1 = cc in omega arith)

@@ -1,6 +1,7 @@
 -- Theorems about document 01's definitions.
 pub mod Checked
 pub mod Edges
+pub mod Orders
 pub mod Outcomes
 pub mod Decks
 pub mod Letters

@@ -11,7 +11,7 @@ use Rattle.whole.specs.Packed.{tri}
 use Rattle.paper.specs.Refusals.{numberOf, Outcome, refused, done, when, then, andThen}
 use Rattle.paper.specs.Cards.{inRange, fields, kindAt, orderOf, countsOf, rowAt, rows, elementRow, stepOf}
 use Rattle.paper.specs.Judge.{clean, formed, ranged, judgeCard, judgeFrom, trailer, judgeRows, judged, answers, newJudged}
-use Rattle.paper.specs.Triangle.{S, fair, triangleAt, elementJudged}
+use Rattle.paper.specs.Triangle.{S, fair, triangleAt, formJudged, elementJudged}
 use Rattle.paper.specs.Factor.{w, l, small, rowFrom, rowsFrom}
 use Rattle.paper.specs.Building.{elementsFrom}
 use Rattle.paper.specs.Calls.{inFactor}
@@ -62,7 +62,7 @@ new-plain t card new =
     refl
 
 pub element-plain : (t : List ℕ) (e : ℕ) → Plain (elementJudged t e)
-unfolding elementJudged numberOf
+unfolding elementJudged formJudged numberOf
 element-plain t e =
     let it = triangleAt t (elementRow t e) in
     either (leb 1 (S (it .shape))) _ _ (either (fair (stepOf t) it) _ _ tt refl) refl

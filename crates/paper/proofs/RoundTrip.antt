@@ -161,16 +161,6 @@ notes-read t notes lent h fit enough =
 
 -- ---- the writer
 
-length-written : (t bytes : List ℕ) → writes t (length bytes) ≡ Done → rows t * 42 ≤ length bytes
-unfolding writes
-length-written t bytes h =
-    let (j, r) = both-done (judged t) _ h in
-    ltb-false (length bytes) (rows t * 42) (go (ltb (length bytes) (rows t * 42)) r)
-  where
-    go : (c : Bool) → cond c (Refused Short) Done ≡ Done → c ≡ false
-    go true e = done-refused e
-    go false e = refl
-
 judged-written : (t : List ℕ) (room : ℕ) → writes t room ≡ Done → judged t ≡ Done
 unfolding writes
 judged-written t room h = both-done (judged t) _ h .0

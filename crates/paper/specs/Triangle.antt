@@ -98,7 +98,8 @@ soft n = leb n 4000000
 unfoldable pub fair : ℕ → Triangle → Bool
 fair ms e = soft (u ms e) && soft (natAbs (pair e 0 1)) && soft (natAbs (pair e 0 2)) && soft (natAbs (pair e 1 2))
 
+unfoldable pub formJudged : ℕ → Triangle → ℕ → Answer
+formJudged ms it e = cond (leb 1 (S (it .shape))) (cond (fair ms it) Done (Refused (Stiff e))) (Refused (Flat e))
+
 unfoldable pub elementJudged : List ℕ → ℕ → Answer
-elementJudged t e =
-    let it = triangleAt t (elementRow t e) in
-    cond (leb 1 (S (it .shape))) (cond (fair (stepOf t) it) Done (Refused (Stiff e))) (Refused (Flat e))
+elementJudged t e = formJudged (stepOf t) (triangleAt t (elementRow t e)) e

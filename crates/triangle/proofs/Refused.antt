@@ -9,10 +9,9 @@ use lib.IntN.{ℤ, natAbs}
 use lib.Signed.{mag}
 use Rattle.whole.proofs.Signs.{got}
 use Rattle.whole.proofs.Calc.{rd}
-use Rattle.paper.specs.Triangle.{Triangle, S, pair, u, fair}
+use Rattle.paper.specs.Triangle.{Triangle, S, pair, u, fair, formJudged}
 use Rattle.paper.specs.declared.Answer.the-variants.{Done, Refused}
 use Rattle.paper.specs.declared.Refusal.the-variants.{Flat, Stiff}
-use Rattle.triangle.specs.Forms.{judgedAs}
 
 -- the size of what a call gave
 pub size-of-call : {z v : ℤ} {n : ℕ} → n ≡ natAbs (rd z) → mag z < 2 ^ 63 → z ≡ v → n ≡ natAbs v
@@ -35,14 +34,14 @@ module _ (ms : ℕ) (e : Triangle) where
   unfolding fair
   last-12 h k l = rw (le-leb (u ms e) 4000000 h, le-leb (natAbs (pair e 0 1)) 4000000 k, le-leb (natAbs (pair e 0 2)) 4000000 l)
 
-  pub is-flat : (n : ℕ) → S (e .shape) ≡ 0 → Refused (Flat n) ≡ judgedAs ms e n
-  unfolding judgedAs
+  pub is-flat : (n : ℕ) → S (e .shape) ≡ 0 → Refused (Flat n) ≡ formJudged ms e n
+  unfolding formJudged
   is-flat n h = rw (lt-leb 1 (S (e .shape)) (omega arith))
 
-  pub is-fair : (n : ℕ) → 1 ≤ S (e .shape) → fair ms e ≡ true → Done ≡ judgedAs ms e n
-  unfolding judgedAs
+  pub is-fair : (n : ℕ) → 1 ≤ S (e .shape) → fair ms e ≡ true → Done ≡ formJudged ms e n
+  unfolding formJudged
   is-fair n h q = rw (le-leb 1 (S (e .shape)) h, q)
 
-  pub is-stiff : (n : ℕ) → 1 ≤ S (e .shape) → fair ms e ≡ false → Refused (Stiff n) ≡ judgedAs ms e n
-  unfolding judgedAs
+  pub is-stiff : (n : ℕ) → 1 ≤ S (e .shape) → fair ms e ≡ false → Refused (Stiff n) ≡ formJudged ms e n
+  unfolding formJudged
   is-stiff n h q = rw (le-leb 1 (S (e .shape)) h, q)

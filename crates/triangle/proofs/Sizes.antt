@@ -12,7 +12,7 @@ use Rattle.whole.proofs.Signs.{natAbs-plus, natAbs-times, natAbs-neg}
 use Rattle.whole.proofs.Linear.{apart-size}
 use Rattle.whole.proofs.Rounding.{nearest-size, nearestN-by}
 use Rattle.paper.specs.Triangle.{Shape, Triangle, b, c, S, square, mass, pair, conductance, u, v}
-use Rattle.paper.proofs.Elements.{S-size, v-size}
+use Rattle.paper.proofs.Elements.{three, S-size, v-size}
 use Rattle.triangle.specs.Asks.{OnGrid, Placed, Sized, Step}
 
 pub grid-apart : (z : List ℕ) (i j : ℕ) → OnGrid z → i < 3 → j < 3 → natAbs (pos (getD z i 0) -ℤ pos (getD z j 0)) ≤ 4095
@@ -77,9 +77,6 @@ mass-size w i j = go (eqb i j)
     go : (t : Bool) → natAbs (cond t (pos (2 * w)) (pos w)) ≤ 2 * w
     go true = omega arith
     go false = omega arith
-
-three : (x y z : ℤ) → natAbs (negℤ (pos 0 +ℤ x +ℤ y +ℤ z)) ≤ natAbs x + natAbs y + natAbs z
-three x y z = rw (natAbs-neg (pos 0 +ℤ x +ℤ y +ℤ z)) (omega (arith, natAbs-plus (pos 0 +ℤ x +ℤ y) z, natAbs-plus (pos 0 +ℤ x) y, natAbs-plus (pos 0) x))
 
 pub conductance-size : (e : Triangle) (i j : ℕ) → Sized e → 1 ≤ S (e .shape) → i < 3 → j < 3 → natAbs (conductance e i j) ≤ 2 ^ 47
 unfolding conductance square sum

@@ -26,7 +26,3 @@ at q i j = getD (getD q i []) j (pos 0)
 
 unfoldable pub squareOf : (ℕ → ℕ → ℤ) → List (List ℤ)
 squareOf f = table 3 (f 0) ∷ table 3 (f 1) ∷ table 3 (f 2) ∷ []
-
--- refusals 5 and 6 of a triangle that is element e
-unfoldable pub judgedAs : ℕ → paper.Triangle → ℕ → Answer
-judgedAs ms it e = cond (leb 1 (paper.S (it .shape))) (cond (paper.fair ms it) Done (Refused (Stiff e))) (Refused (Flat e))

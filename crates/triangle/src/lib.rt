@@ -12,8 +12,8 @@ ghost use Rattle.whole.specs.Nearest.{nearestN};
 ghost use Rattle.whole.specs.Sums.{table};
 ghost use Rattle.whole.specs.Packed.{cell};
 ghost use Rattle.paper.specs.Ticks.{top};
-ghost use Rattle.paper.specs.Triangle.{b, c, S, mass, pair, conductance, u, v, heatLoad, filmLoad, fair};
-ghost use Rattle.triangle.specs.Forms.{shapeOf, triangleOf, at, squareOf, judgedAs};
+ghost use Rattle.paper.specs.Triangle.{b, c, S, mass, pair, conductance, u, v, heatLoad, filmLoad, fair, formJudged};
+ghost use Rattle.triangle.specs.Forms.{shapeOf, triangleOf, at, squareOf};
 ghost use Rattle.triangle.specs.Asks.{OnGrid, Placed, Sized, Solid, Step, Small};
 
 // An element's place: its corners and their coordinates.
@@ -248,7 +248,7 @@ fn fair(e: Triangle, s: u64, ms: u32) -> bool
 
 pub fn judge(e: Triangle, ms: u32, number: Element) -> Answer
     requires { ⌜ Sized (triangleOf e) × Step ms ⌝ }
-    ensures { λ r. ⌜ r ≡ judgedAs ms (triangleOf e) (number .0) ⌝ }
+    ensures { λ r. ⌜ r ≡ formJudged ms (triangleOf e) (number .0) ⌝ }
 {
     let s = twice_area(e.shape);
     if s == 0 {

@@ -4,7 +4,6 @@ pub mod Linear
 pub mod Calc
 pub mod Ring
 pub mod Rounding
-pub mod Fill
 pub mod Tests
 pub mod Sums
 pub mod Packed

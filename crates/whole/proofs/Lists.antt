@@ -5,7 +5,7 @@ use Prim.Native.Nat.{ℕ, suc, _+_, _-_, _≤_, _<_}
 use native.Mathlib.Numerals.{add-one}
 use native.Mathlib.Omega.{arith}
 use borrow.Rule.Slice.PartMut.{putMid, postOf, same-len-mid, drop-put, mid-len}
-use lib.ListN.{length, getD, take, drop, set, length-append, drop-of-length-le}
+use lib.ListN.{length, getD, take, drop, set, length-append, length-drop, drop-of-length-le}
 use lib.Seq.{take-at, drop-at, length-take-le, set-split, take-suc-set, drop-cons, take-all, drop-drop}
 
 -- what stands from a place on after a write there
@@ -53,3 +53,7 @@ copy-end card out k h l e i =
     let d : length card ≤ 6 = omega arith in
     sym (append-nil out) ∙ ap (λ (s : List ℕ). s ++ []) (sym (take-all 6 out a)) ∙ ap (λ (s : List ℕ). take 6 out ++ s) (sym (drop-of-length-le card {i = 6} d))
     ∙ ap (λ (j : ℕ). take j out ++ drop j card) (sym e) ∙ i
+
+-- what `&l[at..]` is
+pub tail-is : {X : Type 0} (at : ℕ) (l : List X) → take (length l - at) (drop at l) ≡ drop at l
+tail-is at l = take-all (length l - at) (drop at l) (omega (arith, length-drop at l))

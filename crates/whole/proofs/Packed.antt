@@ -15,6 +15,7 @@ use lib.Seq.{take-append-le, getD-append-add, take-all, getD-set-same, getD-set-
 use borrow.Author.Tests.{le-leb, lt-leb, leb-true, leb-false, eq-eqb, ne-eqb}
 use Rattle.whole.specs.Sums.{table}
 use Rattle.whole.specs.Packed.{tri, cell, place, entry, lower}
+use Rattle.whole.proofs.Tests.{or-right}
 use Rattle.whole.proofs.Sums.{table-length, table-at, table-ext, append-size, table-size}
 
 -- ---- where rows start
@@ -195,13 +196,9 @@ meets a b i j = eqb a i && eqb b j || eqb b i && eqb a j
 pub entry-add : (n : ℕ) (xs : List ℤ) (a b i j : ℕ) (v : ℤ) → length xs ≡ tri n → a < n → b < n → entry (add xs a b v) i j ≡ entry xs i j +ℤ cond (meets a b i j) v (pos 0)
 entry-add n xs a b i j v e ha hb = go (ℕ-discrete (place i j) (place a b))
   where
-    swapped : (x y : Bool) → y ≡ true → x || y ≡ true
-    swapped true y q = refl
-    swapped false y q = q
-
     hit : ((a ≡ i) × (b ≡ j)) ⊎ ((a ≡ j) × (b ≡ i)) → meets a b i j ≡ true
     hit (inl (p, q)) = rw (eq-eqb a i p, eq-eqb b j q)
-    hit (inr (p, q)) = swapped (eqb a i && eqb b j) (eqb b i && eqb a j) (rw (eq-eqb b i q, eq-eqb a j p))
+    hit (inr (p, q)) = or-right (eqb a i && eqb b j) (eqb b i && eqb a j) (rw (eq-eqb b i q, eq-eqb a j p))
 
     miss : (place i j ≡ place a b → ⊥) → meets a b i j ≡ false
     miss n = rw (pair a b (λ p q. n (λ k. place (sym p k) (sym q k))), pair b a (λ p q. n (place-swap i j ∙ (λ k. place (sym q k) (sym p k)))))

@@ -107,7 +107,8 @@ mk-is (hor a b) q ρ = refl
 middle : (a b c : ℤ) → a +ℤ (b +ℤ c) ≡ b +ℤ (a +ℤ c)
 middle a b c = omega (zarith, plusL b c, plusL a (b +ℤ c), plusL a c, plusL b (a +ℤ c))
 
-swap4 : (a b c d : ℤ) → a +ℤ b +ℤ (c +ℤ d) ≡ a +ℤ c +ℤ (b +ℤ d)
+-- four, two by two
+pub swap4 : (a b c d : ℤ) → a +ℤ b +ℤ (c +ℤ d) ≡ a +ℤ c +ℤ (b +ℤ d)
 swap4 a b c d = omega (zarith, plusL a b, plusL c d, plusL (a +ℤ b) (c +ℤ d), plusL a c, plusL b d, plusL (a +ℤ c) (b +ℤ d))
 
 addC-is : (a : ℤ) (p : P) (ρ : List ℤ) → val (addC a p) ρ ≡ a +ℤ val p ρ
@@ -179,29 +180,3 @@ norm-is (neg a) ρ = negP-is (norm a) ρ ∙ ap negℤ (norm-is a ρ)
 
 pub ring : (a b : E) (ρ : List ℤ) → norm a ≡ norm b → den a ρ ≡ den b ρ
 ring a b ρ e = sym (norm-is a ρ) ∙ ap (λ (p : P). val p ρ) e ∙ norm-is b ρ
-
--- ---- worked examples
-
-square : (a b : ℤ) → (a +ℤ b) *ℤ (a -ℤ b) ≡ a *ℤ a -ℤ b *ℤ b
-square a b =
-    let x = var 0 in
-    let y = var 1 in
-    ring (mul (add x y) (sub x y)) (sub (mul x x) (mul y y)) (a ∷ b ∷ []) refl
-
-two-squares : (a b c d : ℤ) → (a *ℤ a +ℤ b *ℤ b) *ℤ (c *ℤ c +ℤ d *ℤ d) ≡ (a *ℤ c -ℤ b *ℤ d) *ℤ (a *ℤ c -ℤ b *ℤ d) +ℤ (a *ℤ d +ℤ b *ℤ c) *ℤ (a *ℤ d +ℤ b *ℤ c)
-two-squares a b c d =
-    let x = var 0 in
-    let y = var 1 in
-    let z = var 2 in
-    let w = var 3 in
-    let s = sub (mul x z) (mul y w) in
-    let t = add (mul x w) (mul y z) in
-    ring (mul (add (mul x x) (mul y y)) (add (mul z z) (mul w w))) (add (mul s s) (mul t t)) (a ∷ b ∷ c ∷ d ∷ []) refl
-
-det3 : E → E → E → E → E → E → E → E → E → E
-det3 a b c d e f g h i = add (sub (mul a (sub (mul e i) (mul f h))) (mul b (sub (mul d i) (mul f g)))) (mul c (sub (mul d h) (mul e g)))
-
--- a determinant is that of the transposed matrix: nine variables
-transposed : (ρ : List ℤ) → den (det3 (var 0) (var 1) (var 2) (var 3) (var 4) (var 5) (var 6) (var 7) (var 8)) ρ ≡ den (det3 (var 0) (var 3) (var 6) (var 1) (var 4) (var 7) (var 2) (var 5) (var 8)) ρ
-unfolding det3
-transposed ρ = ring (det3 (var 0) (var 1) (var 2) (var 3) (var 4) (var 5) (var 6) (var 7) (var 8)) (det3 (var 0) (var 3) (var 6) (var 1) (var 4) (var 7) (var 2) (var 5) (var 8)) ρ refl

@@ -52,10 +52,6 @@ abbrev pub flipBy : ℤ → ℤ → ℤ
 flipBy (pos b) z = z
 flipBy (negsuc b) z = negℤ z
 
-signed-zero : (z : ℤ) → signed z 0 ≡ pos 0
-signed-zero (pos n) = refl
-signed-zero (negsuc n) = refl
-
 signed-neg-pos : (p n : ℕ) → (p ≡ 0 → n ≡ 0) → negℤ (pos n) ≡ signed (negℤ (pos p)) n
 signed-neg-pos zero n h = ap (λ (k : ℕ). negℤ (pos k)) (h refl) ∙ ap pos (sym (h refl))
 signed-neg-pos (suc p) n h = refl

@@ -14,6 +14,7 @@ use mir.Syntax.{w64}
 use mir.Val.{SFits, Fits, toZ, ofZ}
 use mir.Facts.{toZ-ofZ, toZ-pos}
 use Rattle.whole.specs.Nearest.{signed}
+use Rattle.whole.proofs.Tests.{never, cond-ind}
 
 -- ---- sizes
 
@@ -21,10 +22,6 @@ pub natAbs-neg : (z : ℤ) → natAbs (negℤ z) ≡ natAbs z
 natAbs-neg (pos zero) = refl
 natAbs-neg (pos (suc n)) = refl
 natAbs-neg (negsuc n) = refl
-
-cond-ind : (c : Bool) (x y : ℤ) (P : ℤ → Type 0) → (T c → P x) → (T (not c) → P y) → P (cond c x y)
-cond-ind true x y P f g = f tt
-cond-ind false x y P f g = g tt
 
 sub-size : (a b : ℕ) → natAbs (subℕ a b) ≤ a + b
 sub-size a b =
@@ -106,12 +103,6 @@ plus-times (negsuc n) b c =
 pub times-plus : (a b c : ℤ) → a *ℤ (b +ℤ c) ≡ a *ℤ b +ℤ a *ℤ c
 times-plus a b c = *ℤ-comm a (b +ℤ c) ∙ plus-times b c a ∙ (λ i. *ℤ-comm b a i +ℤ *ℤ-comm c a i)
 
-pub minus-times : (a b c : ℤ) → (a -ℤ b) *ℤ c ≡ a *ℤ c -ℤ b *ℤ c
-minus-times a b c = plus-times a (negℤ b) c ∙ ap (λ (x : ℤ). a *ℤ c +ℤ x) (neg-times b c)
-
-pub times-minus : (a b c : ℤ) → a *ℤ (b -ℤ c) ≡ a *ℤ b -ℤ a *ℤ c
-times-minus a b c = times-plus a b (negℤ c) ∙ ap (λ (x : ℤ). a *ℤ b +ℤ x) (times-neg a c)
-
 -- (a * b) * c is a * (b * c): at naturals, and a sign comes out of any place
 assoc-pos : (a b c : ℕ) → pos a *ℤ pos b *ℤ pos c ≡ pos a *ℤ (pos b *ℤ pos c)
 assoc-pos a b c = ap pos (mul-assoc a b c)
@@ -142,28 +133,14 @@ within (pos n) k p q = ltb-false k n q
 within (negsuc n) zero p q = absurd (subst T p tt)
 within (negsuc n) (suc k) p q = let h = ltb-false k n p in omega arith
 
--- what a test of two locals, or of a local and a literal, tells of the numbers themselves
-pub lt-read : {x y : ℤ} {b : Bool} → SFits w64 x → SFits w64 y → ltZ (toZ w64 (ofZ w64 x)) (toZ w64 (ofZ w64 y)) ≡ b → ltZ x y ≡ b
-lt-read f g e = (λ i. ltZ (sym (toZ-ofZ f) i) (sym (toZ-ofZ g) i)) ∙ e
-
 pub lt-lit : {x : ℤ} (y : ℤ) {b : Bool} → SFits w64 x → ltZ (toZ w64 (ofZ w64 x)) y ≡ b → ltZ x y ≡ b
 lt-lit y f e = ap (λ (z : ℤ). ltZ z y) (sym (toZ-ofZ f)) ∙ e
 
-pub lit-lt : {x : ℤ} (y : ℤ) {b : Bool} → SFits w64 x → ltZ y (toZ w64 (ofZ w64 x)) ≡ b → ltZ y x ≡ b
-lit-lt y f e = ap (λ (z : ℤ). ltZ y z) (sym (toZ-ofZ f)) ∙ e
-
-never : {X : Type 0} → true ≡ false → X
-never e = absurd (subst T e tt)
-
 -- ---- signs
-
-pub neg-nonNeg : (x : ℤ) → ltZ x (pos 0) ≡ true → T (nonNeg (negℤ x))
-neg-nonNeg (pos n) e = let h = ltb-true n 0 e in absurd (omega arith)
-neg-nonNeg (negsuc n) e = tt
 
 pub pos-nonNeg : (x : ℤ) → ltZ x (pos 0) ≡ false → T (nonNeg x)
 pos-nonNeg (pos n) e = tt
-pos-nonNeg (negsuc n) e = never e
+pos-nonNeg (negsuc n) e = never (sym e)
 
 pub signed-neg : (x : ℤ) (n : ℕ) → ltZ x (pos 0) ≡ true → negℤ (pos n) ≡ signed x n
 signed-neg (pos m) n e = let h = ltb-true m 0 e in absurd (omega arith)
@@ -171,7 +148,7 @@ signed-neg (negsuc m) n e = refl
 
 pub signed-pos : (x : ℤ) (n : ℕ) → ltZ x (pos 0) ≡ false → pos n ≡ signed x n
 signed-pos (pos m) n e = refl
-signed-pos (negsuc m) n e = never e
+signed-pos (negsuc m) n e = never (sym e)
 
 pub signed-size : (x : ℤ) (n : ℕ) → natAbs (signed x n) ≡ n
 signed-size (pos m) n = refl
@@ -201,47 +178,14 @@ got z h = toZ-ofZ (record { sfits = h })
 
 pub below-is : (x : ℤ) (k : ℕ) → ltZ x (negℤ (pos k)) ≡ true → k < natAbs x
 below-is (pos n) zero e = let h = ltb-true n 0 e in absurd (omega arith)
-below-is (pos n) (suc k) e = never (sym e)
+below-is (pos n) (suc k) e = never e
 below-is (negsuc n) zero e = omega arith
 below-is (negsuc n) (suc k) e = let h = ltb-true k n e in omega arith
-
-pub above-is : (x : ℤ) (k : ℕ) → ltZ (pos k) x ≡ true → k < natAbs x
-above-is (pos n) k e = ltb-true k n e
-above-is (negsuc n) k e = never (sym e)
-
-pub le-lit : {x : ℤ} (y : ℤ) {b : Bool} → SFits w64 x → leZ (toZ w64 (ofZ w64 x)) y ≡ b → leZ x y ≡ b
-le-lit y f e = ap (λ (z : ℤ). leZ z y) (sym (toZ-ofZ f)) ∙ e
 
 pub lit-le : {x : ℤ} (y : ℤ) {b : Bool} → SFits w64 x → leZ y (toZ w64 (ofZ w64 x)) ≡ b → leZ y x ≡ b
 lit-le y f e = ap (λ (z : ℤ). leZ y z) (sym (toZ-ofZ f)) ∙ e
 
--- not below -k: then x ≤ k is a test of the size
-pub le-size : (x : ℤ) (k : ℕ) → leZ (negℤ (pos k)) x ≡ true → leZ x (pos k) ≡ leb (natAbs x) k
-le-size (pos n) k e = refl
-le-size (negsuc n) zero e = never (sym e)
-le-size (negsuc n) (suc k) e = let h = leb-true n k e in sym (le-leb (suc n) (suc k) (omega arith))
-
-pub below-size : (x : ℤ) (k : ℕ) → leZ (negℤ (pos k)) x ≡ false → leb (natAbs x) k ≡ false
-below-size (pos n) zero e = let h = leb-false 0 n e in absurd (omega arith)
-below-size (pos n) (suc k) e = never e
-below-size (negsuc n) zero e = lt-leb (suc n) 0 (omega arith)
-below-size (negsuc n) (suc k) e = let h = leb-false n k e in lt-leb (suc n) (suc k) (omega arith)
-
-pub above-eq-size : {b : ℤ} → pos 0 ≤ℤ b → SFits w64 b → natAbs b < 2 ^ 63
-above-eq-size {b = pos n} h f = f .sfits
-above-eq-size {b = negsuc n} h f = absurd (h .le)
-
 -- ---- division toward zero, its remainder, and the shift that rounds down
-
-pub natAbs-quot : (a b : ℤ) → natAbs (quotZ a b) ≡ natAbs a / natAbs b
-natAbs-quot (pos a) (pos b) = refl
-natAbs-quot (pos a) (negsuc b) = natAbs-neg (pos (a / suc b))
-natAbs-quot (negsuc a) (pos b) = natAbs-neg (pos (suc a / b))
-natAbs-quot (negsuc a) (negsuc b) = refl
-
-pub natAbs-rem : (a b : ℤ) → natAbs (remZ a b) ≡ natAbs a % natAbs b
-natAbs-rem (pos a) b = refl
-natAbs-rem (negsuc a) b = natAbs-neg (pos (suc a % natAbs b))
 
 pub shr-fits : {z : ℤ} (m : ℕ) → SFits w64 z → SFits w64 (shrZ z m)
 shr-fits {z} m f = record { sfits = lt-of-le-of-lt (mag-shr z m) (f .sfits) }
@@ -250,13 +194,3 @@ shr-fits {z} m f = record { sfits = lt-of-le-of-lt (mag-shr z m) (f .sfits) }
 pub shr-size : (z : ℤ) → natAbs z ≤ 2 ^ 63 → natAbs (shrZ z (2 ^ 63)) ≤ 1
 shr-size (pos n) h = omega arith
 shr-size (negsuc n) h = omega arith
-
-pub rem-fits : {z : ℤ} (d : ℤ) → SFits w64 z → SFits w64 (remZ z d)
-rem-fits {z} d f = record { sfits = lt-of-le-of-lt (mag-rem z d) (f .sfits) }
-
--- `a == b` of signed numbers compares their bits
-pub same-bits : {a b : ℤ} → SFits w64 a → SFits w64 b → ofZ w64 a ≡ ofZ w64 b → a ≡ b
-same-bits f g e = sym (toZ-ofZ f) ∙ ap (toZ w64) e ∙ toZ-ofZ g
-
-pub bits-zero : {a : ℤ} → SFits w64 a → ofZ w64 a ≡ 0 → a ≡ pos 0
-bits-zero f e = sym (toZ-ofZ f) ∙ ap (toZ w64) e

@@ -17,6 +17,8 @@ use Rattle.whole.specs.Sums.{sum, sumN, any, firstFrom, table}
 use Rattle.whole.specs.Packed.{cell}
 use Rattle.whole.proofs.Signs.{natAbs-plus}
 use Rattle.whole.proofs.Linear.{zarith, plusL, minusL}
+use Rattle.whole.proofs.Ring.{swap4}
+use Rattle.whole.proofs.Tests.{or-right}
 
 -- ---- sums
 
@@ -33,10 +35,7 @@ sum-more n f = rw add-one
 pub sum-plus : (n : ℕ) (f g : ℕ → ℤ) → sum n (λ k. f k +ℤ g k) ≡ sum n f +ℤ sum n g
 unfolding sum
 sum-plus zero f g = refl
-sum-plus (suc n) f g = ap (λ (z : ℤ). z +ℤ (f n +ℤ g n)) (sum-plus n f g) ∙ four (sum n f) (sum n g) (f n) (g n)
-  where
-    four : (a b x y : ℤ) → a +ℤ b +ℤ (x +ℤ y) ≡ a +ℤ x +ℤ (b +ℤ y)
-    four a b x y = omega (zarith, plusL a b, plusL x y, plusL (a +ℤ b) (x +ℤ y), plusL a x, plusL b y, plusL (a +ℤ x) (b +ℤ y))
+sum-plus (suc n) f g = ap (λ (z : ℤ). z +ℤ (f n +ℤ g n)) (sum-plus n f g) ∙ swap4 (sum n f) (sum n g) (f n) (g n)
 
 pub sum-minus : (n : ℕ) (f g : ℕ → ℤ) → sum n (λ k. f k -ℤ g k) ≡ sum n f -ℤ sum n g
 unfolding sum
@@ -196,11 +195,7 @@ pub any-one : (n : ℕ) (f : ℕ → Bool) (k : ℕ) → k < n → f k ≡ true 
 unfolding any
 any-one zero f k l e = absurd (omega arith)
 any-one (suc n) f k l e =
-    ⊎-elim (λ q. last (any n f) (f n) (ap f (sym q) ∙ e)) (λ m. ap (λ (b : Bool). b || f n) (any-one n f k m e)) (eq-or-lt-of-le (le-of-suc-le-suc l))
-  where
-    last : (x y : Bool) → y ≡ true → x || y ≡ true
-    last true y e = refl
-    last false y e = e
+    ⊎-elim (λ q. or-right (any n f) (f n) (ap f (sym q) ∙ e)) (λ m. ap (λ (b : Bool). b || f n) (any-one n f k m e)) (eq-or-lt-of-le (le-of-suc-le-suc l))
 
 pub any-each : (n : ℕ) (f : ℕ → Bool) → any n f ≡ false → (k : ℕ) → k < n → f k ≡ false
 any-each n f e k l = go (f k) refl

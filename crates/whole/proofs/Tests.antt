@@ -3,7 +3,7 @@ use mathlib.Core.Path.{_≡_, refl, sym, _∙_}
 use mathlib.Core.Bool.{Bool, true, false, not, cond, _&&_, _||_, true≢false}
 use Prim.Native.Nat.{ℕ}
 use native.Mathlib.Decide.{ℕ-discrete}
-use lib.Dec.{eqb}
+use lib.Dec.{T, eqb}
 use borrow.Author.Tests.{eq-eqb, ne-eqb}
 
 pub never : {X : Type 0} → false ≡ true → X
@@ -25,10 +25,19 @@ pub or-false : (a : Bool) → a || false ≡ a
 or-false true = refl
 or-false false = refl
 
+pub or-right : (a b : Bool) → b ≡ true → a || b ≡ true
+or-right true b e = refl
+or-right false b e = e
+
 -- if a then b
 pub if-told : (a b : Bool) → not a || b ≡ true → a ≡ true → b ≡ true
 if-told true b e f = e
 if-told false b e f = never f
+
+-- a choice has what both its sides have
+pub cond-ind : {X : Type 0} (c : Bool) (x y : X) (P : X → Type 0) → (T c → P x) → (T (not c) → P y) → P (cond c x y)
+cond-ind true x y P f g = f tt
+cond-ind false x y P f g = g tt
 
 pub cond-true : {X : Type 0} (b : Bool) (x y : X) → b ≡ true → cond b x y ≡ x
 cond-true true x y e = refl

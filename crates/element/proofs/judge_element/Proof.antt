@@ -4,7 +4,6 @@ use Rattle.element.proofs.judge_element.Statement.{statement}
 use Rattle.element.proofs.judge_element.Tie as tie
 use mathlib.Core.Path.{_∙_, ap, sym, subst}
 use Rattle.paper.specs.Triangle as paper
-use Rattle.triangle.specs.Forms.{judgedAs}
 use Rattle.triangle.specs.Asks.{Sized, Step}
 use Rattle.element.specs.Asks.{ElementCard}
 use Rattle.element.proofs.Ranges.{card-of, sized-at, step-of}
@@ -27,12 +26,12 @@ judge-requires c κs =
     (subst Sized (sym (c .before .triangle-at .ensures)) (sized-at t _ row), subst Step (sym (c .field .ensures)) (step-of t (c .before .before .before .before .pre .0)))
 
 returns : tie.Need-returns
-unfolding paper.elementJudged judgedAs
+unfolding paper.elementJudged
 returns c =
     let t = c .before .before .before .before .before .args .table .now in
     let e = c .before .before .before .before .before .args .e .0 in
     c .judge .ensures
-    ∙ (λ d. judgedAs (c .before .field .ensures d) ((c .before .before .triangle-at .ensures ∙ ap (paper.triangleAt t) (c .before .before .before .element-row .ensures)) d) e)
+    ∙ (λ d. paper.formJudged (c .before .field .ensures d) ((c .before .before .triangle-at .ensures ∙ ap (paper.triangleAt t) (c .before .before .before .element-row .ensures)) d) e)
 
 pub judge-element-spec : {M : Type 1} → statement M
 judge-element-spec =

@@ -3,7 +3,7 @@ use Rattle.model.proofs.hand_over.Statement.{statement}
 use Rattle.model.proofs.hand_over.Tie as tie
 use mathlib.Core.Path.{_∙_}
 use lib.ListN.{length-drop}
-use Rattle.whole.proofs.Fill.{tail-is}
+use Rattle.whole.proofs.Lists.{tail-is}
 
 mul-copy : tie.Need-mul-copy
 mul-copy c = search needs

@@ -5,7 +5,7 @@ use mathlib.Core.Path.{sym, ap, subst, _∙_}
 use native.Mathlib.Omega.{arith}
 use Prim.Native.Nat.{_-_}
 use lib.ListN.{getD}
-use Rattle.triangle.specs.Forms.{judgedAs}
+use Rattle.paper.specs.Triangle.{formJudged}
 use Rattle.triangle.specs.Asks.{Sized, Step}
 use Rattle.element.specs.Forms.{with}
 use Rattle.element.proofs.Ranges.{step-of}
@@ -49,7 +49,7 @@ returns c =
     let t = c .before .before .before .before .before .before .args .table .now in
     let n = c .before .before .before .before .before .before .args .t3 in
     c .judge .ensures
-    ∙ (λ i. judgedAs (c .before .field .ensures i) ((c .before .before .with-material .ensures ∙ ap (λ s. with t s (getD n 4 0) (getD n 5 0)) (c .before .before .before .shape-at .ensures)) i) (c .before .before .before .before .before .before .args .row - c .before .before .before .before .element-row .ensures i))
+    ∙ (λ i. formJudged (c .before .field .ensures i) ((c .before .before .with-material .ensures ∙ ap (λ s. with t s (getD n 4 0) (getD n 5 0)) (c .before .before .before .shape-at .ensures)) i) (c .before .before .before .before .before .before .args .row - c .before .before .before .before .element-row .ensures i))
     ∙ judged-E t (c .before .before .before .before .before .before .args .row) n (c .before .before .before .before .before .before .pre .0) (c .before .before .before .before .before .before .pre .1)
 
 pub judge-new-element-spec : {M : Type 1} → statement M
