@@ -14,13 +14,14 @@ use Rattle.whole.specs.Sums.{sumN, any}
 use Rattle.whole.specs.Packed.{tri, cell, entry}
 use Rattle.whole.proofs.Linear.{zarith}
 use Rattle.whole.proofs.Sums.{sumN-upto, sumN-one, any-each, first-none}
-use Rattle.whole.proofs.Tests.{and-told, nor-told}
+use Rattle.whole.proofs.Tests.{nor-told}
 use Rattle.paper.specs.Ticks.{onScale}
 use Rattle.paper.specs.Building.{Slices}
 use Rattle.paper.specs.Factor.{small}
 use Rattle.paper.specs.Lent.{rowSize, heavy, pivot, badRow, noFactor, foreign}
 use Rattle.paper.specs.Step.{offScale}
 use Rattle.paper.proofs.Scale.{on-scale-size}
+use Rattle.paper.proofs.Lent.{passed}
 use Rattle.lent.specs.Rows.{Rows, Light, Sound, Mild}
 
 pub light : (m : List ℤ) (n : ℕ) → Rows m n → heavy n m ≡ false → Light m n
@@ -39,30 +40,10 @@ pub light-part : {m : List ℤ} {n : ℕ} → Light m n → (i j : ℕ) → i < 
 unfolding rowSize
 light-part {m} {n} h i j k l = omega (arith, h .each i k, sumN-upto (λ (q : ℕ). natAbs (entry m i q)) j n l)
 
-record Row (l : List ℤ) (i : ℕ) : Type 0 where
-  low : (k : ℕ) → k < i → natAbs (cell l (tri i + k)) ≤ 2 ^ 24
-  end : pivot (cell l (tri i + i)) ≡ true
-
-row-told : (l : List ℤ) (i : ℕ) → badRow l i ≡ false → Row l i
-unfolding badRow
-row-told l i e =
-    let (a, b) = nor-told (any i (λ j. not (small 24 (cell l (tri i + j))))) (not (pivot (cell l (tri i + i)))) e in
-    record {
-      low = λ k h. leb-true (natAbs (cell l (tri i + k))) (2 ^ 24) (not-false _ (any-each i (λ j. not (small 24 (cell l (tri i + j)))) a k h));
-      end = not-false (pivot (cell l (tri i + i))) b;
-    }
-
 pub sound : (l : List ℤ) (n : ℕ) → Rows l n → noFactor n l ≡ false → Sound l n
-unfolding noFactor
-sound l n q e = record {
-  rows = q;
-  low = λ i k h. row-told l i (any-each n (badRow l) e i h) .low k;
-  least = λ i h. let (a, b) = ends i h in omega (zarith, a);
-  most = λ i h. let (a, b) = ends i h in leb-true (natAbs (cell l (tri i + i))) (2 ^ 38) b;
-}
-  where
-    ends : (i : ℕ) → i < n → (leZ (pos 16) (cell l (tri i + i)) ≡ true) × (small 38 (cell l (tri i + i)) ≡ true)
-    ends i h = and-told (leZ (pos 16) (cell l (tri i + i))) (small 38 (cell l (tri i + i))) (row-told l i (any-each n (badRow l) e i h) .end)
+sound l n q e =
+    let f = passed l n e in
+    record { rows = q; low = f .lows; least = λ i h. let a = f .diag i h .least in omega (zarith, a); most = λ i h. f .diag i h .size }
 
 pub sound-above : {l : List ℤ} {n : ℕ} → Sound l n → (i : ℕ) → i < n → pos 0 <ℤ cell l (tri i + i)
 sound-above {l} {n} s i h = let k = s .least i h in omega zarith

@@ -12,7 +12,7 @@ use Rattle.whole.specs.Sums.{sumN}
 use Rattle.whole.specs.Packed.{tri, cell, entry, lower}
 use Rattle.whole.proofs.Signs.{natAbs-plus, natAbs-minus}
 use Rattle.whole.proofs.Sums.{sumN-one}
-use Rattle.whole.proofs.Packed.{lower-ext, lower-eta, lower-size}
+use Rattle.whole.proofs.Packed.{lower-ext, lower-eta, lower-within}
 use Rattle.paper.specs.Refusals.{Outcome, refused, done, answerOf}
 use Rattle.paper.specs.Cards.{field, rows, nodes, materials, elementRow, stepOf, put}
 use Rattle.paper.specs.Triangle.{Shape, Triangle, shapeAt, triangleAt, S, conductance, mass, u, v}
@@ -45,22 +45,10 @@ use Rattle.packed.specs.Forms.{numbers}
 use Rattle.packed.specs.Asks.{Bounded, Takes}
 use Rattle.packed.proofs.Squares.{takes, spreads, unchanged}
 use Rattle.model.specs.Asks.{made, ifMade, laid, movedP, movedA, factorFrom, added, addedFixed, factorAdded, Refactors, Redoes, Redone, Renews, renewed, elementEdit, capacityEdit, filmEdit, lowest}
-use Rattle.model.proofs.Moving.{inside′, E-moves-P, E-moves-A, F-moves-P, F-moves-A, moved-P, moved-A, cleared-still}
+use Rattle.model.proofs.NewCard.{inside′, card-E, back-E, sized-new, card-F, back-F}
+use Rattle.model.proofs.Moving.{moved-by, E-moves-P, E-moves-A, F-moves-P, F-moves-A, cleared-still}
 
 -- ---- sizes
-
--- a packed triangle is as small as its entries on and below the diagonal
-pub lower-within : (n b : ℕ) (f : ℕ → ℕ → ℤ) → ((i j : ℕ) → i < n → j ≤ i → natAbs (f i j) ≤ b) → (k : ℕ) → natAbs (cell (lower n f) k) ≤ b
-lower-within n b f h k =
-    subst (λ (z : List ℤ). natAbs (cell z k) ≤ b) (lower-ext n cut f (λ i j l m. rw (le-leb (suc i) n (omega arith), le-leb j i m))) (lower-size n b cut (λ i j. size i j (leb (suc i) n) (leb j i) refl refl) k)
-  where
-    cut : ℕ → ℕ → ℤ
-    cut i j = cond (leb (suc i) n) (cond (leb j i) (f i j) (pos 0)) (pos 0)
-
-    size : (i j : ℕ) (x y : Bool) → leb (suc i) n ≡ x → leb j i ≡ y → natAbs (cond x (cond y (f i j) (pos 0)) (pos 0)) ≤ b
-    size i j true true p q = h i j (omega (arith, leb-true (suc i) n p)) (leb-true j i q)
-    size i j true false p q = omega arith
-    size i j false y p q = omega arith
 
 -- one entry of what a square spreads
 spread-size : (n b : ℕ) (ns : List ℕ) (f : ℕ → ℕ → ℤ) → Corners 3 n ns → ((i j : ℕ) → i < 3 → j < 3 → natAbs (f i j) ≤ b) → (i j : ℕ) → natAbs (spread 3 ns f i j) ≤ b + b + b
@@ -86,12 +74,6 @@ least-of : (t : List ℕ) (r : ℕ) → leastRow t r ≡ lowest (shapeAt t r .co
 unfolding leastRow shapeAt
 least-of t r = refl
 
--- a corner's number, as code reads it
-pub number-at : (c : List Node) (k : ℕ) → getD (numbers c) k 0 ≡ getD c k (record { 0 = 0 }) .0
-number-at [] k = refl
-number-at (x ∷ c) zero = refl
-number-at (x ∷ c) (suc k) = number-at c k
-
 -- the largest number of an edit
 abbrev pub most : ℕ
 most = 2 ^ 48 + 2 ^ 39
@@ -113,52 +95,25 @@ module _ (t : List ℕ) (row : ℕ) (card : List ℕ) (h : Renews t row card) wh
 
   -- ---- E
   module _ (e : Is E t row) where
-    pub card-E : ElementCard t row
-    card-E = record { deck = h .deck; inside = h .change .inside; isE = e }
-
-    element-E : elementOf (put t row card) row ≡ row - (nodes t + materials t)
-    unfolding elementOf
-    element-E = rw (letter-same t row card (h .deck) (h .change) row, e, nodes-same t row card (h .deck) (h .change), materials-same t row card (h .deck) (h .change))
-
-    pub back-E : elementRow (put t row card) (elementOf (put t row card) row) ≡ row
-    back-E =
-        let (a, b) = h .deck .inE row (h .change .inside) e in
-        row-same t row card (h .deck) (h .change) (elementOf (put t row card) row) ∙ ap (elementRow t) element-E ∙ omega arith
-
-    pub material-E : In 1 (materials t) (getD card 4 0)
-    material-E =
-        let i : row < rows (put t row card) = inside′ t row card (h .deck) (h .change) (h .deck′) in
-        let (a, b) = h .deck′ .material row i (letter-same t row card (h .deck) (h .change) row ∙ e) in
-        let is = here t row card (h .deck) (h .change) 4 (omega arith) in
-        (omega (arith, a, is), omega (arith, b, is, materials-same t row card (h .deck) (h .change)))
-
-    thick-E : getD card 5 0 ≤ 4000
-    thick-E =
-        let i : row < rows (put t row card) = inside′ t row card (h .deck) (h .change) (h .deck′) in
-        omega (arith, h .deck′ .thickness row i (letter-same t row card (h .deck) (h .change) row ∙ e), here t row card (h .deck) (h .change) 5 (omega arith))
-
-    pub sized-new : Sized (renewed t row card)
-    sized-new = sized-with t (shapeAt t row) (getD card 4 0) (getD card 5 0) (h .deck) (placed-at t row card-E) material-E thick-E
-
     pub area-new : 1 ≤ S (renewed t row card .shape)
     unfolding with
-    area-new = area row card-E back-E
+    area-new = area row (card-E t row card (h .deck) (h .change) e) (back-E t row card (h .deck) (h .change) e)
 
     pub sized-old : Sized (triangleAt t row)
-    sized-old = sized-at t row card-E
+    sized-old = sized-at t row (card-E t row card (h .deck) (h .change) e)
 
     pub area-old : 1 ≤ S (triangleAt t row .shape)
     unfolding triangleAt
-    area-old = area row card-E back-E
+    area-old = area row (card-E t row card (h .deck) (h .change) e) (back-E t row card (h .deck) (h .change) e)
 
     pub new-size : (i j : ℕ) → i < 3 → j < 3 → natAbs (stiff (stepOf t) (renewed t row card) i j) ≤ 2 ^ 47 + 2 ^ 38
-    new-size = stiff-size (stepOf t) (renewed t row card) sized-new area-new (step-of t (h .deck))
+    new-size = stiff-size (stepOf t) (renewed t row card) (sized-new t row card (h .deck) (h .change) e (h .deck′)) area-new (step-of t (h .deck))
 
     pub old-size : (i j : ℕ) → i < 3 → j < 3 → natAbs (stiff (stepOf t) (triangleAt t row) i j) ≤ 2 ^ 47 + 2 ^ 38
     old-size = stiff-size (stepOf t) (triangleAt t row) sized-old area-old (step-of t (h .deck))
 
     pub new-mass : (i j : ℕ) → i < 3 → j < 3 → natAbs (mass (u (stepOf t) (renewed t row card)) i j) ≤ 2 ^ 38
-    new-mass i j l k = omega (arith, mass-size (u (stepOf t) (renewed t row card)) i j, u-size (stepOf t) (renewed t row card) sized-new (step-of t (h .deck)))
+    new-mass i j l k = omega (arith, mass-size (u (stepOf t) (renewed t row card)) i j, u-size (stepOf t) (renewed t row card) (sized-new t row card (h .deck) (h .change) e (h .deck′)) (step-of t (h .deck)))
 
     pub old-mass : (i j : ℕ) → i < 3 → j < 3 → natAbs (mass (u (stepOf t) (triangleAt t row)) i j) ≤ 2 ^ 38
     old-mass i j l k = omega (arith, mass-size (u (stepOf t) (triangleAt t row)) i j, u-size (stepOf t) (triangleAt t row) sized-old (step-of t (h .deck)))
@@ -177,26 +132,16 @@ module _ (t : List ℕ) (row : ℕ) (card : List ℕ) (h : Renews t row card) wh
 
   -- ---- F
   module _ (e : Is F t row) where
-    pub card-F : ElementCard t (elementRow t (field t row 1))
-    card-F = card-of t (field t row 1) (h .deck) (h .deck .ofF row (h .change .inside) e)
-
-    element-F : elementOf (put t row card) row ≡ field t row 1
-    unfolding elementOf
-    element-F = rw (letter-same t row card (h .deck) (h .change) row, e, key-same t row card (h .deck) (h .change) row)
-
-    pub back-F : elementRow (put t row card) (elementOf (put t row card) row) ≡ elementRow t (field t row 1)
-    back-F = row-same t row card (h .deck) (h .change) (elementOf (put t row card) row) ∙ ap (elementRow t) element-F
-
     pub film-new : getD card 2 0 ≤ 100000
     film-new =
-        let i : row < rows (put t row card) = inside′ t row card (h .deck) (h .change) (h .deck′) in
+        let i : row < rows (put t row card) = inside′ t row card (h .deck) (h .change) in
         omega (arith, h .deck′ .filmF row i (letter-same t row card (h .deck) (h .change) row ∙ e), here t row card (h .deck) (h .change) 2 (omega arith))
 
     pub film-old : field t row 2 ≤ 100000
     film-old = h .deck .filmF row (h .change .inside) e .1
 
     pub film-size : (mw : ℕ) → mw ≤ 100000 → (i j : ℕ) → i < 3 → j < 3 → natAbs (mass (v mw (named t row)) i j) ≤ 2 ^ 38
-    film-size mw l i j x y = omega (arith, mass-size (v mw (named t row)) i j, v-small mw (named t row) l (placed-at t (elementRow t (field t row 1)) card-F))
+    film-size mw l i j x y = omega (arith, mass-size (v mw (named t row)) i j, v-small mw (named t row) l (placed-at t (elementRow t (field t row 1)) (card-F t row card (h .deck) (h .change) e)))
 
     pub film-most : (i j : ℕ) → i < 3 → j < 3 → natAbs (filmEdit t row card i j) ≤ most
     film-most i j l k =
@@ -205,71 +150,97 @@ module _ (t : List ℕ) (row : ℕ) (card : List ℕ) (h : Renews t row card) wh
     pub film-same : (a b : ℕ) → filmEdit t row card a b ≡ filmEdit t row card b a
     film-same a b = λ d. mass-symmetric (v (getD card 2 0) (named t row)) a b d -ℤ mass-symmetric (v (field t row 2) (named t row)) a b d
 
-  -- ---- an edit f over the corners of the element in row r, as code has them
-  module _ (r : ℕ) (k : ElementCard t r) (back : elementRow (put t row card) (elementOf (put t row card) row) ≡ r)
-      (c : List Node) (q : List (List ℤ)) (f : ℕ → ℕ → ℤ) (is : numbers c ≡ shapeAt t r .corners) (sq : q ≡ squareOf f)
-      (same : (a b : ℕ) → f a b ≡ f b a) (size : (i j : ℕ) → i < 3 → j < 3 → natAbs (f i j) ≤ most) where
-    module _ (xs : List ℤ) (long : length xs ≡ tri (nodes t)) (calm : heavy (nodes t) xs ≡ false) where
-      at-most : (i j : ℕ) → i < nodes t → j ≤ i → natAbs (entry xs i j) ≤ 2 ^ 33
-      at-most i j l m = light-entry (light xs (nodes t) (record { few = h .deck .someN .1; room = omega (arith, long) }) calm) i j l (omega arith)
+-- ---- an edit f over the corners of the element in row r: what the changed card adds to a matrix, and as code has it, c and q
+pub record Edit (adds : List ℕ → ℕ → ℕ → ℕ → ℤ) (t : List ℕ) (row : ℕ) (card : List ℕ) (c : List Node) (q : List (List ℤ)) : Type 0 where
+  pub r : ℕ
+  pub f : ℕ → ℕ → ℤ
+  pub its-card : ElementCard t r
+  pub back : elementRow (put t row card) (elementOf (put t row card) row) ≡ r
+  pub is : numbers c ≡ shapeAt t r .corners
+  pub sq : q ≡ squareOf f
+  pub same : (a b : ℕ) → f a b ≡ f b a
+  pub size : (i j : ℕ) → i < 3 → j < 3 → natAbs (f i j) ≤ most
+  pub moves : (i j : ℕ) → adds (put t row card) row i j -ℤ adds t row i j ≡ spread 3 (shapeAt t r .corners) f i j
 
-      pub takes-edit : Takes xs (numbers c) q
-      takes-edit =
-          takes t xs c q (shapeAt t r .corners) f is sq (h .deck) long
-          (record { each = λ p. subst (λ (z : List ℤ). natAbs (cell z p) ≤ 2 ^ 52) (sym (lower-eta (nodes t) xs long)) (lower-within (nodes t) (2 ^ 52) (entry xs) (λ i j l m. omega (arith, at-most i j l m)) p) })
-          (corners r k back) same (λ i j l m. omega (arith, size i j l m))
+module _ {t : List ℕ} {row : ℕ} {card : List ℕ} (h : Renews t row card) (c : List Node) {q : List (List ℤ)} where
+  pub element-edit : Is E t row → numbers c ≡ shapeAt t row .corners → q ≡ squareOf (elementEdit t row card) → Edit addsA t row card c q
+  element-edit e is sq = record {
+    r = row;
+    f = elementEdit t row card;
+    its-card = card-E t row card (h .deck) (h .change) e;
+    back = back-E t row card (h .deck) (h .change) e;
+    is = is;
+    sq = sq;
+    same = element-same t row card h e;
+    size = element-most t row card h e;
+    moves = E-moves-A t row card (h .deck) (h .change) (h .deck′) e;
+  }
 
-      pub small-added : Bounded (2 ^ 50) (added (nodes t) xs (numbers c) q)
-      small-added = record {
-        each = lower-within (nodes t) (2 ^ 50) (λ i j. entry xs i j +ℤ spread 3 (numbers c) (at q) i j)
-            (λ i j l m.
-            omega (
-              arith,
-              natAbs-plus (entry xs i j) (spread 3 (numbers c) (at q) i j),
-              at-most i j l m,
-              spread-size (nodes t) most (shapeAt t r .corners) f (corners r k back) size i j,
-              ap natAbs (spreads t xs c q (shapeAt t r .corners) f is sq i j),
-            ));
-      }
+  pub capacity-edit : Is E t row → numbers c ≡ shapeAt t row .corners → q ≡ squareOf (capacityEdit t row card) → Edit addsP t row card c q
+  capacity-edit e is sq = record {
+    r = row;
+    f = capacityEdit t row card;
+    its-card = card-E t row card (h .deck) (h .change) e;
+    back = back-E t row card (h .deck) (h .change) e;
+    is = is;
+    sq = sq;
+    same = capacity-same t row card h e;
+    size = capacity-most t row card h e;
+    moves = E-moves-P t row card (h .deck) (h .change) (h .deck′) e;
+  }
 
-    -- the matrices with it
-    pub added-P : (p : List ℤ) → ((i j : ℕ) → addsP (put t row card) row i j -ℤ addsP t row i j ≡ spread 3 (shapeAt t r .corners) f i j) → added (nodes t) p (numbers c) q ≡ movedP t p row card
-    added-P p g =
-        lower-ext (nodes t) _ _ (λ i j l m. ap (λ (z : ℤ). entry p i j +ℤ z) (spreads t p c q (shapeAt t r .corners) f is sq i j))
-        ∙ sym (moved-P t row card (h .deck) (h .change) (h .deck′) (shapeAt t r .corners) f p g)
+  pub film-edit : Is F t row → numbers c ≡ named t row .corners → q ≡ squareOf (filmEdit t row card) → Edit addsA t row card c q
+  film-edit e is sq = record {
+    r = elementRow t (field t row 1);
+    f = filmEdit t row card;
+    its-card = card-F t row card (h .deck) (h .change) e;
+    back = back-F t row card (h .deck) (h .change) e;
+    is = is;
+    sq = sq;
+    same = film-same t row card h e;
+    size = film-most t row card h e;
+    moves = F-moves-A t row card (h .deck) (h .change) (h .deck′) e;
+  }
 
-    module _ (a fs w : List ℤ) (g : (i j : ℕ) → addsA (put t row card) row i j -ℤ addsA t row i j ≡ spread 3 (shapeAt t r .corners) f i j) (m : ℕ) (em : m ≡ lowest (numbers c)) where
-      pub added-A : added (nodes t) a (numbers c) q ≡ movedA t a row card
-      added-A =
-          lower-ext (nodes t) _ _ (λ i j l m. ap (λ (z : ℤ). entry a i j +ℤ z) (spreads t a c q (shapeAt t r .corners) f is sq i j))
-          ∙ sym (moved-A t row card (h .deck) (h .change) (h .deck′) (shapeAt t r .corners) f a g)
-
-      pub factor-edit : factorFrom t a fs row card ≡ factorAdded t a fs (numbers c) q m
-      factor-edit =
-          let x : lower (nodes t) (cleared (fixed (put t row card)) (entry (movedA t a row card))) ≡ addedFixed t a (numbers c) q =
-          cleared-still t row card (h .deck) (h .change) (h .deck′) (movedA t a row card) ∙ ap (λ (z : List ℤ). lower (nodes t) (cleared (fixed t) (entry z))) (sym added-A) in
-          let m′ : least t row card ≡ m = least-is r k back ∙ ap lowest (sym is) ∙ sym em in
-          λ d. rowsFrom (nodes t - m′ d) (m′ d) (laid (m′ d) fs (x d))
-
-      pub refactors : (p : List ℤ) → Redoes t row card p a fs w → Refactors t a fs w (numbers c) q m
-      refactors p y =
-          let (_, calm, tame) = foreign-told (nodes t) (record { p = p; a = a; factor = fs }) (y .tame) in
-          let (_, top) = corners r k back .inside 0 (omega arith) in
-          record {
-            edits = record { deck = h .deck; of-a = y .lengths .of-a; of-w = y .lengths .of-w; takes = takes-edit a (y .lengths .of-a) calm };
-            of-f = y .lengths .of-f;
-            tame = tame;
-            low = let e : m ≡ lowest (shapeAt t r .corners) = em ∙ ap lowest is in omega (arith, e, top);
-            small = small-added a (y .lengths .of-a) calm;
-          }
+-- a matrix with it
+module _ {adds : List ℕ → ℕ → ℕ → ℕ → ℤ} {t : List ℕ} {row : ℕ} {card : List ℕ} {c : List Node} {q : List (List ℤ)} (h : Renews t row card) (x : Edit adds t row card c q) where
+  its-corners : Corners 3 (nodes t) (shapeAt t (x .r) .corners)
+  its-corners = corners t row card h (x .r) (x .its-card) (x .back)
 
   -- corners are counted from 1
-  pub counted : (r : ℕ) → ElementCard t r → elementRow (put t row card) (elementOf (put t row card) row) ≡ r → (ns : List ℕ) → ns ≡ shapeAt t r .corners
-      → (1 ≤ getD ns 0 0) × (1 ≤ getD ns 1 0) × (1 ≤ getD ns 2 0)
-  counted r k back ns is = (one 0 (omega arith), one 1 (omega arith), one 2 (omega arith))
+  pub counted : (1 ≤ getD (numbers c) 0 0) × (1 ≤ getD (numbers c) 1 0) × (1 ≤ getD (numbers c) 2 0)
+  counted = (one 0 (omega arith), one 1 (omega arith), one 2 (omega arith))
     where
-      one : (a : ℕ) → a < 3 → 1 ≤ getD ns a 0
-      one a l = subst (λ (z : List ℕ). 1 ≤ getD z a 0) (sym is) (corners r k back .inside a l .0)
+      one : (a : ℕ) → a < 3 → 1 ≤ getD (numbers c) a 0
+      one a l = subst (λ (z : List ℕ). 1 ≤ getD z a 0) (sym (x .is)) (its-corners .inside a l .0)
+
+  module _ (xs : List ℤ) (long : length xs ≡ tri (nodes t)) (calm : heavy (nodes t) xs ≡ false) where
+    at-most : (i j : ℕ) → i < nodes t → j ≤ i → natAbs (entry xs i j) ≤ 2 ^ 33
+    at-most i j l m = light-entry (light xs (nodes t) (record { few = h .deck .someN .1; room = omega (arith, long) }) calm) i j l (omega arith)
+
+    pub takes-edit : Takes xs (numbers c) q
+    takes-edit =
+        takes t xs c q (shapeAt t (x .r) .corners) (x .f) (x .is) (x .sq) (h .deck) long
+        (record { each = λ p. subst (λ (z : List ℤ). natAbs (cell z p) ≤ 2 ^ 52) (sym (lower-eta (nodes t) xs long)) (lower-within (nodes t) (2 ^ 52) (entry xs) (λ i j l m. omega (arith, at-most i j l m)) p) })
+        its-corners (x .same) (λ i j l m. omega (arith, x .size i j l m))
+
+    pub small-added : Bounded (2 ^ 50) (added (nodes t) xs (numbers c) q)
+    small-added = record {
+      each = lower-within (nodes t) (2 ^ 50) (λ i j. entry xs i j +ℤ spread 3 (numbers c) (at q) i j)
+          (λ i j l m.
+          omega (
+            arith,
+            natAbs-plus (entry xs i j) (spread 3 (numbers c) (at q) i j),
+            at-most i j l m,
+            spread-size (nodes t) most (shapeAt t (x .r) .corners) (x .f) its-corners (x .size) i j,
+            ap natAbs (spreads t xs c q (shapeAt t (x .r) .corners) (x .f) (x .is) (x .sq) i j),
+          ));
+    }
+
+  pub added-is : (xs : List ℤ) → added (nodes t) xs (numbers c) q ≡ moved (nodes t) xs (adds (put t row card) row) (adds t row)
+  added-is xs =
+      lower-ext (nodes t) _ _ (λ i j l m. ap (λ (z : ℤ). entry xs i j +ℤ z) (spreads t xs c q (shapeAt t (x .r) .corners) (x .f) (x .is) (x .sq) i j))
+      ∙ sym (moved-by (nodes t) xs (adds (put t row card) row) (adds t row) (spread 3 (shapeAt t (x .r) .corners) (x .f)) (x .moves))
 
 pub renews : {t : List ℕ} {row : ℕ} {card : List ℕ} {p a f w : List ℤ} → Redoes t row card p a f w → Renews t row card
 renews h = record { deck = h .deck; change = h .change; deck′ = h .deck′; form = h .form }
@@ -301,78 +272,46 @@ module _ (t : List ℕ) (row : ℕ) (card : List ℕ) (p a f : List ℤ) (n : Li
     is-w = kw;
   }
 
--- ---- E and F, from what the code has read
+-- ---- an E or F card, from what the code has read
 
-module _ (t : List ℕ) (row : ℕ) (card : List ℕ) (p a f w : List ℤ) (y : Redoes t row card p a f w) (c : List Node) (q : List (List ℤ)) (m : ℕ) (em : m ≡ lowest (numbers c)) where
-  module _ (e : Is E t row) (is : numbers c ≡ shapeAt t row .corners) (sq : q ≡ squareOf (elementEdit t row card)) where
-    moves-E : (i j : ℕ) → addsA (put t row card) row i j -ℤ addsA t row i j ≡ spread 3 (shapeAt t row .corners) (elementEdit t row card) i j
-    moves-E = E-moves-A t row card (y .deck) (y .change) (y .deck′) e
+module _ {t : List ℕ} {row : ℕ} {card : List ℕ} {p a f w : List ℤ} (y : Redoes t row card p a f w) {c : List Node} {q : List (List ℤ)} (x : Edit addsA t row card c q) (m : ℕ) (em : m ≡ lowest (numbers c)) where
+  added-A : added (nodes t) a (numbers c) q ≡ movedA t a row card
+  added-A = added-is (renews y) x a
 
-    pub asks-E : Refactors t a f w (numbers c) q m
-    asks-E =
-        refactors t row card (renews y) row (card-E t row card (renews y) e) (back-E t row card (renews y) e) c q (elementEdit t row card) is sq
-        (element-same t row card (renews y) e) (element-most t row card (renews y) e) a f w moves-E m em p y
+  pub asks : Refactors t a f w (numbers c) q m
+  asks =
+      let (_, calm, tame) = foreign-told (nodes t) (record { p = p; a = a; factor = f }) (y .tame) in
+      let (_, top) = its-corners (renews y) x .inside 0 (omega arith) in
+      record {
+        edits = record { deck = y .deck; of-a = y .lengths .of-a; of-w = y .lengths .of-w; takes = takes-edit (renews y) x a (y .lengths .of-a) calm };
+        of-f = y .lengths .of-f;
+        tame = tame;
+        low = let e : m ≡ lowest (shapeAt t (x .r) .corners) = em ∙ ap lowest (x .is) in omega (arith, e, top);
+        small = small-added (renews y) x a (y .lengths .of-a) calm;
+      }
 
-    added-E : added (nodes t) a (numbers c) q ≡ movedA t a row card
-    added-E =
-        added-A t row card (renews y) row (card-E t row card (renews y) e) (back-E t row card (renews y) e) c q (elementEdit t row card) is sq
-        (element-same t row card (renews y) e) (element-most t row card (renews y) e) a f w moves-E m em
+  factor-edit : factorFrom t a f row card ≡ factorAdded t a f (numbers c) q m
+  factor-edit =
+      let e : lower (nodes t) (cleared (fixed (put t row card)) (entry (movedA t a row card))) ≡ addedFixed t a (numbers c) q =
+      cleared-still t row card (y .deck) (y .change) (y .deck′) (movedA t a row card) ∙ ap (λ (z : List ℤ). lower (nodes t) (cleared (fixed t) (entry z))) (sym added-A) in
+      let m′ : least t row card ≡ m = least-is t row card (renews y) (x .r) (x .its-card) (x .back) ∙ ap lowest (sym (x .is)) ∙ sym em in
+      λ d. rowsFrom (nodes t - m′ d) (m′ d) (laid (m′ d) f (e d))
 
-    factor-E : factorFrom t a f row card ≡ factorAdded t a f (numbers c) q m
-    factor-E =
-        factor-edit t row card (renews y) row (card-E t row card (renews y) e) (back-E t row card (renews y) e) c q (elementEdit t row card) is sq
-        (element-same t row card (renews y) e) (element-most t row card (renews y) e) a f w moves-E m em
+  pub refused-edit : (r : Refusal) (a′ f′ w′ : List ℤ) → Refused r ≡ answerOf (factorAdded t a f (numbers c) q m) → a′ ≡ ifMade (factorAdded t a f (numbers c) q m) (added (nodes t) a (numbers c) q) a
+      → f′ ≡ made (factorAdded t a f (numbers c) q m) f → w′ ≡ replicate (tri (nodes t)) (pos 0) → Redone (Refused r) t row card p a f t p a′ f′ w′
+  refused-edit r a′ f′ w′ = redone-refused t row card p a f (added (nodes t) a (numbers c) q) added-A (factorAdded t a f (numbers c) q m) r a′ f′ w′ factor-edit
 
-    pub refused-E : (r : Refusal) (a′ f′ w′ : List ℤ) → Refused r ≡ answerOf (factorAdded t a f (numbers c) q m) → a′ ≡ ifMade (factorAdded t a f (numbers c) q m) (added (nodes t) a (numbers c) q) a
-        → f′ ≡ made (factorAdded t a f (numbers c) q m) f → w′ ≡ replicate (tri (nodes t)) (pos 0) → Redone (Refused r) t row card p a f t p a′ f′ w′
-    refused-E r a′ f′ w′ = redone-refused t row card p a f (added (nodes t) a (numbers c) q) added-E (factorAdded t a f (numbers c) q m) r a′ f′ w′ factor-E
+  pub done-edit : (t′ : List ℕ) (p′ a′ f′ w′ : List ℤ) → Done ≡ answerOf (factorAdded t a f (numbers c) q m) → a′ ≡ ifMade (factorAdded t a f (numbers c) q m) (added (nodes t) a (numbers c) q) a
+      → f′ ≡ made (factorAdded t a f (numbers c) q m) f → w′ ≡ replicate (tri (nodes t)) (pos 0) → p′ ≡ movedP t p row card → t′ ≡ put t row card → Redone Done t row card p a f t′ p′ a′ f′ w′
+  done-edit t′ p′ a′ f′ w′ = redone-done t row card p a f (added (nodes t) a (numbers c) q) added-A (factorAdded t a f (numbers c) q m) t′ p′ a′ f′ w′ factor-edit
 
-    module _ (x : List (List ℤ)) (sx : x ≡ squareOf (capacityEdit t row card)) where
-      pub asks-P : Takes p (numbers c) x
-      asks-P =
-          let (calm, _, _) = foreign-told (nodes t) (record { p = p; a = a; factor = f }) (y .tame) in
-          takes-edit t row card (renews y) row (card-E t row card (renews y) e) (back-E t row card (renews y) e) c x (capacityEdit t row card) is sx
-          (capacity-same t row card (renews y) e) (capacity-most t row card (renews y) e) p (y .lengths .of-p) calm
+-- P: of an E card the capacity's edit, of an F card as it was
+module _ {t : List ℕ} {row : ℕ} {card : List ℕ} {p a f w : List ℤ} (y : Redoes t row card p a f w) where
+  pub asks-P : {c : List Node} {q : List (List ℤ)} → Edit addsP t row card c q → Takes p (numbers c) q
+  asks-P x =
+      let (calm, _, _) = foreign-told (nodes t) (record { p = p; a = a; factor = f }) (y .tame) in
+      takes-edit (renews y) x p (y .lengths .of-p) calm
 
-      pub done-E : (t′ : List ℕ) (p′ a′ f′ w′ : List ℤ) → Done ≡ answerOf (factorAdded t a f (numbers c) q m) → a′ ≡ ifMade (factorAdded t a f (numbers c) q m) (added (nodes t) a (numbers c) q) a
-          → f′ ≡ made (factorAdded t a f (numbers c) q m) f → w′ ≡ replicate (tri (nodes t)) (pos 0) → ((n : ℕ) → length p ≡ tri n → p′ ≡ added n p (numbers c) x) → t′ ≡ put t row card
-          → Redone Done t row card p a f t′ p′ a′ f′ w′
-      done-E t′ p′ a′ f′ w′ k ka kf kw kp kt =
-          redone-done t row card p a f (added (nodes t) a (numbers c) q) added-E (factorAdded t a f (numbers c) q m) t′ p′ a′ f′ w′ factor-E k ka kf kw
-          (kp (nodes t) (y .lengths .of-p)
-          ∙ added-P t row card (renews y) row (card-E t row card (renews y) e) (back-E t row card (renews y) e) c x (capacityEdit t row card) is sx
-          (capacity-same t row card (renews y) e) (capacity-most t row card (renews y) e) p (E-moves-P t row card (y .deck) (y .change) (y .deck′) e))
-          kt
-
-  module _ (e : Is F t row) (is : numbers c ≡ named t row .corners) (sq : q ≡ squareOf (filmEdit t row card)) where
-    moves-F : (i j : ℕ) → addsA (put t row card) row i j -ℤ addsA t row i j ≡ spread 3 (named t row .corners) (filmEdit t row card) i j
-    moves-F = F-moves-A t row card (y .deck) (y .change) (y .deck′) e
-
-    pub asks-F : Refactors t a f w (numbers c) q m
-    asks-F =
-        refactors t row card (renews y) (elementRow t (field t row 1)) (card-F t row card (renews y) e) (back-F t row card (renews y) e) c q (filmEdit t row card) is sq
-        (film-same t row card (renews y) e) (film-most t row card (renews y) e) a f w moves-F m em p y
-
-    added-F : added (nodes t) a (numbers c) q ≡ movedA t a row card
-    added-F =
-        added-A t row card (renews y) (elementRow t (field t row 1)) (card-F t row card (renews y) e) (back-F t row card (renews y) e) c q (filmEdit t row card) is sq
-        (film-same t row card (renews y) e) (film-most t row card (renews y) e) a f w moves-F m em
-
-    factor-F : factorFrom t a f row card ≡ factorAdded t a f (numbers c) q m
-    factor-F =
-        factor-edit t row card (renews y) (elementRow t (field t row 1)) (card-F t row card (renews y) e) (back-F t row card (renews y) e) c q (filmEdit t row card) is sq
-        (film-same t row card (renews y) e) (film-most t row card (renews y) e) a f w moves-F m em
-
-    pub refused-F : (r : Refusal) (a′ f′ w′ : List ℤ) → Refused r ≡ answerOf (factorAdded t a f (numbers c) q m) → a′ ≡ ifMade (factorAdded t a f (numbers c) q m) (added (nodes t) a (numbers c) q) a
-        → f′ ≡ made (factorAdded t a f (numbers c) q m) f → w′ ≡ replicate (tri (nodes t)) (pos 0) → Redone (Refused r) t row card p a f t p a′ f′ w′
-    refused-F r a′ f′ w′ = redone-refused t row card p a f (added (nodes t) a (numbers c) q) added-F (factorAdded t a f (numbers c) q m) r a′ f′ w′ factor-F
-
-    -- P stays
-    still-P : p ≡ movedP t p row card
-    unfolding moved
-    still-P = unchanged (nodes t) p (λ i j. addsP (put t row card) row i j -ℤ addsP t row i j) (y .lengths .of-p) (F-moves-P t row card (y .deck) (y .change) (y .deck′) e)
-
-    pub done-F : (t′ : List ℕ) (a′ f′ w′ : List ℤ) → Done ≡ answerOf (factorAdded t a f (numbers c) q m) → a′ ≡ ifMade (factorAdded t a f (numbers c) q m) (added (nodes t) a (numbers c) q) a
-        → f′ ≡ made (factorAdded t a f (numbers c) q m) f → w′ ≡ replicate (tri (nodes t)) (pos 0) → t′ ≡ put t row card → Redone Done t row card p a f t′ p a′ f′ w′
-    done-F t′ a′ f′ w′ k ka kf kw kt =
-        redone-done t row card p a f (added (nodes t) a (numbers c) q) added-F (factorAdded t a f (numbers c) q m) t′ p a′ f′ w′ factor-F k ka kf kw still-P kt
+  pub still-P : Is F t row → p ≡ movedP t p row card
+  unfolding moved
+  still-P e = unchanged (nodes t) p (λ i j. addsP (put t row card) row i j -ℤ addsP t row i j) (y .lengths .of-p) (F-moves-P t row card (y .deck) (y .change) (y .deck′) e)

@@ -3,7 +3,7 @@ use mathlib.Core.Path.{_≡_, sym, ap, _∙_}
 use mathlib.Core.List.{List}
 use Prim.Native.Nat.{ℕ, _-_, _≤_, _<_}
 use native.Mathlib.Omega.{arith}
-use borrow.Author.Tests.{eqb-true}
+use borrow.Author.Tests.{eqb-true, eq-eqb}
 use lib.Dec.{eqb}
 use lib.ListN.{getD}
 use Rattle.whole.proofs.Tests.{or-told}
@@ -12,12 +12,10 @@ use Rattle.paper.specs.Triangle.{shapeAt, triangleAt, formJudged, elementJudged
 use Rattle.paper.specs.Replacing.{elementOf}
 use Rattle.paper.specs.declared.Kind.the-variants.{E, F}
 use Rattle.paper.proofs.Decks.{Is, In}
-use Rattle.paper.proofs.Changed.{here, nodes-same, materials-same, letter-same, step-same, row-same, judged-same, rows-same}
-use Rattle.triangle.specs.Asks.{Sized}
-use Rattle.element.specs.Forms.{with}
-use Rattle.element.specs.Asks.{ElementCard}
-use Rattle.element.proofs.Ranges.{placed-at, sized-with}
-use Rattle.model.specs.Asks.{Stirring}
+use Rattle.paper.proofs.Changed.{step-same, judged-same}
+use Rattle.paper.proofs.Replaced.{element-E, element-F}
+use Rattle.model.specs.Asks.{renewed, Renews, Stirring}
+use Rattle.model.proofs.NewCard.{back-E}
 use Rattle.model.proofs.Moving.{new-form}
 
 module _ (t : List ℕ) (row : ℕ) (card : List ℕ) (s : Stirring t row card) where
@@ -29,47 +27,21 @@ module _ (t : List ℕ) (row : ℕ) (card : List ℕ) (s : Stirring t row card) 
   is-F n = or-told (eqb (letter t row) 69) (eqb (letter t row) 70) (s .stir) (λ q. absurd (n (s .change .same ∙ eqb-true (letter t row) 69 q))) (λ q. eqb-true (letter t row) 70 q)
 
   module _ (e : Is E t row) where
-    pub card-E : ElementCard t row
-    card-E = record { deck = s .deck; inside = s .change .inside; isE = e }
-
-    inside′ : row < rows (put t row card)
-    inside′ = omega (arith, rows-same t row card (s .deck) (s .change), s .change .inside)
-
-    still : Is E (put t row card) row
-    still = letter-same t row card (s .deck) (s .change) row ∙ e
-
-    -- its material is one of the deck's, its thickness in range
-    pub material-in : In 1 (materials t) (getD card 4 0)
-    material-in =
-        let (a, b) = s .deck′ .material row inside′ still in
-        let f = here t row card (s .deck) (s .change) 4 (omega arith) in
-        (omega arith, omega (arith, materials-same t row card (s .deck) (s .change)))
-
-    thickness-in : getD card 5 0 ≤ 4000
-    thickness-in = omega (arith, s .deck′ .thickness row inside′ still, here t row card (s .deck) (s .change) 5 (omega arith))
-
-    pub sized-new : Sized (with t (shapeAt t row) (getD card 4 0) (getD card 5 0))
-    sized-new = sized-with t (shapeAt t row) (getD card 4 0) (getD card 5 0) (s .deck) (placed-at t row card-E) material-in thickness-in
-
     -- its number
     pub number-in : In 1 160 (row - elementRow t 0)
     number-in = omega (arith, s .deck .inE row (s .change .inside) e, s .deck .someE)
 
     number-E : elementOf (put t row card) row ≡ row - elementRow t 0
-    unfolding elementOf
-    number-E = rw (letter-same t row card (s .deck) (s .change) row, e, nodes-same t row card (s .deck) (s .change), materials-same t row card (s .deck) (s .change)) (omega arith)
+    number-E = element-E t row card (s .deck) (s .change) e ∙ omega arith
 
-    pub judged-E : formJudged (stepOf t) (with t (shapeAt t row) (getD card 4 0) (getD card 5 0)) (row - elementRow t 0) ≡ elementJudged (put t row card) (elementOf (put t row card) row)
+    pub judged-E : formJudged (stepOf t) (renewed t row card) (row - elementRow t 0) ≡ elementJudged (put t row card) (elementOf (put t row card) row)
     unfolding elementJudged
     judged-E =
-        let at : elementRow (put t row card) (elementOf (put t row card) row) ≡ row =
-        row-same t row card (s .deck) (s .change) (elementOf (put t row card) row) ∙ rw number-E (omega (arith, s .deck .inE row (s .change .inside) e)) in
-        λ i. formJudged (sym (step-same t row card (s .deck) (s .change)) i) ((sym (new-form t row card (s .deck) (s .change) (s .deck′) e) ∙ ap (triangleAt (put t row card)) (sym at)) i) (sym number-E i)
+        λ i. formJudged (sym (step-same t row card (s .deck) (s .change)) i) ((sym (new-form t row card (s .deck) (s .change) (s .deck′) e) ∙ ap (triangleAt (put t row card)) (sym (back-E t row card (s .deck) (s .change) e))) i) (sym number-E i)
 
   module _ (e : Is F t row) where
     number-F : elementOf (put t row card) row ≡ getD card 1 0
-    unfolding elementOf
-    number-F = rw (letter-same t row card (s .deck) (s .change) row, e) (here t row card (s .deck) (s .change) 1 (omega arith))
+    number-F = element-F t row card (s .deck) (s .change) e ∙ sym (s .change .key)
 
     pub element-in : In 1 (elements t) (getD card 1 0)
     element-in = rw (s .change .key) (s .deck .ofF row (s .change .inside) e)
@@ -78,3 +50,7 @@ module _ (t : List ℕ) (row : ℕ) (card : List ℕ) (s : Stirring t row card) 
     judged-F =
         rw number-F
         (sym (judged-same t row card (s .deck) (s .change) (getD card 1 0) (element-in .0) (element-in .1) (λ q. omega (arith, element-in, s .deck .inF row (s .change .inside) e))))
+
+-- an E card whose new form passes is such a card
+pub stirring : {t : List ℕ} {row : ℕ} {card : List ℕ} → Renews t row card → Is E t row → Stirring t row card
+stirring {t} {row} h e = record { deck = h .deck; change = h .change; deck′ = h .deck′; stir = rw (eq-eqb (letter t row) 69 e) }

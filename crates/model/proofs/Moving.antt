@@ -17,21 +17,17 @@ use Rattle.paper.proofs.Changed.{place, other, here, nodes-same, materials-same
 use Rattle.paper.proofs.Places.{spread-minus}
 use Rattle.paper.proofs.Adds.{stiff, E-adds-P, E-adds-A, F-adds-P, F-adds-A}
 use Rattle.element.specs.Forms.{with}
-use Rattle.model.specs.Asks.{movedP, movedA}
+use Rattle.model.proofs.NewCard.{still, material-in}
+
+-- one slice with what a card adds to it, new minus old
+pub moved-by : (n : ℕ) (xs : List ℤ) (new old f : ℕ → ℕ → ℤ) → ((i j : ℕ) → new i j -ℤ old i j ≡ f i j) → moved n xs new old ≡ lower n (λ i j. entry xs i j +ℤ f i j)
+unfolding moved
+moved-by n xs new old f h = lower-ext n _ _ (λ i j a b. ap (λ (z : ℤ). entry xs i j +ℤ z) (h i j))
 
 module _ (t : List ℕ) (row : ℕ) (card : List ℕ) (d : Deck t) (g : Change t row card) (d′ : Deck (put t row card)) where
-  still : (k : Is E t row) → Is E (put t row card) row
-  still e = letter-same t row card d g row ∙ e
-
-  pub inside′ : row < rows (put t row card)
-  inside′ = omega (arith, rows-same t row card d g, g .inside)
-
   -- the new card's material is one of the deck's, and its row is as it was
-  few : Is E t row → getD card 4 0 ≤ materials t
-  few e = omega (arith, d′ .material row inside′ (still e) .1, here t row card d g 4 (omega arith), materials-same t row card d g)
-
   stuff : Is E t row → (k : ℕ) → k < 6 → field (put t row card) (nodes t + getD card 4 0) k ≡ field t (nodes t + getD card 4 0) k
-  stuff e k h = other t row card d g (nodes t + getD card 4 0) k h (λ q. omega (arith, place t row card d g .0, few e))
+  stuff e k h = other t row card d g (nodes t + getD card 4 0) k h (λ q. omega (arith, place t row card d g .0, material-in t row card d g e d′))
 
   -- an E card's new form: the same shape with another material and thickness
   pub new-form : Is E t row → triangleAt (put t row card) row ≡ with t (shapeAt t row) (getD card 4 0) (getD card 5 0)
@@ -57,7 +53,7 @@ module _ (t : List ℕ) (row : ℕ) (card : List ℕ) (d : Deck t) (g : Change t
     where
       new : addsP (put t row card) row i j ≡ spread 3 (shapeAt t row .corners) (mass (u (stepOf t) (with t (shapeAt t row) (getD card 4 0) (getD card 5 0)))) i j
       new =
-          E-adds-P (put t row card) row i j (still e)
+          E-adds-P (put t row card) row i j (still t row card d g e)
           ∙ (λ k. spread 3 (shape-same t row card d g row (g .inside) e k .corners) (mass (u (step-same t row card d g k) (new-form e k))) i j)
 
   pub E-moves-A : Is E t row → (i j : ℕ) → addsA (put t row card) row i j -ℤ addsA t row i j
@@ -68,7 +64,7 @@ module _ (t : List ℕ) (row : ℕ) (card : List ℕ) (d : Deck t) (g : Change t
     where
       new : addsA (put t row card) row i j ≡ spread 3 (shapeAt t row .corners) (stiff (stepOf t) (with t (shapeAt t row) (getD card 4 0) (getD card 5 0))) i j
       new =
-          E-adds-A (put t row card) row i j (still e)
+          E-adds-A (put t row card) row i j (still t row card d g e)
           ∙ (λ k. spread 3 (shape-same t row card d g row (g .inside) e k .corners) (stiff (step-same t row card d g k) (new-form e k)) i j)
 
   -- ---- F
@@ -86,18 +82,6 @@ module _ (t : List ℕ) (row : ℕ) (card : List ℕ) (d : Deck t) (g : Change t
       new =
           F-adds-A (put t row card) row i j (letter-same t row card d g row ∙ e)
           ∙ (λ k. spread 3 (named-same t row card d g row (g .inside) e k .corners) (mass (v (here t row card d g 2 (omega arith) k) (named-same t row card d g row (g .inside) e k))) i j)
-
-  -- ---- the slices
-
-  pub moved-P : (ns : List ℕ) (q : ℕ → ℕ → ℤ) (p : List ℤ) → ((i j : ℕ) → addsP (put t row card) row i j -ℤ addsP t row i j ≡ spread 3 ns q i j)
-      → movedP t p row card ≡ lower (nodes t) (λ i j. entry p i j +ℤ spread 3 ns q i j)
-  unfolding moved
-  moved-P ns q p h = lower-ext (nodes t) _ _ (λ i j a b. ap (λ (z : ℤ). entry p i j +ℤ z) (h i j))
-
-  pub moved-A : (ns : List ℕ) (q : ℕ → ℕ → ℤ) (a : List ℤ) → ((i j : ℕ) → addsA (put t row card) row i j -ℤ addsA t row i j ≡ spread 3 ns q i j)
-      → movedA t a row card ≡ lower (nodes t) (λ i j. entry a i j +ℤ spread 3 ns q i j)
-  unfolding moved
-  moved-A ns q a h = lower-ext (nodes t) _ _ (λ i j l k. ap (λ (z : ℤ). entry a i j +ℤ z) (h i j))
 
   -- no node is fixed or freed
   pub cleared-still : (xs : List ℤ) → lower (nodes t) (cleared (fixed (put t row card)) (entry xs)) ≡ lower (nodes t) (cleared (fixed t) (entry xs))

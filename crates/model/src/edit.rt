@@ -10,7 +10,7 @@ ghost use Rattle.paper.specs.declared.Kind.the-variants.{E, F};
 ghost use Rattle.paper.proofs.Decks.{Is};
 ghost use Rattle.triangle.specs.Forms.{triangleOf, squareOf};
 ghost use Rattle.packed.specs.Forms.{numbers};
-ghost use Rattle.model.specs.Asks.{Renews, renewed, elementEdit, capacityEdit, filmEdit, lowest};
+ghost use Rattle.model.specs.Asks.{Stirring, Renews, renewed, elementEdit, capacityEdit, filmEdit, lowest};
 
 fn less(a: Node, b: Node) -> Node
     ensures { λ r. ⌜ r .0 ≡ min (a .0) (b .0) ⌝ }
@@ -28,8 +28,8 @@ pub fn least(c: [Node; 3]) -> usize
 }
 
 // An element's shape with the new card's material and thickness.
-fn renewed(table: &[u32], row: usize, new: [u32; 6]) -> Triangle
-    requires { ⌜ Renews (now table) row new × Is E (now table) row ⌝ }
+pub fn renewed(table: &[u32], row: usize, new: [u32; 6]) -> Triangle
+    requires { ⌜ Stirring (now table) row new × Is E (now table) row ⌝ }
     ensures { λ r. ⌜ triangleOf r ≡ renewed (now (table .entry)) row new ⌝ }
 {
     let s = element::shape_at(table, row);

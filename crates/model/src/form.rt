@@ -1,7 +1,6 @@
 // Refusals 5 and 6 of the element that a new E or F card makes: judged before anything is written.
 use paper::Answer;
 use paper::Element;
-use paper::Material;
 ghost use mathlib.Core.Path.{_≡_};
 ghost use Rattle.paper.specs.Cards.{put};
 ghost use Rattle.paper.specs.Triangle.{elementJudged};
@@ -16,8 +15,7 @@ fn judge_new_element(table: &[u32], row: usize, new: [u32; 6]) -> Answer
     ensures { λ r. ⌜ r ≡ elementJudged (put (now (table .entry)) row new) (elementOf (put (now (table .entry)) row new) row) ⌝ }
 {
     let number = row - element::element_row(table, Element(0));
-    let shape = element::shape_at(table, row);
-    let it = element::with_material(table, shape, Material(new[4] as u8), new[5]);
+    let it = crate::edit::renewed(table, row, new);
     triangle::judge(it, element::field(table, 0, 1), Element(number as u8))
 }
 

@@ -41,7 +41,7 @@ fn factored(table: &[u32], work: &mut [i64]) -> Answer
 {
     prepare(table, &mut work[..]);
     if let Answer::Refused(r) = factor::factor(&mut work[..], 0, element::nodes(table)) {
-        packed::zero(&mut work[..]);
+        whole::slices::fill(&mut work[..], 0);
         return Answer::Refused(r);
     }
     Answer::Done
@@ -54,8 +54,8 @@ fn hand_over(rows: &mut [i64], work: &mut [i64], start: usize)
     ensures { λ _. ⌜ now (work .exit) ≡ replicate (length (now (work .entry))) (pos 0) ⌝ }
 {
     let end = work.len();
-    packed::copy(&work[start..end], &mut rows[..]);
-    packed::zero(&mut work[..]);
+    whole::slices::copy(&work[start..end], &mut rows[..]);
+    whole::slices::fill(&mut work[..], 0);
 }
 
 // A sound deck on slices of the matrix length: nothing but the work slice is written before the factor is sure.

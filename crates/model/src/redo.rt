@@ -18,7 +18,7 @@ fn change(table: &[u32], a: &[i64], work: &mut [i64], c: [Node; 3], q: [[i64; 3]
     requires { ⌜ Edits (now table) (now a) (now work) (numbers c) q ⌝ }
     ensures { λ _. ⌜ now (work .exit) ≡ addedFixed (now (table .entry)) (now (a .entry)) (numbers c) q ⌝ }
 {
-    packed::copy(a, &mut work[..]);
+    whole::slices::copy(a, &mut work[..]);
     packed::add_square(&mut work[..], c, q);
     packed::clear_fixed(table, &mut work[..]);
 }
@@ -38,7 +38,7 @@ fn lay(
 {
     change(table, a, &mut work[..], c, q);
     let s = whole::start(m);
-    packed::copy(&factor[0..s], &mut work[0..s]);
+    whole::slices::copy(&factor[0..s], &mut work[0..s]);
 }
 
 // The factor from row m on in the work slice; zeros where it is refused.
@@ -56,7 +56,7 @@ fn refactored(
 {
     lay(table, a, factor, &mut work[..], c, q, m);
     if let Answer::Refused(r) = factor::factor(&mut work[..], m, element::nodes(table)) {
-        packed::zero(&mut work[..]);
+        whole::slices::fill(&mut work[..], 0);
         return Answer::Refused(r);
     }
     Answer::Done

@@ -1,5 +1,5 @@
 -- Laws of packed slices: a square added, the cards in turn, a node cleared.
-mod Adding
+pub mod Adding
 pub mod Squares
 mod Assembling
 mod Clearing

@@ -24,29 +24,6 @@ const F: u32 = 70;
 
 const T: u32 = 84;
 
-// ---- whole slices
-
-pub fn zero(xs: &mut [i64])
-    ensures { λ _. ⌜ now (xs .exit) ≡ replicate (length (now (xs .entry))) (pos 0) ⌝ }
-{
-    let mut k = 0;
-    while k < xs.len() {
-        xs[k] = 0;
-        k += 1;
-    }
-}
-
-pub fn copy(from: &[i64], to: &mut [i64])
-    requires { ⌜ length (now to) ≡ length (now from) ⌝ }
-    ensures { λ _. ⌜ now (to .exit) ≡ now (from .entry) ⌝ }
-{
-    let mut k = 0;
-    while k < from.len() {
-        to[k] = from[k];
-        k += 1;
-    }
-}
-
 // ---- places
 
 fn place(i: usize, j: usize) -> usize
@@ -178,8 +155,8 @@ pub fn assemble(table: &[u32], p: &mut [i64], a: &mut [i64])
     ensures { λ _. ⌜ now (p .exit) ≡ lower (nodes (now (table .entry))) (matrices.P (now (table .entry))) ⌝ }
     ensures { λ _. ⌜ now (a .exit) ≡ lower (nodes (now (table .entry))) (matrices.A (now (table .entry))) ⌝ }
 {
-    zero(p);
-    zero(a);
+    whole::slices::fill(p, 0);
+    whole::slices::fill(a, 0);
     let mut row = 0;
     while row * 6 < table.len() {
         add_card(table, row, p, a);
@@ -192,7 +169,7 @@ pub fn assemble_a(table: &[u32], xs: &mut [i64])
     requires { ⌜ Sound (now table) × (length (now xs) ≡ tri (nodes (now table))) ⌝ }
     ensures { λ _. ⌜ now (xs .exit) ≡ lower (nodes (now (table .entry))) (matrices.A (now (table .entry))) ⌝ }
 {
-    zero(xs);
+    whole::slices::fill(xs, 0);
     let mut row = 0;
     while row * 6 < table.len() {
         add_to_a(table, row, xs);

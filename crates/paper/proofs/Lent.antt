@@ -1,20 +1,22 @@
--- A deck's own slices pass refusal 10.
+-- What refusal 10 passes: finished rows, and a deck's own slices.
 use mathlib.Core.Path.{_≡_, ap, _∙_}
-use mathlib.Core.Bool.{false, not}
+use mathlib.Core.Bool.{Bool, false, not}
 use mathlib.Core.List.{List}
 use Prim.Native.Nat.{ℕ, _+_, _^_, _≤_, _<_}
 use native.Mathlib.Omega.{arith}
-use borrow.Author.Tests.{le-leb}
-use lib.IntN.{ℤ, natAbs}
-use Rattle.whole.specs.Sums.{sumN}
+use borrow.Author.Tests.{le-leb, leb-true, not-false}
+use lib.IntN.{ℤ, pos, natAbs}
+use lib.Signed.{leZ}
+use Rattle.whole.specs.Sums.{sumN, any}
 use Rattle.whole.specs.Packed.{tri, cell, lower, entry}
-use Rattle.whole.proofs.Sums.{sumN-ext, any-none}
+use Rattle.whole.proofs.Sums.{sumN-ext, any-none, any-each}
+use Rattle.whole.proofs.Tests.{and-told, nor-told}
 use Rattle.whole.proofs.Packed.{lower-both, length-lower}
 use Rattle.paper.specs.Cards.{rows, nodes}
 use Rattle.paper.specs.Matrices.{P, A}
 use Rattle.paper.specs.Factor.{small, rowsFrom}
 use Rattle.paper.specs.Building.{Slices}
-use Rattle.paper.specs.Lent.{rowSize, heavy, badRow, noFactor, foreign}
+use Rattle.paper.specs.Lent.{rowSize, heavy, pivot, badRow, noFactor, foreign}
 use Rattle.paper.proofs.Outcomes.{ends-done}
 use Rattle.paper.proofs.Decks.{Deck}
 use Rattle.paper.proofs.Assembled.{P-symmetric, A-symmetric}
@@ -39,6 +41,23 @@ firm n xs f =
       f .diag i l .least,
       le-leb (natAbs (cell xs (tri i + i))) (2 ^ 38) (f .diag i l .size),
     ))
+
+-- and what it tells
+pub passed : (xs : List ℤ) (m : ℕ) → noFactor m xs ≡ false → Fin xs m 0
+unfolding noFactor badRow
+passed xs m e = record {
+  lows = λ i k h l. leb-true _ _ (not-false (small 24 (cell xs (tri i + k))) (any-each i (large i) (row i h .0) k l));
+  diag = λ i h.
+      let (least, size) = and-told (leZ (pos 16) (cell xs (tri i + i))) (small 38 (cell xs (tri i + i))) (not-false _ (row i h .1)) in
+      record { least = least; size = leb-true _ _ size };
+  row = λ k h. absurd (omega arith);
+}
+  where
+    large : ℕ → ℕ → Bool
+    large i k = not (small 24 (cell xs (tri i + k)))
+
+    row : (i : ℕ) → i < m → (any i (large i) ≡ false) × (not (pivot (cell xs (tri i + i))) ≡ false)
+    row i h = nor-told (any i (large i)) (not (pivot (cell xs (tri i + i)))) (any-each m (badRow xs) e i h)
 
 -- THEOREM. What a build of an accepted deck gives is never refused by 10.
 pub own-pass : (t : List ℕ) (s : Slices) → Deck t → Own t s → foreign (nodes t) s ≡ false

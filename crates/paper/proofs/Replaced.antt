@@ -91,11 +91,11 @@ pub record Touch (t : List ℕ) (c : ℕ) (card : List ℕ) : Type 0 where
   pub old0 : (i j : ℕ) → i < least t c card → addsA t c i j ≡ pos 0
 
 module _ (t : List ℕ) (c : ℕ) (card : List ℕ) (d : Deck t) (g : Change t c card) where
-  element-E : Is E t c → elementOf (put t c card) c ≡ c - (nodes t + materials t)
+  pub element-E : Is E t c → elementOf (put t c card) c ≡ c - (nodes t + materials t)
   unfolding elementOf
   element-E e = rw (letter-same t c card d g c, e, nodes-same t c card d g, materials-same t c card d g)
 
-  element-F : Is F t c → elementOf (put t c card) c ≡ field t c 1
+  pub element-F : Is F t c → elementOf (put t c card) c ≡ field t c 1
   unfolding elementOf
   element-F e = rw (letter-same t c card d g c, e, key-same t c card d g c)
 

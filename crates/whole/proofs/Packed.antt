@@ -1,5 +1,5 @@
 -- Laws of the packed triangle: its places, and a slice as the rows of a function.
-use mathlib.Core.Path.{_≡_, refl, sym, ap, _∙_}
+use mathlib.Core.Path.{_≡_, refl, sym, ap, subst, _∙_}
 use mathlib.Core.Bool.{Bool, true, false, cond, _&&_, _||_}
 use mathlib.Core.Logic.{_⊎_, inl, inr, ⊎-elim}
 use mathlib.Core.List.{List, [], _++_}
@@ -239,3 +239,16 @@ pub lower-size : (n b : ℕ) (f : ℕ → ℕ → ℤ) → ((i j : ℕ) → natA
 unfolding lower
 lower-size zero b f h k = omega arith
 lower-size (suc n) b f h k = append-size (lower n f) (table (suc n) (f n)) b (lower-size n b f h) (table-size (suc n) b (f n) (h n)) k
+
+-- a packed triangle is as small as its entries on and below the diagonal
+pub lower-within : (n b : ℕ) (f : ℕ → ℕ → ℤ) → ((i j : ℕ) → i < n → j ≤ i → natAbs (f i j) ≤ b) → (k : ℕ) → natAbs (cell (lower n f) k) ≤ b
+lower-within n b f h k =
+    subst (λ (z : List ℤ). natAbs (cell z k) ≤ b) (lower-ext n cut f (λ i j l m. rw (le-leb (suc i) n (omega arith), le-leb j i m))) (lower-size n b cut (λ i j. size i j (leb (suc i) n) (leb j i) refl refl) k)
+  where
+    cut : ℕ → ℕ → ℤ
+    cut i j = cond (leb (suc i) n) (cond (leb j i) (f i j) (pos 0)) (pos 0)
+
+    size : (i j : ℕ) (x y : Bool) → leb (suc i) n ≡ x → leb j i ≡ y → natAbs (cond x (cond y (f i j) (pos 0)) (pos 0)) ≤ b
+    size i j true true p q = h i j (omega (arith, leb-true (suc i) n p)) (leb-true j i q)
+    size i j true false p q = omega arith
+    size i j false y p q = omega arith

@@ -1,4 +1,6 @@
-// Whole numbers: sizes, signs, division to the nearest, halves away from zero; and places in a packed triangle.
+// Whole numbers: sizes, signs, division to the nearest, halves away from zero; places in a packed triangle, and slices.
+pub mod slices;
+
 ghost use mathlib.Core.Path.{_≡_};
 ghost use Prim.Native.Nat.{ℕ, _+_, _*_, _^_, _<_, _≤_};
 ghost use lib.IntN.{ℤ, pos, natAbs, _+ℤ_, _-ℤ_, _*ℤ_};

@@ -16,7 +16,7 @@ use Rattle.paper.specs.declared.Answer.{Answer}
 use Rattle.paper.specs.declared.Answer.the-variants.{Done, Refused}
 use Rattle.paper.specs.declared.Refusal.{Refusal}
 use Rattle.factor.specs.Asks.{Fresh, Row, RowDone}
-use Rattle.factor.proofs.Finished.{passed}
+use Rattle.paper.proofs.Lent.{passed}
 use Rattle.factor.proofs.rows.Statement.{statement}
 use Rattle.factor.proofs.rows.Tie as tie
 

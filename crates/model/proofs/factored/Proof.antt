@@ -29,8 +29,8 @@ factor-requires c κs =
 enum-known-r : tie.Need-enum-known-r
 enum-known-r c = search needs
 
-zero-requires : tie.Need-zero-requires
-zero-requires c κs = search needs
+fill-requires : tie.Need-fill-requires
+fill-requires c κs = search needs
 
 same-length : tie.Need-same-length
 same-length c = search needs
@@ -39,9 +39,9 @@ returns : tie.Need-returns
 returns c =
     let t = c .before .before .before .before .before .before .before .before .before .before .before .before .before .before .args .table .now in
     let ys = c .before .before .before .before .before .before .before .factor .last .0 in
-    factored-refused (factorOf t) (c .before .before .before .before .r .given .0 .0) (tri (nodes t)) ys (c .before .zero .last .0)
+    factored-refused (factorOf t) (c .before .before .before .before .r .given .0 .0) (tri (nodes t)) ys (c .before .fill .last .0)
     ((λ d. after (sym (c .before .before .before .before .r .given .1) d) (done ys)) ∙ c .before .before .before .before .before .before .before .factor .ensures ∙ factor-is t (c .before .before .before .before .before .before .before .before .nodes .result) (c .before .before .before .before .before .before .before .before .before .before .before .prepare .last .1 .0) (c .before .before .before .before .before .before .before .before .nodes .ensures) (c .before .before .before .before .before .before .before .before .before .before .before .prepare .ensures))
-    (c .before .zero .ensures ∙ ap (λ (k : ℕ). replicate k (pos 0)) (c .before .before .before .before .before .before .before .factor .kept .0 ∙ ap length (c .before .before .before .before .before .before .before .before .before .before .before .prepare .ensures) ∙ length-lower _ _))
+    (c .before .fill .ensures ∙ ap (λ (k : ℕ). replicate k (pos 0)) (c .before .before .before .before .before .before .before .factor .kept .0 ∙ ap length (c .before .before .before .before .before .before .before .before .before .before .before .prepare .ensures) ∙ length-lower _ _))
 
 enum-told : tie.Need-enum-told
 enum-told c = search needs
@@ -64,7 +64,7 @@ factored-spec =
     nodes-requires
     factor-requires
     enum-known-r
-    zero-requires
+    fill-requires
     same-length
     returns
     enum-told

@@ -20,8 +20,8 @@ part-copy-end c = search needs
 copy-requires : tie.Need-copy-requires
 copy-requires c κs = search needs
 
-zero-requires : tie.Need-zero-requires
-zero-requires c κs = search needs
+fill-requires : tie.Need-fill-requires
+fill-requires c κs = search needs
 
 same-length : tie.Need-same-length
 same-length c = search needs
@@ -41,7 +41,7 @@ hand-over-spec =
     part-copy-start
     part-copy-end
     copy-requires
-    zero-requires
+    fill-requires
     same-length
     same-length-2
     returns)

@@ -17,16 +17,16 @@ Inv-loop table p₀ a₀ row₀ p a row = (row ≤ rows table) × (p ≡ partly 
 abbrev μ-loop : tie.MeasureT-loop
 μ-loop table p₀ a₀ row₀ p a row = rows table - row
 
-zero-requires : tie.Need-zero-requires Inv-loop μ-loop
-zero-requires c κs = search needs
+fill-requires : tie.Need-fill-requires Inv-loop μ-loop
+fill-requires c κs = search needs
 
-zero-requires-2 : tie.Need-zero-requires-2 Inv-loop μ-loop
-zero-requires-2 c κs = search needs
+fill-requires-2 : tie.Need-fill-requires-2 Inv-loop μ-loop
+fill-requires-2 c κs = search needs
 
 loop-holds : tie.Need-loop-holds Inv-loop μ-loop
 loop-holds c =
     let t = c .before .before .before .before .before .before .before .args .table .now in
-    (omega arith, walk-none (nodes t) (addsP t) (c .before .before .before .before .before .before .before .args .p .now) (c .before .before .before .before .zero .last .0) (c .before .before .before .before .before .before .before .pre .1) (c .before .before .before .before .zero .ensures), walk-none (nodes t) (addsA t) (c .before .before .before .before .before .before .before .args .a .now) (c .before .zero2 .last .0) (c .before .before .before .before .before .before .before .pre .2) (c .before .zero2 .ensures))
+    (omega arith, walk-none (nodes t) (addsP t) (c .before .before .before .before .before .before .before .args .p .now) (c .before .before .before .before .fill .last .0) (c .before .before .before .before .before .before .before .pre .1) (c .before .before .before .before .fill .ensures), walk-none (nodes t) (addsA t) (c .before .before .before .before .before .before .before .args .a .now) (c .before .fill2 .last .0) (c .before .before .before .before .before .before .before .pre .2) (c .before .fill2 .ensures))
 
 mul-loop : tie.Need-mul-loop Inv-loop μ-loop
 mul-loop c = omega (arith, c .loop .inv .0, c .before .before .before .before .before .before .before .before .pre .0 .deck .few)
@@ -70,8 +70,8 @@ assemble-spec =
     (tie.spec
     Inv-loop
     μ-loop
-    zero-requires
-    zero-requires-2
+    fill-requires
+    fill-requires-2
     loop-holds
     mul-loop
     add-card-requires

@@ -18,13 +18,13 @@ Inv-loop table xs₀ row₀ xs row = (row ≤ rows table) × (xs ≡ partly (nod
 abbrev μ-loop : tie.MeasureT-loop
 μ-loop table xs₀ row₀ xs row = rows table - row
 
-zero-requires : tie.Need-zero-requires Inv-loop μ-loop
-zero-requires c κs = search needs
+fill-requires : tie.Need-fill-requires Inv-loop μ-loop
+fill-requires c κs = search needs
 
 loop-holds : tie.Need-loop-holds Inv-loop μ-loop
 loop-holds c =
     let t = c .before .before .before .before .args .table .now in
-    (omega arith, walk-none (nodes t) (addsA t) (c .before .before .before .before .args .xs .now) (c .before .zero .last .0) (c .before .before .before .before .pre .1) (c .before .zero .ensures))
+    (omega arith, walk-none (nodes t) (addsA t) (c .before .before .before .before .args .xs .now) (c .before .fill .last .0) (c .before .before .before .before .pre .1) (c .before .fill .ensures))
 
 mul-loop : tie.Need-mul-loop Inv-loop μ-loop
 mul-loop c = omega (arith, c .loop .inv .0, c .before .before .before .before .before .pre .0 .deck .few)
@@ -60,7 +60,7 @@ assemble-a-spec =
     (tie.spec
     Inv-loop
     μ-loop
-    zero-requires
+    fill-requires
     loop-holds
     mul-loop
     add-to-a-requires

@@ -2,7 +2,7 @@ use borrow.Author.Needs.{needs}
 use Rattle.model.proofs.edit.least.Statement.{statement}
 use Rattle.model.proofs.edit.least.Tie as tie
 use native.Mathlib.Omega.{arith}
-use Rattle.model.proofs.Editing.{number-at}
+use Rattle.packed.proofs.Adding.{nth-is}
 
 array-copy-out-less : tie.Need-array-copy-out-less
 array-copy-out-less c = search needs
@@ -23,10 +23,10 @@ cast-result : tie.Need-cast-result
 cast-result c = search needs
 
 sub-result : tie.Need-sub-result
-sub-result c = omega (arith, c .before .less2 .ensures, c .before .before .less .ensures, c .before .before .before .before .before .before .pre, number-at (c .before .before .before .before .before .before .args .t1) 0, number-at (c .before .before .before .before .before .before .args .t1) 1, number-at (c .before .before .before .before .before .before .args .t1) 2)
+sub-result c = omega (arith, c .before .less2 .ensures, c .before .before .less .ensures, c .before .before .before .before .before .before .pre, nth-is (c .before .before .before .before .before .before .args .t1) 0, nth-is (c .before .before .before .before .before .before .args .t1) 1, nth-is (c .before .before .before .before .before .before .args .t1) 2)
 
 returns : tie.Need-returns
-returns c = omega (arith, c .before .less2 .ensures, c .before .before .less .ensures, number-at (c .before .before .before .before .before .before .args .t1) 0, number-at (c .before .before .before .before .before .before .args .t1) 1, number-at (c .before .before .before .before .before .before .args .t1) 2)
+returns c = omega (arith, c .before .less2 .ensures, c .before .before .less .ensures, nth-is (c .before .before .before .before .before .before .args .t1) 0, nth-is (c .before .before .before .before .before .before .args .t1) 1, nth-is (c .before .before .before .before .before .before .args .t1) 2)
 
 pub least-spec : {M : Type 1} → statement M
 least-spec =

@@ -10,7 +10,9 @@ use Rattle.triangle.specs.Forms.{squareOf}
 use Rattle.triangle.specs.Asks.{Sized, Step}
 use Rattle.element.proofs.Ranges.{step-of}
 use Rattle.model.specs.Asks.{renewed}
-use Rattle.model.proofs.Editing.{sized-old, sized-new, old-mass, new-mass, small-edit, edit-square}
+use Rattle.model.proofs.Editing.{sized-old, old-mass, new-mass, small-edit, edit-square}
+use Rattle.model.proofs.NewCard.{sized-new}
+use Rattle.model.proofs.Forming.{stirring}
 
 field-requires : tie.Need-field-requires
 field-requires c κs = search needs
@@ -23,11 +25,11 @@ capacity-square-requires c κs =
     (subst Sized (sym (c .triangle-at .ensures)) (sized-old (c .before .before .before .args .table .now) (c .before .before .before .args .row) (c .before .before .before .args .new) (c .before .before .before .pre .0) (c .before .before .before .pre .1)), subst Step (sym (c .before .field .ensures)) (step-of (c .before .before .before .args .table .now) (c .before .before .before .pre .0 .deck)))
 
 renewed-requires : tie.Need-renewed-requires
-renewed-requires c κs = search needs
+renewed-requires c κs = (stirring (c .before .before .before .before .pre .0) (c .before .before .before .before .pre .1), c .before .before .before .before .pre .1)
 
 capacity-square-requires-2 : tie.Need-capacity-square-requires-2
 capacity-square-requires-2 c κs =
-    (subst Sized (sym (c .renewed .ensures)) (sized-new (c .before .before .before .before .before .args .table .now) (c .before .before .before .before .before .args .row) (c .before .before .before .before .before .args .new) (c .before .before .before .before .before .pre .0) (c .before .before .before .before .before .pre .1)), subst Step (sym (c .before .before .before .field .ensures)) (step-of (c .before .before .before .before .before .args .table .now) (c .before .before .before .before .before .pre .0 .deck)))
+    (subst Sized (sym (c .renewed .ensures)) (sized-new (c .before .before .before .before .before .args .table .now) (c .before .before .before .before .before .args .row) (c .before .before .before .before .before .args .new) (c .before .before .before .before .before .pre .0 .deck) (c .before .before .before .before .before .pre .0 .change) (c .before .before .before .before .before .pre .1) (c .before .before .before .before .before .pre .0 .deck′)), subst Step (sym (c .before .before .before .field .ensures)) (step-of (c .before .before .before .before .before .args .table .now) (c .before .before .before .before .before .pre .0 .deck)))
 
 minus-requires : tie.Need-minus-requires
 minus-requires c κs =

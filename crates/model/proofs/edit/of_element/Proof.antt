@@ -11,7 +11,9 @@ use Rattle.triangle.specs.Forms.{squareOf}
 use Rattle.triangle.specs.Asks.{Sized, Step}
 use Rattle.element.proofs.Ranges.{step-of}
 use Rattle.model.specs.Asks.{renewed}
-use Rattle.model.proofs.Editing.{sized-old, area-old, sized-new, area-new, old-size, new-size, small-edit, edit-square}
+use Rattle.model.proofs.Editing.{sized-old, area-old, area-new, old-size, new-size, small-edit, edit-square}
+use Rattle.model.proofs.NewCard.{sized-new}
+use Rattle.model.proofs.Forming.{stirring}
 
 field-requires : tie.Need-field-requires
 field-requires c κs = search needs
@@ -27,11 +29,11 @@ element-square-requires c κs = (
 )
 
 renewed-requires : tie.Need-renewed-requires
-renewed-requires c κs = search needs
+renewed-requires c κs = (stirring (c .before .before .before .before .pre .0) (c .before .before .before .before .pre .1), c .before .before .before .before .pre .1)
 
 element-square-requires-2 : tie.Need-element-square-requires-2
 element-square-requires-2 c κs = (
-  subst Sized (sym (c .renewed .ensures)) (sized-new (c .before .before .before .before .before .args .table .now) (c .before .before .before .before .before .args .row) (c .before .before .before .before .before .args .new) (c .before .before .before .before .before .pre .0) (c .before .before .before .before .before .pre .1)),
+  subst Sized (sym (c .renewed .ensures)) (sized-new (c .before .before .before .before .before .args .table .now) (c .before .before .before .before .before .args .row) (c .before .before .before .before .before .args .new) (c .before .before .before .before .before .pre .0 .deck) (c .before .before .before .before .before .pre .0 .change) (c .before .before .before .before .before .pre .1) (c .before .before .before .before .before .pre .0 .deck′)),
   subst (λ (e : paper.Triangle). 1 ≤ paper.S (e .shape)) (sym (c .renewed .ensures)) (area-new (c .before .before .before .before .before .args .table .now) (c .before .before .before .before .before .args .row) (c .before .before .before .before .before .args .new) (c .before .before .before .before .before .pre .0) (c .before .before .before .before .before .pre .1)),
   subst Step (sym (c .before .before .before .field .ensures)) (step-of (c .before .before .before .before .before .args .table .now) (c .before .before .before .before .before .pre .0 .deck)),
 )

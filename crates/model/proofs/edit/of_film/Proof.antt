@@ -12,7 +12,8 @@ use Rattle.triangle.specs.Forms.{shapeOf, squareOf}
 use Rattle.triangle.specs.Asks.{Placed}
 use Rattle.element.specs.Asks.{ElementCard}
 use Rattle.element.proofs.Ranges.{placed-at}
-use Rattle.model.proofs.Editing.{card-F, film-new, film-old, film-size, small-edit, edit-square}
+use Rattle.model.proofs.NewCard.{card-F}
+use Rattle.model.proofs.Editing.{film-new, film-old, film-size, small-edit, edit-square}
 
 field-requires : tie.Need-field-requires
 field-requires c κs = search needs
@@ -24,7 +25,7 @@ element-row-requires : tie.Need-element-row-requires
 element-row-requires c κs = search needs
 
 shape-at-requires : tie.Need-shape-at-requires
-shape-at-requires c κs = subst (ElementCard (c .before .before .before .args .table .now)) (sym (c .element-row .ensures ∙ ap (elementRow (c .before .before .before .args .table .now)) (c .before .field .ensures))) (card-F (c .before .before .before .args .table .now) (c .before .before .before .args .row) (c .before .before .before .args .t3) (c .before .before .before .pre .0) (c .before .before .before .pre .1))
+shape-at-requires c κs = subst (ElementCard (c .before .before .before .args .table .now)) (sym (c .element-row .ensures ∙ ap (elementRow (c .before .before .before .args .table .now)) (c .before .field .ensures))) (card-F (c .before .before .before .args .table .now) (c .before .before .before .args .row) (c .before .before .before .args .t3) (c .before .before .before .pre .0 .deck) (c .before .before .before .pre .0 .change) (c .before .before .before .pre .1))
 
 field-requires-2 : tie.Need-field-requires-2
 field-requires-2 c κs = search needs
@@ -33,7 +34,7 @@ film-square-requires : tie.Need-film-square-requires
 film-square-requires c κs =
     let t = c .before .before .before .before .before .args .table .now in
     let s : shapeOf (c .before .shape-at .result) ≡ named t (c .before .before .before .before .before .args .row) = c .before .shape-at .ensures ∙ ap (paper.shapeAt t) (c .before .before .element-row .ensures ∙ ap (elementRow t) (c .before .before .before .field .ensures)) in
-    (subst Placed (sym s) (placed-at t (elementRow t (field t (c .before .before .before .before .before .args .row) 1)) (card-F t (c .before .before .before .before .before .args .row) (c .before .before .before .before .before .args .t3) (c .before .before .before .before .before .pre .0) (c .before .before .before .before .before .pre .1))), omega (arith, c .field2 .ensures, film-old t (c .before .before .before .before .before .args .row) (c .before .before .before .before .before .args .t3) (c .before .before .before .before .before .pre .0) (c .before .before .before .before .before .pre .1)))
+    (subst Placed (sym s) (placed-at t (elementRow t (field t (c .before .before .before .before .before .args .row) 1)) (card-F t (c .before .before .before .before .before .args .row) (c .before .before .before .before .before .args .t3) (c .before .before .before .before .before .pre .0 .deck) (c .before .before .before .before .before .pre .0 .change) (c .before .before .before .before .before .pre .1))), omega (arith, c .field2 .ensures, film-old t (c .before .before .before .before .before .args .row) (c .before .before .before .before .before .args .t3) (c .before .before .before .before .before .pre .0) (c .before .before .before .before .before .pre .1)))
 
 array-read-film-square : tie.Need-array-read-film-square
 array-read-film-square c = search needs
@@ -42,7 +43,7 @@ film-square-requires-2 : tie.Need-film-square-requires-2
 film-square-requires-2 c κs =
     let t = c .before .before .before .before .before .before .args .table .now in
     let s : shapeOf (c .before .before .shape-at .result) ≡ named t (c .before .before .before .before .before .before .args .row) = c .before .before .shape-at .ensures ∙ ap (paper.shapeAt t) (c .before .before .before .element-row .ensures ∙ ap (elementRow t) (c .before .before .before .before .field .ensures)) in
-    (subst Placed (sym s) (placed-at t (elementRow t (field t (c .before .before .before .before .before .before .args .row) 1)) (card-F t (c .before .before .before .before .before .before .args .row) (c .before .before .before .before .before .before .args .t3) (c .before .before .before .before .before .before .pre .0) (c .before .before .before .before .before .before .pre .1))), film-new t (c .before .before .before .before .before .before .args .row) (c .before .before .before .before .before .before .args .t3) (c .before .before .before .before .before .before .pre .0) (c .before .before .before .before .before .before .pre .1))
+    (subst Placed (sym s) (placed-at t (elementRow t (field t (c .before .before .before .before .before .before .args .row) 1)) (card-F t (c .before .before .before .before .before .before .args .row) (c .before .before .before .before .before .before .args .t3) (c .before .before .before .before .before .before .pre .0 .deck) (c .before .before .before .before .before .before .pre .0 .change) (c .before .before .before .before .before .before .pre .1))), film-new t (c .before .before .before .before .before .before .args .row) (c .before .before .before .before .before .before .args .t3) (c .before .before .before .before .before .before .pre .0) (c .before .before .before .before .before .before .pre .1))
 
 minus-requires : tie.Need-minus-requires
 minus-requires c κs =

@@ -2,10 +2,10 @@ use borrow.Author.Needs.{needs}
 use Rattle.model.proofs.redo.redo_element.Statement.{statement}
 use Rattle.model.proofs.redo.redo_element.Tie as tie
 use mathlib.Core.Path.{sym, ap, _∙_}
+use Rattle.paper.specs.Cards.{nodes}
 use Rattle.paper.specs.Triangle.{Shape}
 use Rattle.paper.proofs.Changed.{room}
-use Rattle.packed.specs.Forms.{numbers}
-use Rattle.model.proofs.Editing.{renews, card-E, back-E, counted, asks-E, refused-E, asks-P, done-E}
+use Rattle.model.proofs.Editing.{renews, element-edit, capacity-edit, counted, added-is, asks, refused-edit, asks-P, done-edit}
 
 shape-at-requires : tie.Need-shape-at-requires
 shape-at-requires c κs = search needs
@@ -19,12 +19,13 @@ of-capacity-requires c κs = search needs
 least-requires : tie.Need-least-requires
 least-requires c κs =
     let h = renews (c .before .before .before .before .before .before .before .before .pre .0) in
-    counted (c .before .before .before .before .before .before .before .before .args .table .now) (c .before .before .before .before .before .before .before .before .args .row) (c .before .before .before .before .before .before .before .before .args .new) h (c .before .before .before .before .before .before .before .before .args .row) (card-E (c .before .before .before .before .before .before .before .before .args .table .now) (c .before .before .before .before .before .before .before .before .args .row) (c .before .before .before .before .before .before .before .before .args .new) h (c .before .before .before .before .before .before .before .before .pre .1)) (back-E (c .before .before .before .before .before .before .before .before .args .table .now) (c .before .before .before .before .before .before .before .before .args .row) (c .before .before .before .before .before .before .before .before .args .new) h (c .before .before .before .before .before .before .before .before .pre .1)) (numbers (c .before .before .before .before .before .shape-at .result .corners)) (ap (λ (s : Shape). s .corners) (c .before .before .before .before .before .shape-at .ensures))
+    counted h (element-edit h (c .before .before .before .before .before .shape-at .result .corners) (c .before .before .before .before .before .before .before .before .pre .1) (ap (λ (s : Shape). s .corners) (c .before .before .before .before .before .shape-at .ensures)) (c .before .before .of-element .ensures))
 
 redo-requires : tie.Need-redo-requires
 redo-requires c κs =
-    asks-E (c .before .before .before .before .before .before .before .before .before .before .before .before .before .args .table .now) (c .before .before .before .before .before .before .before .before .before .before .before .before .before .args .row) (c .before .before .before .before .before .before .before .before .before .before .before .before .before .args .new) (c .before .before .before .before .before .before .before .before .before .before .before .before .before .args .p .now) (c .before .before .before .before .before .before .before .before .before .before .before .before .before .args .a .now) (c .before .before .before .before .before .before .before .before .before .before .before .before .before .args .factor .now) (c .before .before .before .before .before .before .before .before .before .before .before .before .before .args .work .now) (c .before .before .before .before .before .before .before .before .before .before .before .before .before .pre .0) (c .before .before .before .before .before .before .before .before .before .before .shape-at .result .corners) (c .before .before .before .before .before .before .before .of-element .result) (c .before .before .before .before .least .result) (c .before .before .before .before .least .ensures)
-    (c .before .before .before .before .before .before .before .before .before .before .before .before .before .pre .1) (ap (λ (s : Shape). s .corners) (c .before .before .before .before .before .before .before .before .before .before .shape-at .ensures)) (c .before .before .before .before .before .before .before .of-element .ensures)
+    asks (c .before .before .before .before .before .before .before .before .before .before .before .before .before .pre .0)
+    (element-edit (renews (c .before .before .before .before .before .before .before .before .before .before .before .before .before .pre .0)) (c .before .before .before .before .before .before .before .before .before .before .shape-at .result .corners) (c .before .before .before .before .before .before .before .before .before .before .before .before .before .pre .1) (ap (λ (s : Shape). s .corners) (c .before .before .before .before .before .before .before .before .before .before .shape-at .ensures)) (c .before .before .before .before .before .before .before .of-element .ensures))
+    (c .before .before .before .before .least .result) (c .before .before .before .before .least .ensures)
 
 enum-known-r : tie.Need-enum-known-r
 enum-known-r c = search needs
@@ -43,8 +44,9 @@ same-length-4 c = search needs
 
 returns : tie.Need-returns
 returns c =
-    refused-E (c .before .before .before .before .before .before .before .before .before .before .before .before .before .before .before .before .before .before .before .before .args .table .now) (c .before .before .before .before .before .before .before .before .before .before .before .before .before .before .before .before .before .before .before .before .args .row) (c .before .before .before .before .before .before .before .before .before .before .before .before .before .before .before .before .before .before .before .before .args .new) (c .before .before .before .before .before .before .before .before .before .before .before .before .before .before .before .before .before .before .before .before .args .p .now) (c .before .before .before .before .before .before .before .before .before .before .before .before .before .before .before .before .before .before .before .before .args .a .now) (c .before .before .before .before .before .before .before .before .before .before .before .before .before .before .before .before .before .before .before .before .args .factor .now) (c .before .before .before .before .before .before .before .before .before .before .before .before .before .before .before .before .before .before .before .before .args .work .now) (c .before .before .before .before .before .before .before .before .before .before .before .before .before .before .before .before .before .before .before .before .pre .0) (c .before .before .before .before .before .before .before .before .before .before .before .before .before .before .before .before .before .shape-at .result .corners) (c .before .before .before .before .before .before .before .before .before .before .before .before .before .before .of-element .result) (c .before .before .before .before .before .before .before .before .before .before .before .least .result) (c .before .before .before .before .before .before .before .before .before .before .before .least .ensures)
-    (c .before .before .before .before .before .before .before .before .before .before .before .before .before .before .before .before .before .before .before .before .pre .1) (ap (λ (s : Shape). s .corners) (c .before .before .before .before .before .before .before .before .before .before .before .before .before .before .before .before .before .shape-at .ensures)) (c .before .before .before .before .before .before .before .before .before .before .before .before .before .before .of-element .ensures)
+    refused-edit (c .before .before .before .before .before .before .before .before .before .before .before .before .before .before .before .before .before .before .before .before .pre .0)
+    (element-edit (renews (c .before .before .before .before .before .before .before .before .before .before .before .before .before .before .before .before .before .before .before .before .pre .0)) (c .before .before .before .before .before .before .before .before .before .before .before .before .before .before .before .before .before .shape-at .result .corners) (c .before .before .before .before .before .before .before .before .before .before .before .before .before .before .before .before .before .before .before .before .pre .1) (ap (λ (s : Shape). s .corners) (c .before .before .before .before .before .before .before .before .before .before .before .before .before .before .before .before .before .shape-at .ensures)) (c .before .before .before .before .before .before .before .before .before .before .before .before .before .before .of-element .ensures))
+    (c .before .before .before .before .before .before .before .before .before .before .before .least .result) (c .before .before .before .before .before .before .before .before .before .before .before .least .ensures)
     (c .before .r .given .0 .0) (c .before .before .before .before .before .before .redo .last .1 .0) (c .before .before .before .before .before .before .redo .last .1 .1 .0) (c .before .before .before .before .before .before .redo .last .1 .1 .1 .0) (sym (c .before .r .given .1) ∙ c .before .before .before .before .before .before .redo .ensures .0) (c .before .before .before .before .before .before .redo .ensures .1 .0) (c .before .before .before .before .before .before .redo .ensures .1 .1 .0) (c .before .before .before .before .before .before .redo .ensures .1 .1 .1)
 
 enum-told : tie.Need-enum-told
@@ -52,8 +54,7 @@ enum-told c = search needs
 
 add-square-requires : tie.Need-add-square-requires
 add-square-requires c κs =
-    asks-P (c .before .before .before .before .before .before .before .before .before .before .before .before .before .before .before .before .before .before .before .before .args .table .now) (c .before .before .before .before .before .before .before .before .before .before .before .before .before .before .before .before .before .before .before .before .args .row) (c .before .before .before .before .before .before .before .before .before .before .before .before .before .before .before .before .before .before .before .before .args .new) (c .before .before .before .before .before .before .before .before .before .before .before .before .before .before .before .before .before .before .before .before .args .p .now) (c .before .before .before .before .before .before .before .before .before .before .before .before .before .before .before .before .before .before .before .before .args .a .now) (c .before .before .before .before .before .before .before .before .before .before .before .before .before .before .before .before .before .before .before .before .args .factor .now) (c .before .before .before .before .before .before .before .before .before .before .before .before .before .before .before .before .before .before .before .before .args .work .now) (c .before .before .before .before .before .before .before .before .before .before .before .before .before .before .before .before .before .before .before .before .pre .0) (c .before .before .before .before .before .before .before .before .before .before .before .before .before .before .before .before .before .shape-at .result .corners) (c .before .before .before .before .before .before .before .before .before .before .before .before .before .before .of-element .result) (c .before .before .before .before .before .before .before .before .before .before .before .least .result) (c .before .before .before .before .before .before .before .before .before .before .before .least .ensures)
-    (c .before .before .before .before .before .before .before .before .before .before .before .before .before .before .before .before .before .before .before .before .pre .1) (ap (λ (s : Shape). s .corners) (c .before .before .before .before .before .before .before .before .before .before .before .before .before .before .before .before .before .shape-at .ensures)) (c .before .before .before .before .before .before .before .before .before .before .before .before .before .before .of-element .ensures) (c .before .before .before .before .before .before .before .before .before .before .before .before .of-capacity .result) (c .before .before .before .before .before .before .before .before .before .before .before .before .of-capacity .ensures)
+    asks-P (c .before .before .before .before .before .before .before .before .before .before .before .before .before .before .before .before .before .before .before .before .pre .0) (capacity-edit (renews (c .before .before .before .before .before .before .before .before .before .before .before .before .before .before .before .before .before .before .before .before .pre .0)) (c .before .before .before .before .before .before .before .before .before .before .before .before .before .before .before .before .before .shape-at .result .corners) (c .before .before .before .before .before .before .before .before .before .before .before .before .before .before .before .before .before .before .before .before .pre .1) (ap (λ (s : Shape). s .corners) (c .before .before .before .before .before .before .before .before .before .before .before .before .before .before .before .before .before .shape-at .ensures)) (c .before .before .before .before .before .before .before .before .before .before .before .before .of-capacity .ensures))
 
 put-requires : tie.Need-put-requires
 put-requires c κs = room (c .before .before .before .before .before .before .before .before .before .before .before .before .before .before .before .before .before .before .before .before .before .before .before .args .table .now) (c .before .before .before .before .before .before .before .before .before .before .before .before .before .before .before .before .before .before .before .before .before .before .before .args .row) (c .before .before .before .before .before .before .before .before .before .before .before .before .before .before .before .before .before .before .before .before .before .before .before .args .new) (c .before .before .before .before .before .before .before .before .before .before .before .before .before .before .before .before .before .before .before .before .before .before .before .pre .0 .deck) (c .before .before .before .before .before .before .before .before .before .before .before .before .before .before .before .before .before .before .before .before .before .before .before .pre .0 .change)
@@ -75,10 +76,11 @@ same-length-9 c = search needs
 
 returns-2 : tie.Need-returns-2
 returns-2 c =
-    done-E (c .before .before .before .before .before .before .before .before .before .before .before .before .before .before .before .before .before .before .before .before .before .before .before .before .before .before .args .table .now) (c .before .before .before .before .before .before .before .before .before .before .before .before .before .before .before .before .before .before .before .before .before .before .before .before .before .before .args .row) (c .before .before .before .before .before .before .before .before .before .before .before .before .before .before .before .before .before .before .before .before .before .before .before .before .before .before .args .new) (c .before .before .before .before .before .before .before .before .before .before .before .before .before .before .before .before .before .before .before .before .before .before .before .before .before .before .args .p .now) (c .before .before .before .before .before .before .before .before .before .before .before .before .before .before .before .before .before .before .before .before .before .before .before .before .before .before .args .a .now) (c .before .before .before .before .before .before .before .before .before .before .before .before .before .before .before .before .before .before .before .before .before .before .before .before .before .before .args .factor .now) (c .before .before .before .before .before .before .before .before .before .before .before .before .before .before .before .before .before .before .before .before .before .before .before .before .before .before .args .work .now) (c .before .before .before .before .before .before .before .before .before .before .before .before .before .before .before .before .before .before .before .before .before .before .before .before .before .before .pre .0) (c .before .before .before .before .before .before .before .before .before .before .before .before .before .before .before .before .before .before .before .before .before .before .before .shape-at .result .corners) (c .before .before .before .before .before .before .before .before .before .before .before .before .before .before .before .before .before .before .before .before .of-element .result) (c .before .before .before .before .before .before .before .before .before .before .before .before .before .before .before .before .before .least .result) (c .before .before .before .before .before .before .before .before .before .before .before .before .before .before .before .before .before .least .ensures)
-    (c .before .before .before .before .before .before .before .before .before .before .before .before .before .before .before .before .before .before .before .before .before .before .before .before .before .before .pre .1) (ap (λ (s : Shape). s .corners) (c .before .before .before .before .before .before .before .before .before .before .before .before .before .before .before .before .before .before .before .before .before .before .before .shape-at .ensures)) (c .before .before .before .before .before .before .before .before .before .before .before .before .before .before .before .before .before .before .before .before .of-element .ensures) (c .before .before .before .before .before .before .before .before .before .before .before .before .before .before .before .before .before .before .of-capacity .result) (c .before .before .before .before .before .before .before .before .before .before .before .before .before .before .before .before .before .before .of-capacity .ensures)
+    done-edit (c .before .before .before .before .before .before .before .before .before .before .before .before .before .before .before .before .before .before .before .before .before .before .before .before .before .before .pre .0)
+    (element-edit (renews (c .before .before .before .before .before .before .before .before .before .before .before .before .before .before .before .before .before .before .before .before .before .before .before .before .before .before .pre .0)) (c .before .before .before .before .before .before .before .before .before .before .before .before .before .before .before .before .before .before .before .before .before .before .before .shape-at .result .corners) (c .before .before .before .before .before .before .before .before .before .before .before .before .before .before .before .before .before .before .before .before .before .before .before .before .before .before .pre .1) (ap (λ (s : Shape). s .corners) (c .before .before .before .before .before .before .before .before .before .before .before .before .before .before .before .before .before .before .before .before .before .before .before .shape-at .ensures)) (c .before .before .before .before .before .before .before .before .before .before .before .before .before .before .before .before .before .before .before .before .of-element .ensures))
+    (c .before .before .before .before .before .before .before .before .before .before .before .before .before .before .before .before .before .least .result) (c .before .before .before .before .before .before .before .before .before .before .before .before .before .before .before .before .before .least .ensures)
     (c .before .before .put .last .0) (c .before .before .before .before .before .add-square .last .0) (c .before .before .before .before .before .before .before .before .before .before .before .before .redo .last .1 .0) (c .before .before .before .before .before .before .before .before .before .before .before .before .redo .last .1 .1 .0) (c .before .before .before .before .before .before .before .before .before .before .before .before .redo .last .1 .1 .1 .0) (sym (c .before .before .before .before .before .before .before .enum-told .given .1) ∙ c .before .before .before .before .before .before .before .before .before .before .before .before .redo .ensures .0) (c .before .before .before .before .before .before .before .before .before .before .before .before .redo .ensures .1 .0) (c .before .before .before .before .before .before .before .before .before .before .before .before .redo .ensures .1 .1 .0) (c .before .before .before .before .before .before .before .before .before .before .before .before .redo .ensures .1 .1 .1)
-    (c .before .before .before .before .before .add-square .ensures) (c .before .before .put .ensures)
+    (c .before .before .before .before .before .add-square .ensures (nodes (c .before .before .before .before .before .before .before .before .before .before .before .before .before .before .before .before .before .before .before .before .before .before .before .before .before .before .args .table .now)) ((c .before .before .before .before .before .before .before .before .before .before .before .before .before .before .before .before .before .before .before .before .before .before .before .before .before .before .pre .0) .lengths .of-p) ∙ added-is (renews (c .before .before .before .before .before .before .before .before .before .before .before .before .before .before .before .before .before .before .before .before .before .before .before .before .before .before .pre .0)) (capacity-edit (renews (c .before .before .before .before .before .before .before .before .before .before .before .before .before .before .before .before .before .before .before .before .before .before .before .before .before .before .pre .0)) (c .before .before .before .before .before .before .before .before .before .before .before .before .before .before .before .before .before .before .before .before .before .before .before .shape-at .result .corners) (c .before .before .before .before .before .before .before .before .before .before .before .before .before .before .before .before .before .before .before .before .before .before .before .before .before .before .pre .1) (ap (λ (s : Shape). s .corners) (c .before .before .before .before .before .before .before .before .before .before .before .before .before .before .before .before .before .before .before .before .before .before .before .shape-at .ensures)) (c .before .before .before .before .before .before .before .before .before .before .before .before .before .before .before .before .before .before .of-capacity .ensures)) (c .before .before .before .before .before .before .before .before .before .before .before .before .before .before .before .before .before .before .before .before .before .before .before .before .before .before .args .p .now)) (c .before .before .put .ensures)
 
 pub redo-element-spec : {M : Type 1} → statement M
 redo-element-spec =

@@ -10,7 +10,8 @@ use Rattle.paper.proofs.Changed.{room}
 use Rattle.triangle.specs.Forms.{shapeOf}
 use Rattle.element.specs.Asks.{ElementCard}
 use Rattle.packed.specs.Forms.{numbers}
-use Rattle.model.proofs.Editing.{renews, card-F, back-F, counted, asks-F, refused-F, done-F}
+use Rattle.model.proofs.Editing.{renews, film-edit, counted, asks, refused-edit, still-P, done-edit}
+use Rattle.model.proofs.NewCard.{card-F}
 
 field-requires : tie.Need-field-requires
 field-requires c κs = search needs
@@ -22,7 +23,7 @@ element-row-requires : tie.Need-element-row-requires
 element-row-requires c κs = search needs
 
 shape-at-requires : tie.Need-shape-at-requires
-shape-at-requires c κs = subst (ElementCard (c .before .before .before .before .before .args .table .now)) (sym (c .element-row .ensures ∙ ap (elementRow (c .before .before .before .before .before .args .table .now)) (c .before .before .field .ensures))) (card-F (c .before .before .before .before .before .args .table .now) (c .before .before .before .before .before .args .row) (c .before .before .before .before .before .args .new) (renews (c .before .before .before .before .before .pre .0)) (c .before .before .before .before .before .pre .1))
+shape-at-requires c κs = subst (ElementCard (c .before .before .before .before .before .args .table .now)) (sym (c .element-row .ensures ∙ ap (elementRow (c .before .before .before .before .before .args .table .now)) (c .before .before .field .ensures))) (card-F (c .before .before .before .before .before .args .table .now) (c .before .before .before .before .before .args .row) (c .before .before .before .before .before .args .new) (c .before .before .before .before .before .pre .0 .deck) (c .before .before .before .before .before .pre .0 .change) (c .before .before .before .before .before .pre .1))
 
 of-film-requires : tie.Need-of-film-requires
 of-film-requires c κs = search needs
@@ -32,14 +33,15 @@ least-requires c κs =
     let t = c .before .before .before .before .before .before .before .before .before .args .table .now in
     let h = renews (c .before .before .before .before .before .before .before .before .before .pre .0) in
     let s : shapeOf (c .before .before .before .shape-at .result) ≡ named t (c .before .before .before .before .before .before .before .before .before .args .row) = c .before .before .before .shape-at .ensures ∙ ap (shapeAt t) (c .before .before .before .before .element-row .ensures ∙ ap (elementRow t) (c .before .before .before .before .before .before .field .ensures)) in
-    counted t (c .before .before .before .before .before .before .before .before .before .args .row) (c .before .before .before .before .before .before .before .before .before .args .new) h (elementRow t (field t (c .before .before .before .before .before .before .before .before .before .args .row) 1)) (card-F t (c .before .before .before .before .before .before .before .before .before .args .row) (c .before .before .before .before .before .before .before .before .before .args .new) h (c .before .before .before .before .before .before .before .before .before .pre .1)) (back-F t (c .before .before .before .before .before .before .before .before .before .args .row) (c .before .before .before .before .before .before .before .before .before .args .new) h (c .before .before .before .before .before .before .before .before .before .pre .1)) (numbers (c .before .before .before .shape-at .result .corners)) (ap (λ (s : Shape). s .corners) s)
+    counted h (film-edit h (c .before .before .before .shape-at .result .corners) (c .before .before .before .before .before .before .before .before .before .pre .1) (ap (λ (s : Shape). s .corners) s) (c .of-film .ensures))
 
 redo-requires : tie.Need-redo-requires
 redo-requires c κs =
     let t = c .before .before .before .before .before .before .before .before .before .before .before .before .before .before .args .table .now in
     let s : shapeOf (c .before .before .before .before .before .before .before .before .shape-at .result) ≡ named t (c .before .before .before .before .before .before .before .before .before .before .before .before .before .before .args .row) = c .before .before .before .before .before .before .before .before .shape-at .ensures ∙ ap (shapeAt t) (c .before .before .before .before .before .before .before .before .before .element-row .ensures ∙ ap (elementRow t) (c .before .before .before .before .before .before .before .before .before .before .before .field .ensures)) in
-    asks-F t (c .before .before .before .before .before .before .before .before .before .before .before .before .before .before .args .row) (c .before .before .before .before .before .before .before .before .before .before .before .before .before .before .args .new) (c .before .before .before .before .before .before .before .before .before .before .before .before .before .before .args .p .now) (c .before .before .before .before .before .before .before .before .before .before .before .before .before .before .args .a .now) (c .before .before .before .before .before .before .before .before .before .before .before .before .before .before .args .factor .now) (c .before .before .before .before .before .before .before .before .before .before .before .before .before .before .args .work .now) (c .before .before .before .before .before .before .before .before .before .before .before .before .before .before .pre .0) (c .before .before .before .before .before .before .before .before .shape-at .result .corners) (c .before .before .before .before .before .of-film .result) (c .before .before .before .before .least .result) (c .before .before .before .before .least .ensures)
-    (c .before .before .before .before .before .before .before .before .before .before .before .before .before .before .pre .1) (ap (λ (s : Shape). s .corners) s) (c .before .before .before .before .before .of-film .ensures)
+    asks (c .before .before .before .before .before .before .before .before .before .before .before .before .before .before .pre .0)
+    (film-edit (renews (c .before .before .before .before .before .before .before .before .before .before .before .before .before .before .pre .0)) (c .before .before .before .before .before .before .before .before .shape-at .result .corners) (c .before .before .before .before .before .before .before .before .before .before .before .before .before .before .pre .1) (ap (λ (s : Shape). s .corners) s) (c .before .before .before .before .before .of-film .ensures))
+    (c .before .before .before .before .least .result) (c .before .before .before .before .least .ensures)
 
 enum-known-r : tie.Need-enum-known-r
 enum-known-r c = search needs
@@ -60,8 +62,9 @@ returns : tie.Need-returns
 returns c =
     let t = c .before .before .before .before .before .before .before .before .before .before .before .before .before .before .before .before .before .before .before .before .before .args .table .now in
     let s : shapeOf (c .before .before .before .before .before .before .before .before .before .before .before .before .before .before .before .shape-at .result) ≡ named t (c .before .before .before .before .before .before .before .before .before .before .before .before .before .before .before .before .before .before .before .before .before .args .row) = c .before .before .before .before .before .before .before .before .before .before .before .before .before .before .before .shape-at .ensures ∙ ap (shapeAt t) (c .before .before .before .before .before .before .before .before .before .before .before .before .before .before .before .before .element-row .ensures ∙ ap (elementRow t) (c .before .before .before .before .before .before .before .before .before .before .before .before .before .before .before .before .before .before .field .ensures)) in
-    refused-F t (c .before .before .before .before .before .before .before .before .before .before .before .before .before .before .before .before .before .before .before .before .before .args .row) (c .before .before .before .before .before .before .before .before .before .before .before .before .before .before .before .before .before .before .before .before .before .args .new) (c .before .before .before .before .before .before .before .before .before .before .before .before .before .before .before .before .before .before .before .before .before .args .p .now) (c .before .before .before .before .before .before .before .before .before .before .before .before .before .before .before .before .before .before .before .before .before .args .a .now) (c .before .before .before .before .before .before .before .before .before .before .before .before .before .before .before .before .before .before .before .before .before .args .factor .now) (c .before .before .before .before .before .before .before .before .before .before .before .before .before .before .before .before .before .before .before .before .before .args .work .now) (c .before .before .before .before .before .before .before .before .before .before .before .before .before .before .before .before .before .before .before .before .before .pre .0) (c .before .before .before .before .before .before .before .before .before .before .before .before .before .before .before .shape-at .result .corners) (c .before .before .before .before .before .before .before .before .before .before .before .before .of-film .result) (c .before .before .before .before .before .before .before .before .before .before .before .least .result) (c .before .before .before .before .before .before .before .before .before .before .before .least .ensures)
-    (c .before .before .before .before .before .before .before .before .before .before .before .before .before .before .before .before .before .before .before .before .before .pre .1) (ap (λ (s : Shape). s .corners) s) (c .before .before .before .before .before .before .before .before .before .before .before .before .of-film .ensures)
+    refused-edit (c .before .before .before .before .before .before .before .before .before .before .before .before .before .before .before .before .before .before .before .before .before .pre .0)
+    (film-edit (renews (c .before .before .before .before .before .before .before .before .before .before .before .before .before .before .before .before .before .before .before .before .before .pre .0)) (c .before .before .before .before .before .before .before .before .before .before .before .before .before .before .before .shape-at .result .corners) (c .before .before .before .before .before .before .before .before .before .before .before .before .before .before .before .before .before .before .before .before .before .pre .1) (ap (λ (s : Shape). s .corners) s) (c .before .before .before .before .before .before .before .before .before .before .before .before .of-film .ensures))
+    (c .before .before .before .before .before .before .before .before .before .before .before .least .result) (c .before .before .before .before .before .before .before .before .before .before .before .least .ensures)
     (c .before .r .given .0 .0) (c .before .before .before .before .before .before .redo .last .1 .0) (c .before .before .before .before .before .before .redo .last .1 .1 .0) (c .before .before .before .before .before .before .redo .last .1 .1 .1 .0) (sym (c .before .r .given .1) ∙ c .before .before .before .before .before .before .redo .ensures .0) (c .before .before .before .before .before .before .redo .ensures .1 .0) (c .before .before .before .before .before .before .redo .ensures .1 .1 .0) (c .before .before .before .before .before .before .redo .ensures .1 .1 .1)
 
 enum-told : tie.Need-enum-told
@@ -86,10 +89,10 @@ returns-2 : tie.Need-returns-2
 returns-2 c =
     let t = c .before .before .before .before .before .before .before .before .before .before .before .before .before .before .before .before .before .before .before .before .before .before .before .before .args .table .now in
     let s : shapeOf (c .before .before .before .before .before .before .before .before .before .before .before .before .before .before .before .before .before .before .shape-at .result) ≡ named t (c .before .before .before .before .before .before .before .before .before .before .before .before .before .before .before .before .before .before .before .before .before .before .before .before .args .row) = c .before .before .before .before .before .before .before .before .before .before .before .before .before .before .before .before .before .before .shape-at .ensures ∙ ap (shapeAt t) (c .before .before .before .before .before .before .before .before .before .before .before .before .before .before .before .before .before .before .before .element-row .ensures ∙ ap (elementRow t) (c .before .before .before .before .before .before .before .before .before .before .before .before .before .before .before .before .before .before .before .before .before .field .ensures)) in
-    done-F t (c .before .before .before .before .before .before .before .before .before .before .before .before .before .before .before .before .before .before .before .before .before .before .before .before .args .row) (c .before .before .before .before .before .before .before .before .before .before .before .before .before .before .before .before .before .before .before .before .before .before .before .before .args .new) (c .before .before .before .before .before .before .before .before .before .before .before .before .before .before .before .before .before .before .before .before .before .before .before .before .args .p .now) (c .before .before .before .before .before .before .before .before .before .before .before .before .before .before .before .before .before .before .before .before .before .before .before .before .args .a .now) (c .before .before .before .before .before .before .before .before .before .before .before .before .before .before .before .before .before .before .before .before .before .before .before .before .args .factor .now) (c .before .before .before .before .before .before .before .before .before .before .before .before .before .before .before .before .before .before .before .before .before .before .before .before .args .work .now) (c .before .before .before .before .before .before .before .before .before .before .before .before .before .before .before .before .before .before .before .before .before .before .before .before .pre .0) (c .before .before .before .before .before .before .before .before .before .before .before .before .before .before .before .before .before .before .shape-at .result .corners) (c .before .before .before .before .before .before .before .before .before .before .before .before .before .before .before .of-film .result) (c .before .before .before .before .before .before .before .before .before .before .before .before .before .before .least .result) (c .before .before .before .before .before .before .before .before .before .before .before .before .before .before .least .ensures)
-    (c .before .before .before .before .before .before .before .before .before .before .before .before .before .before .before .before .before .before .before .before .before .before .before .before .pre .1) (ap (λ (s : Shape). s .corners) s) (c .before .before .before .before .before .before .before .before .before .before .before .before .before .before .before .of-film .ensures)
-    (c .before .before .put .last .0) (c .before .before .before .before .before .before .before .before .before .redo .last .1 .0) (c .before .before .before .before .before .before .before .before .before .redo .last .1 .1 .0) (c .before .before .before .before .before .before .before .before .before .redo .last .1 .1 .1 .0) (sym (c .before .before .before .before .enum-told .given .1) ∙ c .before .before .before .before .before .before .before .before .before .redo .ensures .0) (c .before .before .before .before .before .before .before .before .before .redo .ensures .1 .0) (c .before .before .before .before .before .before .before .before .before .redo .ensures .1 .1 .0) (c .before .before .before .before .before .before .before .before .before .redo .ensures .1 .1 .1)
-    (c .before .before .put .ensures)
+    done-edit (c .before .before .before .before .before .before .before .before .before .before .before .before .before .before .before .before .before .before .before .before .before .before .before .before .pre .0)
+    (film-edit (renews (c .before .before .before .before .before .before .before .before .before .before .before .before .before .before .before .before .before .before .before .before .before .before .before .before .pre .0)) (c .before .before .before .before .before .before .before .before .before .before .before .before .before .before .before .before .before .before .shape-at .result .corners) (c .before .before .before .before .before .before .before .before .before .before .before .before .before .before .before .before .before .before .before .before .before .before .before .before .pre .1) (ap (λ (s : Shape). s .corners) s) (c .before .before .before .before .before .before .before .before .before .before .before .before .before .before .before .of-film .ensures))
+    (c .before .before .before .before .before .before .before .before .before .before .before .before .before .before .least .result) (c .before .before .before .before .before .before .before .before .before .before .before .before .before .before .least .ensures)
+    (c .before .before .put .last .0) (c .before .before .before .before .before .before .before .before .before .before .before .before .before .before .before .before .before .before .before .before .before .before .before .before .args .p .now) (c .before .before .before .before .before .before .before .before .before .redo .last .1 .0) (c .before .before .before .before .before .before .before .before .before .redo .last .1 .1 .0) (c .before .before .before .before .before .before .before .before .before .redo .last .1 .1 .1 .0) (sym (c .before .before .before .before .enum-told .given .1) ∙ c .before .before .before .before .before .before .before .before .before .redo .ensures .0) (c .before .before .before .before .before .before .before .before .before .redo .ensures .1 .0) (c .before .before .before .before .before .before .before .before .before .redo .ensures .1 .1 .0) (c .before .before .before .before .before .before .before .before .before .redo .ensures .1 .1 .1) (still-P (c .before .before .before .before .before .before .before .before .before .before .before .before .before .before .before .before .before .before .before .before .before .before .before .before .pre .0) (c .before .before .before .before .before .before .before .before .before .before .before .before .before .before .before .before .before .before .before .before .before .before .before .before .pre .1)) (c .before .before .put .ensures)
 
 pub redo-film-spec : {M : Type 1} → statement M
 redo-film-spec =

@@ -25,8 +25,8 @@ factor-requires c κs = added-ready (c .before .before .before .before .before .
 enum-known-r : tie.Need-enum-known-r
 enum-known-r c = search needs
 
-zero-requires : tie.Need-zero-requires
-zero-requires c κs = search needs
+fill-requires : tie.Need-fill-requires
+fill-requires c κs = search needs
 
 same-length : tie.Need-same-length
 same-length c = search needs
@@ -36,9 +36,9 @@ returns c =
     let t = c .before .before .before .before .before .before .before .before .before .before .before .before .before .before .args .table .now in
     let ys = c .before .before .before .before .before .before .before .factor .last .0 in
     let x = c .before .before .before .before .before .before .before .before .before .before .before .lay .last .1 .1 .1 .0 in
-    factored-refused (factorAdded t (c .before .before .before .before .before .before .before .before .before .before .before .before .before .before .args .a .now) (c .before .before .before .before .before .before .before .before .before .before .before .before .before .before .args .factor .now) (numbers (c .before .before .before .before .before .before .before .before .before .before .before .before .before .before .args .c)) (c .before .before .before .before .before .before .before .before .before .before .before .before .before .before .args .q) (c .before .before .before .before .before .before .before .before .before .before .before .before .before .before .args .m)) (c .before .before .before .before .r .given .0 .0) (tri (nodes t)) ys (c .before .zero .last .0)
+    factored-refused (factorAdded t (c .before .before .before .before .before .before .before .before .before .before .before .before .before .before .args .a .now) (c .before .before .before .before .before .before .before .before .before .before .before .before .before .before .args .factor .now) (numbers (c .before .before .before .before .before .before .before .before .before .before .before .before .before .before .args .c)) (c .before .before .before .before .before .before .before .before .before .before .before .before .before .before .args .q) (c .before .before .before .before .before .before .before .before .before .before .before .before .before .before .args .m)) (c .before .before .before .before .r .given .0 .0) (tri (nodes t)) ys (c .before .fill .last .0)
     ((λ d. after (sym (c .before .before .before .before .r .given .1) d) (done ys)) ∙ c .before .before .before .before .before .before .before .factor .ensures ∙ factor-added t (c .before .before .before .before .before .before .before .before .before .before .before .before .before .before .args .a .now) (c .before .before .before .before .before .before .before .before .before .before .before .before .before .before .args .factor .now) (c .before .before .before .before .before .before .before .before .before .before .before .before .before .before .args .work .now) (numbers (c .before .before .before .before .before .before .before .before .before .before .before .before .before .before .args .c)) (c .before .before .before .before .before .before .before .before .before .before .before .before .before .before .args .q) (c .before .before .before .before .before .before .before .before .before .before .before .before .before .before .args .m) (c .before .before .before .before .before .before .before .before .before .before .before .before .before .before .pre) (c .before .before .before .before .before .before .before .before .nodes .result) x (c .before .before .before .before .before .before .before .before .nodes .ensures) (c .before .before .before .before .before .before .before .before .before .before .before .lay .ensures))
-    (c .before .zero .ensures ∙ ap (λ (k : ℕ). replicate k (pos 0)) (c .before .before .before .before .before .before .before .factor .kept .0 ∙ length-added t (c .before .before .before .before .before .before .before .before .before .before .before .before .before .before .args .a .now) (c .before .before .before .before .before .before .before .before .before .before .before .before .before .before .args .factor .now) (c .before .before .before .before .before .before .before .before .before .before .before .before .before .before .args .work .now) (numbers (c .before .before .before .before .before .before .before .before .before .before .before .before .before .before .args .c)) (c .before .before .before .before .before .before .before .before .before .before .before .before .before .before .args .q) (c .before .before .before .before .before .before .before .before .before .before .before .before .before .before .args .m) (c .before .before .before .before .before .before .before .before .before .before .before .before .before .before .pre) x (c .before .before .before .before .before .before .before .before .before .before .before .lay .ensures)))
+    (c .before .fill .ensures ∙ ap (λ (k : ℕ). replicate k (pos 0)) (c .before .before .before .before .before .before .before .factor .kept .0 ∙ length-added t (c .before .before .before .before .before .before .before .before .before .before .before .before .before .before .args .a .now) (c .before .before .before .before .before .before .before .before .before .before .before .before .before .before .args .factor .now) (c .before .before .before .before .before .before .before .before .before .before .before .before .before .before .args .work .now) (numbers (c .before .before .before .before .before .before .before .before .before .before .before .before .before .before .args .c)) (c .before .before .before .before .before .before .before .before .before .before .before .before .before .before .args .q) (c .before .before .before .before .before .before .before .before .before .before .before .before .before .before .args .m) (c .before .before .before .before .before .before .before .before .before .before .before .before .before .before .pre) x (c .before .before .before .before .before .before .before .before .before .before .before .lay .ensures)))
 
 enum-told : tie.Need-enum-told
 enum-told c = search needs
@@ -61,7 +61,7 @@ refactored-spec =
     nodes-requires
     factor-requires
     enum-known-r
-    zero-requires
+    fill-requires
     same-length
     returns
     enum-told

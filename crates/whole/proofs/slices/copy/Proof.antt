@@ -1,6 +1,6 @@
 -- The invariant: the first k numbers are those of the other slice.
-use Rattle.packed.proofs.copy.Statement.{statement}
-use Rattle.packed.proofs.copy.Tie as tie
+use Rattle.whole.proofs.slices.copy.Statement.{statement}
+use Rattle.whole.proofs.slices.copy.Tie as tie
 use borrow.Author.Needs.{needs}
 use mathlib.Core.Path.{_≡_, refl, sym, ap, _∙_}
 use mathlib.Core.List.{List}
