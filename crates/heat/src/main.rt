@@ -22,14 +22,6 @@ fn refused(answer: u64) {
     line(b"R", answer % 256, answer / 65_536);
 }
 
-fn fill(temperatures: &mut [i64], start: u32) {
-    let mut i = 0;
-    while i < temperatures.len() {
-        temperatures[i] = start as i64;
-        i += 1;
-    }
-}
-
 // Each node's temperature, then Z with the steps done and the lines to go back.
 fn printed(temperatures: &[i64], steps: u32) {
     let mut i = 0;
@@ -77,7 +69,7 @@ fn ran(table: &[u32]) {
         return;
     }
     let n = nodes(table);
-    fill(&mut temperatures, start(table));
+    whole::slices::fill(&mut temperatures, start(table) as i64);
     if n <= 96 {
         stepped(table, &p, &a, &factor, &mut temperatures[0..n]);
     }

@@ -24,16 +24,6 @@ fn first_row(table: &[u32]) -> usize
     last - element::field(table, last, 5) as usize
 }
 
-fn fill(xs: &mut [i64], v: i64)
-    ensures { λ _. ⌜ now (xs .exit) ≡ list (length (now (xs .entry))) (λ i. v) ⌝ }
-{
-    let mut i = 0;
-    while i < xs.len() {
-        xs[i] = v;
-        i += 1;
-    }
-}
-
 // ---- loads
 
 // v more at a node.
@@ -106,7 +96,7 @@ pub fn loads(table: &[u32], r: &mut [i64])
     requires { ⌜ Each (now table) (now r) ⌝ }
     ensures { λ _. ⌜ now (r .exit) ≡ list (nodes (now (table .entry))) (loadOf (now (table .entry))) ⌝ }
 {
-    fill(&mut r[..], 0);
+    whole::slices::fill(&mut r[..], 0);
     let mut row = first_row(table);
     let end = table.len() / 6;
     while row < end {
@@ -136,7 +126,7 @@ pub fn fixed(table: &[u32], f: &mut [i64])
     requires { ⌜ Each (now table) (now f) ⌝ }
     ensures { λ _. ⌜ now (f .exit) ≡ list (nodes (now (table .entry))) (held (now (table .entry))) ⌝ }
 {
-    fill(&mut f[..], -1);
+    whole::slices::fill(&mut f[..], -1);
     let mut row = first_row(table);
     let end = table.len() / 6;
     while row < end {

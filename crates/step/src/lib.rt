@@ -73,18 +73,6 @@ fn attempts(
 
 // ---- a step, past its refusals
 
-fn copy(from: &[i64], to: &mut [i64])
-    requires { ⌜ length (now from) ≡ length (now to) ⌝ }
-    ensures { λ _. ⌜ now (to .exit) ≡ now (from .entry) ⌝ }
-{
-    let mut j = 0;
-    while j < to.len() {
-        let v = from[j];
-        to[j] = v;
-        j += 1;
-    }
-}
-
 // The corrections from the old temperatures, and the new ones in their place where they settle.
 fn finish(
     table: &[u32],
@@ -100,12 +88,12 @@ fn finish(
     requires { ⌜ Trying (now table) (now p) (now a) (now fixed) (now old) (now old) (now r) n × Sound (now l) n × (length (now t) ≡ n) ⌝ }
     ensures { λ e. ⌜ Exits e (now (old .exit)) (now (old .entry)) (stepped (boardOf (now (table .entry)) (now (p .entry)) (now (a .entry)) (now (old .entry))) (now (l .entry))) ⌝ }
 {
-    copy(&old[..], &mut t[..]);
+    whole::slices::copy(&old[..], &mut t[..]);
     let e = attempts(table, p, a, l, fixed, &old[..], &mut t[..], &mut r[..], n);
     let Stepped::Settled(c) = e else {
         return e;
     };
-    copy(&t[..], &mut old[..]);
+    whole::slices::copy(&t[..], &mut old[..]);
     Stepped::Settled(c)
 }
 

@@ -2,9 +2,11 @@
 use Rattle.loads.proofs.fixed.Statement.{statement}
 use Rattle.loads.proofs.fixed.Tie as tie
 use borrow.Author.Needs.{needs}
+use mathlib.Core.Path.{sym, _∙_}
 use Prim.Native.Nat.{_-_, _/_}
 use native.Mathlib.Omega.{arith}
 use lib.ListN.{length}
+use Rattle.whole.proofs.Sums.{table-same}
 use Rattle.loads.proofs.Held.{HoldInv, hold-start, held-long, hold-room, hold-next, hold-end}
 
 abbrev Inv-loop : tie.InvT-loop
@@ -20,7 +22,7 @@ first-row-requires : tie.Need-first-row-requires Inv-loop μ-loop
 first-row-requires c κs = c .before .before .before .before .pre .deck
 
 loop-holds : tie.Need-loop-holds Inv-loop μ-loop
-loop-holds c = hold-start (c .before .before .before .before .before .pre .deck) _ _ (c .first-row .result) (c .before .before .before .before .before .pre .long) (c .before .before .fill .ensures) (c .first-row .ensures)
+loop-holds c = hold-start (c .before .before .before .before .before .pre .deck) _ _ (c .first-row .result) (c .before .before .before .before .before .pre .long) (c .before .before .fill .ensures ∙ sym (table-same _ _)) (c .first-row .ensures)
 
 hold-requires : tie.Need-hold-requires Inv-loop μ-loop
 hold-requires c κs = hold-room (c .before .before .before .before .before .before .before .before .pre .deck) (c .before .before .loop .inv) (c .before .loop-test .taken)

@@ -2,9 +2,11 @@
 use Rattle.loads.proofs.loads.Statement.{statement}
 use Rattle.loads.proofs.loads.Tie as tie
 use borrow.Author.Needs.{needs}
+use mathlib.Core.Path.{sym, _∙_}
 use Prim.Native.Nat.{_-_, _/_}
 use native.Mathlib.Omega.{arith}
 use lib.ListN.{length}
+use Rattle.whole.proofs.Sums.{table-same}
 use Rattle.loads.proofs.Walk.{LoadInv, load-start, load-long, load-room, load-next, load-end}
 
 abbrev Inv-loop : tie.InvT-loop
@@ -20,7 +22,7 @@ first-row-requires : tie.Need-first-row-requires Inv-loop μ-loop
 first-row-requires c κs = c .before .before .before .before .pre .deck
 
 loop-holds : tie.Need-loop-holds Inv-loop μ-loop
-loop-holds c = load-start (c .before .before .before .before .before .pre .deck) _ _ (c .first-row .result) (c .before .before .before .before .before .pre .long) (c .before .before .fill .ensures) (c .first-row .ensures)
+loop-holds c = load-start (c .before .before .before .before .before .pre .deck) _ _ (c .first-row .result) (c .before .before .before .before .before .pre .long) (c .before .before .fill .ensures ∙ sym (table-same _ _)) (c .first-row .ensures)
 
 add-card-requires : tie.Need-add-card-requires Inv-loop μ-loop
 add-card-requires c κs = load-room (c .before .before .before .before .before .before .before .before .pre .deck) (c .before .before .loop .inv) (c .before .loop-test .taken)
