@@ -41,6 +41,10 @@ edge p f n = record { passes = p; fails = f; number = n }
 abbrev thin : ℕ → List ℕ
 thin y = deck 1000 (node 0 y ++ node 50 50 ++ node 100 100) 1 1 (element 1 2 3 1) [] 0
 
+-- corners in the other turning sense, or one of them named twice
+abbrev turned : ℕ → List ℕ
+turned last = deck 1000 right 1 1 (element 2 1 last 1) [] 0
+
 abbrev heated : ℕ → List ℕ
 heated capacity = deck 1 right 1000 capacity (element 1 2 3 4000) [] 0
 
@@ -51,6 +55,7 @@ edges =
     ∷ edge (ends (rowsFrom 1 0 (pos (2 ^ 38) ∷ []))) (ends (rowsFrom 1 0 (pos (2 ^ 38 + 1) ∷ []))) 8
     ∷ edge (ends (rowsFrom 2 0 (pos 16 ∷ pos 256 ∷ pos 5000 ∷ []))) (ends (rowsFrom 2 0 (pos 16 ∷ pos 257 ∷ pos 5000 ∷ []))) 8
     ∷ edge (number (elementJudged (thin 1) 1)) (number (elementJudged (thin 0) 1)) 5
+    ∷ edge (number (elementJudged (turned 3) 1)) (number (elementJudged (turned 1) 1)) 5
     ∷ edge (number (elementJudged (heated 960) 1)) (number (elementJudged (heated 961) 1)) 6
     ∷ edge (told (heavy 1 (pos (2 ^ 33) ∷ []))) (told (heavy 1 (pos (2 ^ 33 + 1) ∷ []))) 10
     ∷ edge (told (noFactor 1 (pos 16 ∷ []))) (told (noFactor 1 (pos 15 ∷ []))) 10
