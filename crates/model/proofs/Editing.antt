@@ -1,11 +1,9 @@
 -- What the replacement of an E or F card adds over its element's corners, new minus old: its size, its places, and what it makes of A, P and the factor.
 use mathlib.Core.Path.{_≡_, refl, sym, ap, subst, _∙_}
-use mathlib.Core.Bool.{Bool, true, false, cond}
-use mathlib.Core.List.{List, [], _∷_}
-use Prim.Native.Nat.{ℕ, zero, suc, _+_, _-_, _^_, _≤_, _<_}
+use mathlib.Core.Bool.{false}
+use mathlib.Core.List.{List}
+use Prim.Native.Nat.{ℕ, suc, _+_, _-_, _^_, _≤_, _<_}
 use native.Mathlib.Omega.{arith}
-use borrow.Author.Tests.{le-leb, leb-true}
-use lib.Dec.{leb}
 use lib.IntN.{ℤ, pos, natAbs, _+ℤ_, _-ℤ_}
 use lib.ListN.{length, getD, replicate}
 use Rattle.whole.specs.Sums.{sumN}
@@ -14,7 +12,7 @@ use Rattle.whole.proofs.Signs.{natAbs-plus, natAbs-minus}
 use Rattle.whole.proofs.Sums.{sumN-one}
 use Rattle.whole.proofs.Packed.{lower-ext, lower-eta, lower-within}
 use Rattle.paper.specs.Refusals.{Outcome, refused, done, answerOf}
-use Rattle.paper.specs.Cards.{field, rows, nodes, materials, elementRow, stepOf, put}
+use Rattle.paper.specs.Cards.{field, rows, nodes, elementRow, stepOf, put}
 use Rattle.paper.specs.Triangle.{Shape, Triangle, shapeAt, triangleAt, S, conductance, mass, u, v}
 use Rattle.paper.specs.Matrices.{spread, named, addsP, addsA, fixed, cleared}
 use Rattle.paper.specs.Factor.{rowsFrom}
@@ -24,9 +22,9 @@ use Rattle.paper.specs.declared.Answer.the-variants.{Done, Refused}
 use Rattle.paper.specs.declared.Kind.the-variants.{E, F}
 use Rattle.paper.specs.declared.Node.{Node}
 use Rattle.paper.specs.declared.Refusal.{Refusal}
-use Rattle.paper.proofs.Decks.{Is, In}
+use Rattle.paper.proofs.Decks.{Is}
 use Rattle.paper.proofs.Outcomes.{done-refused}
-use Rattle.paper.proofs.Changed.{here, nodes-same, materials-same, letter-same, key-same, row-same, shape-same}
+use Rattle.paper.proofs.Changed.{here, letter-same, shape-same}
 use Rattle.paper.proofs.Square.{mass-symmetric}
 use Rattle.paper.proofs.Sizes.{spread-row}
 use Rattle.paper.proofs.Places.{Corners}
@@ -40,7 +38,7 @@ use Rattle.triangle.proofs.Sizes.{conductance-size, u-size, v-small, mass-size}
 use Rattle.triangle.proofs.Squares.{small-square, square-at, square-ext}
 use Rattle.element.specs.Forms.{with}
 use Rattle.element.specs.Asks.{ElementCard}
-use Rattle.element.proofs.Ranges.{placed-at, sized-with, sized-at, step-of, card-of}
+use Rattle.element.proofs.Ranges.{placed-at, sized-at, step-of}
 use Rattle.packed.specs.Forms.{numbers}
 use Rattle.packed.specs.Asks.{Bounded, Takes}
 use Rattle.packed.proofs.Squares.{takes, spreads, unchanged}

@@ -1,14 +1,14 @@
 -- Refusals 5 and 6 of the element that a new card makes, read from the table as it stands.
 use mathlib.Core.Path.{_≡_, sym, ap, _∙_}
 use mathlib.Core.List.{List}
-use Prim.Native.Nat.{ℕ, _-_, _≤_, _<_}
+use Prim.Native.Nat.{ℕ, _-_}
 use native.Mathlib.Omega.{arith}
 use borrow.Author.Tests.{eqb-true, eq-eqb}
 use lib.Dec.{eqb}
 use lib.ListN.{getD}
 use Rattle.whole.proofs.Tests.{or-told}
-use Rattle.paper.specs.Cards.{letter, rows, materials, elements, elementRow, stepOf, put}
-use Rattle.paper.specs.Triangle.{shapeAt, triangleAt, formJudged, elementJudged}
+use Rattle.paper.specs.Cards.{letter, elements, elementRow, stepOf, put}
+use Rattle.paper.specs.Triangle.{triangleAt, formJudged, elementJudged}
 use Rattle.paper.specs.Replacing.{elementOf}
 use Rattle.paper.specs.declared.Kind.the-variants.{E, F}
 use Rattle.paper.proofs.Decks.{Is, In}

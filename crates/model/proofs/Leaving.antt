@@ -1,32 +1,32 @@
 -- What a build and a replacement leave, at each of their ends: the deck or the card refused, slices too short or foreign, an element refused, the factor's end.
-use mathlib.Core.Path.{_≡_, refl, sym, ap, subst, _∙_}
-use mathlib.Core.Bool.{Bool, true, false, _&&_, _||_}
+use mathlib.Core.Path.{_≡_, refl, sym, ap, _∙_}
+use mathlib.Core.Bool.{Bool, true, false, _&&_}
 use mathlib.Core.List.{List, _++_}
 use Prim.Native.Nat.{ℕ, _+_, _-_, _≤_, _<_}
 use native.Mathlib.Omega.{arith}
 use borrow.Author.Tests.{le-leb, lt-leb, leb-true}
 use lib.Dec.{leb}
 use lib.IntN.{ℤ, pos}
-use lib.ListN.{length, take, drop, replicate, length-append, length-replicate, take-append-drop}
+use lib.ListN.{length, take, drop, replicate, length-replicate, take-append-drop}
 use lib.Seq.{length-take-le}
-use Rattle.whole.specs.Packed.{tri, lower, entry}
+use Rattle.whole.specs.Packed.{lower}
 use Rattle.whole.proofs.Packed.{length-lower}
 use Rattle.whole.proofs.Tests.{and-told}
-use Rattle.paper.specs.Refusals.{numberOf, Outcome, refused, done, when, then, after, answerOf}
-use Rattle.paper.specs.Cards.{nodes, elements, elementRow, put}
+use Rattle.paper.specs.Refusals.{numberOf, Outcome, refused, done, answerOf}
+use Rattle.paper.specs.Cards.{nodes, elements, put}
 use Rattle.paper.specs.Judge.{judged, newJudged}
-use Rattle.paper.specs.Matrices.{P, A, addsP, addsA, fixed, cleared}
+use Rattle.paper.specs.Matrices.{P, A, fixed, cleared}
 use Rattle.paper.specs.Factor.{rowsFrom}
-use Rattle.paper.specs.Building.{Slices, elementsFrom, build}
+use Rattle.paper.specs.Building.{elementsFrom, build}
 use Rattle.paper.specs.Triangle.{elementJudged}
-use Rattle.paper.specs.Replacing.{elementOf, leastRow, moved, stirs, redone, replaced}
+use Rattle.paper.specs.Replacing.{elementOf, moved, stirs, redone, replaced}
 use Rattle.paper.specs.Lent.{foreign}
 use Rattle.paper.specs.Calls.{Lent, Exit, long, roomy, over, cut, enough, worked, inFactor, leaves, buildOutcome, buildCall, replaceOutcome, replaceCall}
 use Rattle.paper.specs.declared.Answer.{Answer}
 use Rattle.paper.specs.declared.Answer.the-variants.{Done, Refused}
 use Rattle.paper.specs.declared.Refusal.{Refusal}
 use Rattle.paper.specs.declared.Refusal.the-variants.{Short, Foreign}
-use Rattle.paper.proofs.Refused.{Plain, plain-told, judged-plain, new-plain, element-plain, elements-plain, Inside, inside-told, rows-inside}
+use Rattle.paper.proofs.Refused.{plain-told, judged-plain, new-plain, element-plain, elements-plain, inside-told, rows-inside}
 use Rattle.paper.proofs.Outcomes.{ends-done}
 use Rattle.paper.proofs.Update.{Kept, rows-keep}
 use Rattle.model.specs.Asks.{lent, made, ifMade, factorOf, Lengths, Built, movedP, movedA, factorFrom}

@@ -1,19 +1,19 @@
 -- What the replacement of an E or F card adds to P and A: a square over its element's corners, new minus old.
-use mathlib.Core.Path.{_≡_, refl, sym, ap, _∙_}
+use mathlib.Core.Path.{_≡_, ap, _∙_}
 use mathlib.Core.List.{List}
-use Prim.Native.Nat.{ℕ, _+_, _≤_, _<_}
+use Prim.Native.Nat.{ℕ, _+_, _<_}
 use native.Mathlib.Omega.{arith}
 use lib.IntN.{ℤ, pos, _+ℤ_, _-ℤ_}
-use lib.ListN.{length, getD}
+use lib.ListN.{getD}
 use Rattle.whole.specs.Packed.{lower, entry}
-use Rattle.whole.proofs.Packed.{lower-ext, lower-at}
-use Rattle.paper.specs.Cards.{field, letter, rows, nodes, materials, elementRow, stepOf, put}
-use Rattle.paper.specs.Triangle.{Shape, shapeAt, triangleAt, mass, u, v}
+use Rattle.whole.proofs.Packed.{lower-ext}
+use Rattle.paper.specs.Cards.{field, nodes, stepOf, put}
+use Rattle.paper.specs.Triangle.{shapeAt, triangleAt, mass, u, v}
 use Rattle.paper.specs.Matrices.{spread, named, addsP, addsA, fixed, cleared}
 use Rattle.paper.specs.Replacing.{moved}
 use Rattle.paper.specs.declared.Kind.the-variants.{E, F}
 use Rattle.paper.proofs.Decks.{Is, Deck, Change}
-use Rattle.paper.proofs.Changed.{place, other, here, nodes-same, materials-same, letter-same, step-same, key-same, rows-same, shape-same, named-same, fixed-same}
+use Rattle.paper.proofs.Changed.{place, other, here, nodes-same, letter-same, step-same, shape-same, named-same, fixed-same}
 use Rattle.paper.proofs.Places.{spread-minus}
 use Rattle.paper.proofs.Adds.{stiff, E-adds-P, E-adds-A, F-adds-P, F-adds-A}
 use Rattle.element.specs.Forms.{with}

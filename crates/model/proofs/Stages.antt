@@ -2,7 +2,7 @@
 use mathlib.Core.Path.{_≡_, refl, sym, ap, subst, _∙_}
 use mathlib.Core.Bool.{Bool, true, false, cond, _||_}
 use mathlib.Core.List.{List}
-use Prim.Native.Nat.{ℕ, _+_, _-_, _^_, _≤_, _<_}
+use Prim.Native.Nat.{ℕ, _-_, _^_, _≤_}
 use native.Mathlib.Omega.{arith}
 use lib.Dec.{eqb}
 use lib.IntN.{ℤ, pos, natAbs}
@@ -12,19 +12,17 @@ use Rattle.whole.specs.Packed.{tri, cell, entry, lower}
 use Rattle.whole.proofs.Packed.{lower-ext, lower-at, lower-size, length-lower}
 use Rattle.whole.proofs.Tests.{cond-same}
 use Rattle.paper.specs.Refusals.{Outcome, refused, done, after, answerOf}
-use Rattle.paper.specs.Cards.{rows, nodes, elements}
-use Rattle.paper.specs.Matrices.{P, A, addsA, fixed, cleared}
+use Rattle.paper.specs.Cards.{rows, nodes}
+use Rattle.paper.specs.Matrices.{P, A, fixed, cleared}
 use Rattle.paper.specs.Factor.{rowsFrom}
-use Rattle.paper.specs.Building.{elementsFrom}
 use Rattle.paper.specs.Lent.{noFactor}
-use Rattle.paper.specs.declared.Answer.{Answer}
 use Rattle.paper.specs.declared.Answer.the-variants.{Done, Refused}
 use Rattle.paper.specs.declared.Refusal.{Refusal}
-use Rattle.paper.proofs.Outcomes.{done-refused, done-inj}
+use Rattle.paper.proofs.Outcomes.{done-refused}
 use Rattle.paper.proofs.Weights.{part-A}
 use Rattle.packed.specs.Asks.{Sound}
 use Rattle.factor.specs.Asks.{Ready}
-use Rattle.model.specs.Asks.{made, ifMade, factorOf, Factored, Built}
+use Rattle.model.specs.Asks.{factorOf, Factored, Built}
 
 -- A' of a matrix that is a slice's
 pub cleared-of : (n : ℕ) (fix : ℕ → Bool) (f : ℕ → ℕ → ℤ) (xs : List ℤ) → xs ≡ lower n f → lower n (cleared fix (entry xs)) ≡ lower n (cleared fix f)

@@ -1,7 +1,7 @@
 -- P1 to P12 of document 01, of the definitions: one theorem over one list.
 use mathlib.Core.Path.{_≡_, refl}
 use mathlib.Core.List.{List, [], _∷_, _++_, map}
-use Prim.Native.Nat.{ℕ, zero, suc, _+_, _*_}
+use Prim.Native.Nat.{ℕ, _+_, _*_}
 use lib.IntN.{ℤ, pos, negsuc}
 use lib.ListN.{replicate}
 use Rattle.whole.specs.Nearest.{nearestN, nearest}
@@ -20,7 +20,7 @@ use Rattle.paper.specs.Lent.{rowSize, heavy, badRow, noFactor, foreign}
 use Rattle.paper.specs.Step.{boardOf, rightSide, residual, residuals, rowBound, yAt, forwardFrom, xAt, backFrom, warmed, addFrom, correct, unsettled, attempts, stepped, offScale}
 use Rattle.paper.specs.Calls.{packed, packedStep, joined, writes, written, readsFrom, reads, readPart, readTable, cut, enough, leaves, buildOutcome, replaceOutcome, buildCall, replaceCall, stepOutcome, stepCall, runFrom, runCall}
 use Rattle.paper.specs.Building.{Slices}
-use Rattle.paper.specs.Calls.{Lent, Exit, StepExit}
+use Rattle.paper.specs.Calls.{Lent, Exit}
 use Rattle.paper.specs.declared.Answer.{Answer}
 use Rattle.paper.specs.declared.Answer.the-variants.{Done, Refused}
 

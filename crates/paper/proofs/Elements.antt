@@ -2,20 +2,21 @@
 use mathlib.Core.Path.{_≡_, refl, sym, ap, subst, _∙_}
 use mathlib.Core.Bool.{true, _&&_}
 use mathlib.Core.List.{List}
-use Prim.Native.Nat.{ℕ, zero, suc, _+_, _-_, _*_, _≤_, _<_}
-use native.Mathlib.Nat.{mul-le-mul}
+use Prim.Native.Nat.{ℕ, zero, suc, _+_, _-_, _*_, _/_, _≤_, _<_}
+use native.Mathlib.Nat.{mul-le-mul, mul-zero, div-zero}
 use native.Mathlib.Decide.{ℕ-discrete}
 use native.Mathlib.Omega.{arith}
-use borrow.Author.Tests.{leb-true}
+use borrow.Author.Tests.{leb-true, le-leb}
 use lib.IntN.{ℤ, pos, negℤ, natAbs, _+ℤ_, _-ℤ_, _*ℤ_, +ℤ-invr, zero-*ℤ, *ℤ-zero}
 use lib.ListN.{getD}
 use Rattle.whole.specs.Nearest.{nearestN}
 use Rattle.whole.specs.Sums.{sum, sumN}
 use Rattle.whole.proofs.Signs.{natAbs-plus, natAbs-minus, natAbs-times, natAbs-neg}
 use Rattle.whole.proofs.Linear.{apart-size}
+use Rattle.whole.proofs.Rounding.{nearest-zero, nearest-size}
 use Rattle.whole.proofs.Tests.{and-told}
 use Rattle.paper.specs.Cards.{field, rows, nodes, materials, elements, elementRow, stepOf}
-use Rattle.paper.specs.Triangle.{Shape, Triangle, shapeAt, triangleAt, xAt, yAt, S, square, mass, pair, conductance, u, v, fair, soft, formJudged, elementJudged}
+use Rattle.paper.specs.Triangle.{Shape, Triangle, shapeAt, triangleAt, xAt, yAt, b, c, S, square, mass, pair, conductance, u, v, fair, soft, formJudged, elementJudged}
 use Rattle.paper.specs.Building.{elementsFrom}
 use Rattle.paper.specs.declared.Answer.the-variants.{Done}
 use Rattle.paper.specs.declared.Refusal.the-variants.{Flat, Stiff}
@@ -102,6 +103,28 @@ fair-told ms e h =
     let (h₁, c) = and-told (soft (u ms e) && soft (natAbs (pair e 0 1))) (soft (natAbs (pair e 0 2))) h₂ in
     let (a, b) = and-told (soft (u ms e)) (soft (natAbs (pair e 0 1))) h₁ in
     record { fu = leb-true _ _ a; f01 = leb-true _ _ b; f02 = leb-true _ _ c; f12 = leb-true _ _ d }
+
+-- 6 asks nothing of an element with no area: within one element the order of 5 and 6 can't be seen
+pub flat-is-fair : (ms : ℕ) (e : Triangle) → 1 ≤ ms → S (e .shape) ≡ 0 → fair ms e ≡ true
+unfolding fair u pair nearestN
+flat-is-fair ms e h z = rw (
+  le-leb (nearestN (e .capacity * e .thickness * S (e .shape)) (9600 * ms)) 4000000 (omega (arith, none)),
+  pairs 0 1,
+  pairs 0 2,
+  pairs 1 2,
+)
+  where
+    none : nearestN (e .capacity * e .thickness * S (e .shape)) (9600 * ms) ≡ 0
+    none = nearest-zero _ (9600 * ms) (omega arith) (ap (λ (k : ℕ). e .capacity * e .thickness * k) z ∙ mul-zero (e .capacity * e .thickness))
+
+    by-none : (n q : ℕ) → q ≡ 0 → nearestN n q ≡ 0
+    by-none n q k = ap (λ (m : ℕ). (2 * n + m) / (2 * m)) k ∙ div-zero (2 * n + 0)
+
+    pairs : (i j : ℕ) → soft (natAbs (pair e i j)) ≡ true
+    pairs i j = le-leb (natAbs (pair e i j)) 4000000 (omega (arith, nearest-size (top i j) (2000 * S (e .shape)), by-none (natAbs (top i j)) (2000 * S (e .shape)) (omega arith)))
+      where
+        top : ℕ → ℕ → ℤ
+        top i j = let s = e .shape in pos (e .thickness) *ℤ (pos (e .kx) *ℤ (b s i *ℤ b s j) +ℤ pos (e .ky) *ℤ (c s i *ℤ c s j))
 
 -- minus a sum of three
 pub three : (x y z : ℤ) → natAbs (negℤ (pos 0 +ℤ x +ℤ y +ℤ z)) ≤ natAbs x + natAbs y + natAbs z

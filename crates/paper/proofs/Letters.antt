@@ -81,9 +81,3 @@ load-letter l e =
         let q′ : order (kindOf l) ≡ 5 → ⊥ = q in
         let s : order (kindOf l) ≡ 6 = omega arith in
         hold (letter-of l T s (omega arith))
-
-pub load-order : (l : ℕ) → Load l → Judge.load (order (kindOf l)) ≡ true
-unfolding Judge.load order
-load-order l (heat e) = rw (kind-of l H e)
-load-order l (film e) = rw (kind-of l F e)
-load-order l (hold e) = rw (kind-of l T e)

@@ -18,7 +18,7 @@ use Rattle.paper.specs.Calls.{inFactor}
 use Rattle.paper.specs.declared.Answer.{Answer}
 use Rattle.paper.specs.declared.Answer.the-variants.{Done, Refused}
 use Rattle.paper.specs.declared.Refusal.{Refusal}
-use Rattle.paper.specs.declared.Refusal.the-variants.{Length, Trailer, Form, Range, Flat, Stiff, Pivot, Bound, Replacement}
+use Rattle.paper.specs.declared.Refusal.the-variants.{Pivot, Bound}
 use Rattle.paper.specs.declared.Counts.{Counts}
 
 -- an answer that is no refusal of the factor

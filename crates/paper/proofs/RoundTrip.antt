@@ -1,22 +1,20 @@
 -- A deck written is read back, and a deck read is written back, whatever notes stand before it.
-use mathlib.Core.Path.{_≡_, refl, sym, ap, subst, _∙_}
-use mathlib.Core.Bool.{Bool, true, false, cond}
+use mathlib.Core.Path.{_≡_, sym, ap, subst, _∙_}
+use mathlib.Core.Bool.{true}
 use mathlib.Core.List.{List, [], _++_}
 use Prim.Native.Nat.{ℕ, _+_, _-_, _*_, _/_, _≤_, _<_}
 use native.Mathlib.Decide.{ℕ-discrete}
 use native.Mathlib.Omega.{arith}
-use borrow.Author.Tests.{le-ltb, ltb-false}
-use lib.Dec.{ltb}
+use borrow.Author.Tests.{le-ltb}
 use lib.ListN.{length, getD, take, drop, length-append, length-drop}
 use lib.Seq.{take-at, drop-append-add, drop-append-seam, drop-drop, length-take-le}
 use Rattle.paper.specs.Cards.{cards, countsOf, rowAt, rows}
 use Rattle.paper.specs.Text.{cardOf, textOf}
 use Rattle.paper.specs.Judge.{judgeFrom, judgeRows, judged, trailer}
 use Rattle.paper.specs.Calls.{joined, textAt, lastCard, cardAt, startOf, writes, written, writeCall, reads, readsFrom, readPart, readTable, readCall}
-use Rattle.paper.specs.declared.Answer.the-variants.{Done, Refused}
+use Rattle.paper.specs.declared.Answer.the-variants.{Done}
 use Rattle.paper.specs.declared.Counts.{Counts}
-use Rattle.paper.specs.declared.Refusal.the-variants.{Short}
-use Rattle.paper.proofs.Outcomes.{done-refused, both-done}
+use Rattle.paper.proofs.Outcomes.{both-done}
 use Rattle.paper.proofs.Tables.{row-length}
 use Rattle.paper.proofs.Judged.{passes, judge-each, judge-all, top-told, counts-are}
 use Rattle.paper.proofs.Judging.{judge-same, rows-cards, judged-rows}

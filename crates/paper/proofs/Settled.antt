@@ -13,7 +13,7 @@ use Rattle.whole.specs.Packed.{cell}
 use Rattle.whole.proofs.Sums.{sum-ext, first-none, table-at}
 use Rattle.whole.proofs.Tests.{and-told}
 use Rattle.paper.specs.Ticks.{onScale}
-use Rattle.paper.specs.Refusals.{Outcome, refused, done, after}
+use Rattle.paper.specs.Refusals.{Outcome, refused, done}
 use Rattle.paper.specs.Cards.{nodes}
 use Rattle.paper.specs.Judge.{judged}
 use Rattle.paper.specs.Building.{Slices}

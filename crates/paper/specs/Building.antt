@@ -3,13 +3,13 @@ use mathlib.Core.List.{List}
 use Prim.Native.Nat.{ℕ, zero, suc}
 use lib.IntN.{ℤ}
 use Rattle.whole.specs.Packed.{lower}
-use Rattle.paper.specs.Refusals.{Outcome, refused, done, then, andThen, after}
+use Rattle.paper.specs.Refusals.{Outcome, done, then, andThen, after}
 use Rattle.paper.specs.Cards.{nodes, elements}
 use Rattle.paper.specs.Triangle.{elementJudged}
 use Rattle.paper.specs.Matrices.{P, A, fixed, cleared}
 use Rattle.paper.specs.Factor.{rowsFrom}
 use Rattle.paper.specs.declared.Answer.{Answer}
-use Rattle.paper.specs.declared.Answer.the-variants.{Done, Refused}
+use Rattle.paper.specs.declared.Answer.the-variants.{Done}
 
 -- P, A and the factor, each of the matrix length
 pub record Slices : Type 0 where

@@ -1,12 +1,12 @@
 -- What each public call answers and leaves, of any bytes, any table and any lent slices. Whatever is not named is only read.
-use mathlib.Core.Bool.{Bool, true, false, not, cond, _&&_, _||_}
-use mathlib.Core.List.{List, [], _∷_, _++_}
-use Prim.Native.Nat.{ℕ, zero, suc, _+_, _-_, _*_, _/_}
+use mathlib.Core.Bool.{Bool, true, not, cond, _&&_, _||_}
+use mathlib.Core.List.{List, [], _++_}
+use Prim.Native.Nat.{ℕ, zero, suc, _+_, _-_, _*_}
 use lib.Dec.{ltb, leb, eqb}
 use lib.IntN.{ℤ, pos}
 use lib.ListN.{length, getD, take, drop, replicate}
 use Rattle.whole.specs.Packed.{tri}
-use Rattle.paper.specs.Refusals.{Outcome, refused, done, when, after, andThen, answerOf, numberOf, placeOf}
+use Rattle.paper.specs.Refusals.{Outcome, refused, done, when, after, andThen, numberOf, placeOf}
 use Rattle.paper.specs.Cards.{cards, countsOf, rowAt, rows, nodes, stepsOf, put}
 use Rattle.paper.specs.Text.{cardOf, textOf}
 use Rattle.paper.specs.Judge.{judgeFrom, judged, trailer, newJudged}
@@ -17,7 +17,7 @@ use Rattle.paper.specs.Step.{Settling, boardOf, stepped, offScale, unles
 use Rattle.paper.specs.declared.Answer.{Answer}
 use Rattle.paper.specs.declared.Answer.the-variants.{Done, Refused}
 use Rattle.paper.specs.declared.Refusal.{Refusal}
-use Rattle.paper.specs.declared.Refusal.the-variants.{Length, Trailer, Pivot, Bound, Short, Foreign, OffScale}
+use Rattle.paper.specs.declared.Refusal.the-variants.{Length, Trailer, Short, Foreign, OffScale}
 use Rattle.paper.specs.declared.Stepped.{Stepped}
 use Rattle.paper.specs.declared.Stepped.the-variants as stepAnswer
 use Rattle.paper.specs.declared.Ran.{Ran}

@@ -3,13 +3,13 @@ use mathlib.Core.Bool.{Bool}
 use mathlib.Core.List.{List, [], _∷_, _++_}
 use Prim.Native.Nat.{ℕ, zero, suc, _+_, _*_, _^_}
 use lib.Dec.{leb}
-use lib.IntN.{ℤ, pos, natAbs, _+ℤ_, _-ℤ_, _*ℤ_}
+use lib.IntN.{ℤ, pos, natAbs, _-ℤ_, _*ℤ_}
 use lib.Signed.{leZ}
 use lib.ListN.{set}
 use Rattle.whole.specs.Nearest.{nearest}
 use Rattle.whole.specs.Sums.{sum}
 use Rattle.whole.specs.Packed.{tri, cell}
-use Rattle.paper.specs.Refusals.{Outcome, refused, done, when, then}
+use Rattle.paper.specs.Refusals.{Outcome, done, when, then}
 use Rattle.paper.specs.declared.Refusal.the-variants.{Pivot, Bound}
 
 abbrev pub R : ℤ → ℤ

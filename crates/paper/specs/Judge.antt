@@ -1,7 +1,7 @@
 -- Refusals 1 to 4 of a deck, and 3, 13 and 4 of a new card.
-use mathlib.Core.Bool.{Bool, true, false, not, cond, _&&_, _||_}
+use mathlib.Core.Bool.{Bool, not, cond, _&&_, _||_}
 use mathlib.Core.List.{List}
-use Prim.Native.Nat.{ℕ, zero, suc, _+_, _-_, _*_, _/_, _%_}
+use Prim.Native.Nat.{ℕ, zero, suc, _+_, _-_, _*_, _%_}
 use lib.Dec.{ltb, leb, eqb}
 use lib.ListN.{length, getD}
 use Rattle.paper.specs.Refusals.{andThen}
@@ -9,7 +9,7 @@ use Rattle.paper.specs.Cards.{letterOf, fields, used, zeros, inRange, ki
 use Rattle.paper.specs.declared.Answer.{Answer}
 use Rattle.paper.specs.declared.Answer.the-variants.{Done, Refused}
 use Rattle.paper.specs.declared.Refusal.the-variants.{Length, Trailer, Form, Range, Replacement}
-use Rattle.paper.specs.declared.Kind.the-variants.{E, Z}
+use Rattle.paper.specs.declared.Kind.the-variants.{Z}
 use Rattle.paper.specs.declared.Counts.{Counts}
 
 -- heat, film or fixed, by the order of the groups

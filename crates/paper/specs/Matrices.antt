@@ -1,13 +1,13 @@
 -- "Matrices": P, A and the loads as sums of what each card adds, and A'.
 use mathlib.Core.Bool.{Bool, cond, _&&_, _||_}
 use mathlib.Core.List.{List}
-use Prim.Native.Nat.{ℕ, zero, suc, _^_}
+use Prim.Native.Nat.{ℕ, suc, _^_}
 use lib.Dec.{eqb}
 use lib.IntN.{ℤ, pos, negsuc, _+ℤ_}
 use lib.ListN.{getD}
 use Rattle.whole.specs.Sums.{sum, sumN, any}
 use Rattle.paper.specs.Cards.{field, isCard, rows, elementRow, stepOf}
-use Rattle.paper.specs.Triangle.{Shape, Triangle, shapeAt, triangleAt, conductance, mass, u, v, heatLoad, filmLoad}
+use Rattle.paper.specs.Triangle.{Shape, shapeAt, triangleAt, conductance, mass, u, v, heatLoad, filmLoad}
 use Rattle.paper.specs.declared.Kind.the-variants.{E, H, F, T}
 
 -- what a square over n corners adds to the entry (i, j): rows and columns from 0, node numbers from 1

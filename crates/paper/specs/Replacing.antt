@@ -1,11 +1,11 @@
 -- "Replacing a card", its deck and the new card judged: what becomes of the slices.
 use mathlib.Core.Bool.{Bool, cond, _||_}
-use mathlib.Core.List.{List, [], _∷_, _++_}
-use Prim.Native.Nat.{ℕ, zero, suc, _+_, _-_, min}
+use mathlib.Core.List.{List, _++_}
+use Prim.Native.Nat.{ℕ, _+_, _-_, min}
 use lib.IntN.{ℤ, _+ℤ_, _-ℤ_}
 use lib.ListN.{take, drop}
 use Rattle.whole.specs.Packed.{tri, lower, entry}
-use Rattle.paper.specs.Refusals.{Outcome, refused, done, then, after}
+use Rattle.paper.specs.Refusals.{Outcome, done, then, after}
 use Rattle.paper.specs.Cards.{field, isCard, nodes, materials, elementRow, put}
 use Rattle.paper.specs.Triangle.{elementJudged}
 use Rattle.paper.specs.Matrices.{addsP, addsA, fixed, cleared}

@@ -1,9 +1,9 @@
 -- "The deck": a card's 42 bytes (a letter, five fields of 8 columns, a newline), read and written.
-use mathlib.Core.Bool.{Bool, true, false, not, cond, _&&_, _||_}
+use mathlib.Core.Bool.{not, cond, _&&_, _||_}
 use mathlib.Core.List.{List, [], _∷_, _++_}
 use Prim.Native.Nat.{ℕ, zero, suc, _+_, _-_, _*_, _/_, _%_}
 use lib.Dec.{ltb, leb, eqb}
-use lib.ListN.{length, getD, take, drop, set, replicate}
+use lib.ListN.{getD, take, drop, set, replicate}
 use Rattle.paper.specs.Cards.{kindOf, letterOf, used}
 use Rattle.paper.specs.declared.Field.{Field}
 use Rattle.paper.specs.declared.Field.the-variants.{Number, Malformed}

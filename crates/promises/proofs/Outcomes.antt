@@ -7,7 +7,7 @@ use lib.Dec.{eqb}
 use lib.IntN.{ℤ}
 use Rattle.paper.specs.Refusals.{numberOf, placeOf}
 use Rattle.paper.specs.Building.{Slices}
-use Rattle.paper.specs.Calls.{Read, readCall, Written, writeCall, Lent, Exit, buildCall, replaceCall, StepExit, stepCall, RunExit, runCall}
+use Rattle.paper.specs.Calls.{readCall, writeCall, Lent, buildCall, replaceCall, stepCall, runCall}
 use Rattle.paper.specs.declared.Refusal.{Refusal}
 use Rattle.paper.specs.declared.Refusal.the-variants.{Length, Trailer, Form, Range, Flat, Stiff, Pivot, Bound, Short, Foreign, OffScale, Unsettled, Replacement}
 

@@ -8,7 +8,7 @@ use lib.Dec.{eqb}
 use lib.IntN.{ℤ, pos, negℤ, natAbs, _+ℤ_, _-ℤ_, _*ℤ_}
 use lib.ListN.{getD}
 use Rattle.whole.specs.Sums.{sum}
-use Rattle.whole.proofs.Signs.{natAbs-plus, natAbs-times, natAbs-neg}
+use Rattle.whole.proofs.Signs.{natAbs-plus, natAbs-times}
 use Rattle.whole.proofs.Linear.{apart-size}
 use Rattle.whole.proofs.Rounding.{nearest-size, nearestN-by}
 use Rattle.paper.specs.Triangle.{Shape, Triangle, b, c, S, square, mass, pair, conductance, u, v}

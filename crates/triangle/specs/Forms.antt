@@ -1,16 +1,11 @@
 -- What the code's structs and squares stand for.
-use mathlib.Core.Bool.{cond}
 use mathlib.Core.List.{List, [], _∷_, map}
 use Prim.Native.Nat.{ℕ}
-use lib.Dec.{leb}
 use lib.IntN.{ℤ, pos}
 use lib.ListN.{getD}
 use Rattle.whole.specs.Sums.{table}
 use Rattle.paper.specs.Triangle as paper
 use Rattle.paper.specs.declared.Node.{Node}
-use Rattle.paper.specs.declared.Answer.{Answer}
-use Rattle.paper.specs.declared.Answer.the-variants.{Done, Refused}
-use Rattle.paper.specs.declared.Refusal.the-variants.{Flat, Stiff}
 use Rattle.triangle.specs.declared.Shape.{Shape}
 use Rattle.triangle.specs.declared.Triangle.{Triangle}
 

@@ -1,15 +1,15 @@
 -- A calculus of machine values at i64. `Is z v n`: what the machine has, z, is the number v, whose size is at most n.
 -- The operators' laws say what a sum, a difference, a product is. `fits` answers the need that nothing overflows, and `again` says what the stored result reads as.
 -- With numerals for bounds each side condition is `lit< tt`. Assumes nothing.
-use mathlib.Core.Path.{_≡_, refl, sym, ap, subst, _∙_}
+use mathlib.Core.Path.{_≡_, refl, sym, subst, _∙_}
 use Prim.Native.Nat.{ℕ, _+_, _*_, _^_, _≤_, _<_}
 use native.Mathlib.Nat.{le-refl, le-trans, lt-of-le-of-lt, mul-le-mul, add-le-add}
-use lib.IntN.{ℤ, pos, negℤ, natAbs, _+ℤ_, _-ℤ_, _*ℤ_}
+use lib.IntN.{ℤ, pos, natAbs, _+ℤ_, _-ℤ_, _*ℤ_}
 use lib.Signed.{mag}
 use mir.Syntax.{w64}
 use mir.Val.{SFits, toZ, ofZ}
 use mir.Facts.{toZ-ofZ, toZ-pos}
-use Rattle.whole.proofs.Signs.{small, natAbs-plus, natAbs-minus, natAbs-times, natAbs-neg}
+use Rattle.whole.proofs.Signs.{small, natAbs-plus, natAbs-minus, natAbs-times}
 
 -- what the machine reads back of z's bits: each local, argument and element stands so in a goal
 abbrev pub rd : ℤ → ℤ

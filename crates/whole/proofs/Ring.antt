@@ -1,7 +1,7 @@
 -- Polynomial identities over ℤ, by computation: both sides are written as expressions `E` over numbered variables, each has a normal form, and where the
 -- two forms are the same, which `refl` shows, the sides are equal: `ring L R (a ∷ b ∷ []) refl : left ≡ right`.
 -- A normal form is by the first variable: `hor p q` is p x + q, with p over all variables and q over those after x. Assumes nothing.
-use mathlib.Core.Path.{_≡_, refl, sym, ap, subst, _∙_}
+use mathlib.Core.Path.{_≡_, refl, sym, ap, _∙_}
 use mathlib.Core.List.{List, [], _∷_}
 use Prim.Native.Nat.{ℕ, zero, suc}
 use lib.IntN.{ℤ, pos, negsuc, one, negℤ, _+ℤ_, _-ℤ_, _*ℤ_, +ℤ-idl, +ℤ-idr, +ℤ-comm, *ℤ-comm, *ℤ-one, zero-*ℤ, negℤ-+ℤ}

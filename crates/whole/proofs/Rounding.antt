@@ -1,7 +1,7 @@
 -- Laws of the nearest: how near it is, its size, and the code's ways to it.
 use mathlib.Core.Path.{_≡_, refl, sym, ap, subst, _∙_}
 use Prim.Native.Nat.{ℕ, zero, suc, _+_, _*_, _-_, _/_, _%_, _^_, _≤_, _<_}
-use native.Mathlib.Nat.{le-refl, mul-le-mul, mul-left-comm, div-add-mod, mul-add, zero-mul, mul-zero, le-mul-of-pos-right, div-lt-iff-lt-mul, div-zero, suc-mul, le-of-suc-le-suc, mul-assoc, mul-comm, mod-lt}
+use native.Mathlib.Nat.{le-refl, mul-le-mul, mul-left-comm, div-add-mod, mul-add, zero-mul, le-mul-of-pos-right, div-lt-iff-lt-mul, suc-mul, le-of-suc-le-suc, mul-assoc, mul-comm, mod-lt}
 use native.Mathlib.Decide.{decLt}
 use native.Mathlib.Omega.{arith}
 use lib.IntN.{ℤ, pos, negsuc, negℤ, natAbs, _+ℤ_, _-ℤ_, _*ℤ_, negℤ-negℤ}

@@ -2,17 +2,17 @@
 -- of size below 2 ^ 63 is an i64; what tests tell; the ring laws that lib.IntN lacks.
 -- Assumes nothing.
 use mathlib.Core.Path.{_≡_, refl, sym, ap, subst, _∙_}
-use mathlib.Core.Bool.{Bool, true, false, not, cond}
-use Prim.Native.Nat.{ℕ, zero, suc, _+_, _*_, _-_, _/_, _%_, _^_, _≤_, _<_}
-use native.Mathlib.Nat.{le-refl, le-of-lt, lt-of-le-of-lt, mul-assoc, mul-comm}
+use mathlib.Core.Bool.{Bool, true, false}
+use Prim.Native.Nat.{ℕ, zero, suc, _+_, _*_, _-_, _^_, _≤_, _<_}
+use native.Mathlib.Nat.{le-refl, le-of-lt, lt-of-le-of-lt, mul-assoc}
 use native.Mathlib.Omega.{arith}
-use lib.Dec.{T, ltb, leb, ltb→lt, nltb→le}
-use lib.IntN.{ℤ, pos, negsuc, negℤ, natAbs, subℕ, sucℤ, predℤ, _+ℤ_, _-ℤ_, _*ℤ_, +ℤ-assoc, +ℤ-comm, +ℤ-idl, +ℤ-idr, negℤ-+ℤ, negℤ-negℤ, sucℤ-+ℤ, predℤ-+ℤ, sucℤ-*ℤ, predℤ-*ℤ, *ℤ-comm, zero-*ℤ}
-use lib.Signed.{mag, ltZ, leZ, nonNeg, quotZ, remZ, shrZ, mag-shr, mag-rem, _≤ℤ_, _<ℤ_}
-use borrow.Author.Tests.{ltb-true, ltb-false, leb-true, leb-false, le-leb, lt-leb}
+use lib.Dec.{T, ltb, ltb→lt}
+use lib.IntN.{ℤ, pos, negsuc, negℤ, natAbs, subℕ, predℤ, _+ℤ_, _-ℤ_, _*ℤ_, +ℤ-assoc, +ℤ-comm, +ℤ-idl, negℤ-+ℤ, negℤ-negℤ, sucℤ-+ℤ, predℤ-+ℤ, sucℤ-*ℤ, *ℤ-comm, zero-*ℤ}
+use lib.Signed.{mag, ltZ, leZ, nonNeg, shrZ, mag-shr}
+use borrow.Author.Tests.{ltb-true, ltb-false}
 use mir.Syntax.{w64}
 use mir.Val.{SFits, Fits, toZ, ofZ}
-use mir.Facts.{toZ-ofZ, toZ-pos}
+use mir.Facts.{toZ-ofZ}
 use Rattle.whole.specs.Nearest.{signed}
 use Rattle.whole.proofs.Tests.{never, cond-ind}
 

@@ -1,5 +1,5 @@
 -- Laws of sums, of tests over 0, .., n - 1, and of tables.
-use mathlib.Core.Path.{_≡_, refl, sym, ap, subst, _∙_}
+use mathlib.Core.Path.{_≡_, refl, sym, ap, _∙_}
 use mathlib.Core.Bool.{Bool, true, false, cond, _||_, true≢false}
 use mathlib.Core.Logic.{⊎-elim}
 use mathlib.Core.List.{List, [], _∷_, _++_, append-assoc, append-nil}
@@ -8,11 +8,9 @@ use native.Mathlib.Nat.{eq-or-lt-of-le, le-of-suc-le-suc, add-zero, add-mul, suc
 use native.Mathlib.Decide.{ℕ-discrete}
 use native.Mathlib.Numerals.{add-one}
 use native.Mathlib.Omega.{arith}
-use lib.Dec.{eqb}
 use lib.IntN.{ℤ, pos, natAbs, _+ℤ_, _-ℤ_, +ℤ-idl, +ℤ-idr}
-use lib.ListN.{length, getD, set, drop, replicate, length-set, length-append, length-replicate, length-drop, getD-replicate, List·getD-append, drop-of-length-le}
+use lib.ListN.{length, set, drop, replicate, length-set, length-append, length-replicate, length-drop, getD-replicate, List·getD-append, drop-of-length-le}
 use lib.Seq.{getD-at, getD-set-same, getD-set-other, set-at, drop-cons, ext-getD}
-use borrow.Author.Tests.{eq-eqb, ne-eqb}
 use Rattle.whole.specs.Sums.{sum, sumN, any, firstFrom, table}
 use Rattle.whole.specs.Packed.{cell}
 use Rattle.whole.proofs.Signs.{natAbs-plus}

@@ -1,14 +1,11 @@
 use borrow.Author.Needs.{needs}
 use Rattle.model.proofs.build.Statement.{statement}
 use Rattle.model.proofs.build.Tie as tie
-use mathlib.Core.Path.{_≡_, sym, ap, subst, _∙_}
+use mathlib.Core.Path.{sym, ap, _∙_}
 use native.Mathlib.Omega.{arith}
 use borrow.Author.Tests.{not-true, not-false}
 use Rattle.whole.specs.Packed.{tri}
-use Rattle.paper.specs.declared.Answer.{Answer}
-use Rattle.paper.specs.declared.Answer.the-variants.{Done}
 use Rattle.paper.specs.Cards.{nodes}
-use Rattle.paper.specs.Judge.{judged}
 use Rattle.paper.proofs.Judged.{deck}
 use Rattle.model.specs.Asks.{lent}
 use Rattle.model.proofs.Leaving.{told, no-deck, no-room, no-element, built-told, lengths, roomy-told}

@@ -1,16 +1,14 @@
 use borrow.Author.Needs.{needs}
 use Rattle.model.proofs.factored.Statement.{statement}
 use Rattle.model.proofs.factored.Tie as tie
-use mathlib.Core.Path.{_≡_, sym, ap, subst, _∙_}
-use mathlib.Core.List.{List}
+use mathlib.Core.Path.{sym, ap, subst, _∙_}
 use Prim.Native.Nat.{ℕ}
-use lib.IntN.{ℤ, pos}
+use lib.IntN.{pos}
 use lib.ListN.{length, replicate}
 use Rattle.whole.specs.Packed.{tri}
 use Rattle.whole.proofs.Packed.{length-lower}
 use Rattle.paper.specs.Refusals.{done, after}
 use Rattle.paper.specs.Cards.{nodes}
-use Rattle.paper.specs.declared.Answer.{Answer}
 use Rattle.factor.specs.Asks.{Ready}
 use Rattle.model.specs.Asks.{factorOf}
 use Rattle.model.proofs.Stages.{whole-ready, factor-is, factored-refused, factored-done}

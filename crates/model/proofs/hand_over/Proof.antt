@@ -2,7 +2,6 @@ use borrow.Author.Needs.{needs}
 use Rattle.model.proofs.hand_over.Statement.{statement}
 use Rattle.model.proofs.hand_over.Tie as tie
 use mathlib.Core.Path.{_∙_}
-use lib.ListN.{length-drop}
 use Rattle.whole.proofs.Lists.{tail-is}
 
 mul-copy : tie.Need-mul-copy

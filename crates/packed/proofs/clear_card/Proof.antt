@@ -10,7 +10,7 @@ use borrow.Author.Tests.{ne-eqb}
 use lib.Dec.{eqb}
 use Rattle.whole.specs.Packed.{entry, lower}
 use Rattle.paper.specs.Cards.{field, letter, nodes}
-use Rattle.paper.specs.Matrices.{cleared, fixes}
+use Rattle.paper.specs.Matrices.{cleared}
 use Rattle.packed.proofs.Clearing.{clear-other, clear-T}
 use Rattle.whole.specs.Packed.{tri}
 

@@ -1,13 +1,11 @@
 -- The sizes of a and b, divided, with the sign of a.
 use borrow.Author.Needs.{needs}
-use mathlib.Core.Path.{_≡_, _∙_, ap, sym, subst}
+use mathlib.Core.Path.{_≡_, _∙_, ap}
 use Prim.Native.Nat.{ℕ, _+_, _*_, _/_, _<_, _^_}
-use native.Mathlib.Nat.{lt-of-le-of-lt}
 use native.Mathlib.Omega.{arith}
 use lib.IntN.{ℤ, natAbs}
 use mir.Facts.{toZ-ofZ}
 use Rattle.whole.specs.Nearest.{signed, nearestN, nearest}
-use Rattle.whole.proofs.Signs.{small}
 use Rattle.whole.proofs.Rounding.{nearestN-le, above-zero, above-zero-size}
 use Rattle.whole.proofs.nearest.Statement.{statement}
 use Rattle.whole.proofs.nearest.Tie as tie

@@ -1,6 +1,6 @@
 -- w * 2^20, and its nearest.
-use mathlib.Core.Path.{_≡_, _∙_, ap, sym, subst}
-use Prim.Native.Nat.{_*_, _^_, _≤_}
+use mathlib.Core.Path.{_∙_, sym, subst}
+use Prim.Native.Nat.{_*_, _^_}
 use native.Mathlib.Omega.{arith}
 use lib.Dec.{lit<}
 use lib.IntN.{ℤ, pos, natAbs, _*ℤ_}

@@ -1,9 +1,9 @@
 -- l * w, and its nearest.
-use mathlib.Core.Path.{_≡_, _∙_, ap}
-use Prim.Native.Nat.{_*_, _^_, _≤_}
+use mathlib.Core.Path.{_∙_, ap}
+use Prim.Native.Nat.{_*_, _^_}
 use native.Mathlib.Omega.{arith}
 use lib.Dec.{lit<}
-use lib.IntN.{ℤ, natAbs, _*ℤ_}
+use lib.IntN.{ℤ, _*ℤ_}
 use mir.Facts.{toZ-ofZ}
 use Rattle.whole.specs.Nearest.{nearest}
 use Rattle.whole.proofs.Calc.{Is, rd, arg, times, again, fits, size-of}

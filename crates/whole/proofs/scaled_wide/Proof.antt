@@ -1,14 +1,14 @@
 -- The size of the product, by the high and the low part of y's size, with the product's sign.
 use borrow.Author.Needs.{needs}
-use mathlib.Core.Path.{_≡_, _∙_, ap, sym, subst}
-use Prim.Native.Nat.{ℕ, _+_, _*_, _/_, _%_, _<_, _≤_, _^_}
+use mathlib.Core.Path.{_≡_, _∙_, ap, sym}
+use Prim.Native.Nat.{ℕ, _+_, _*_, _/_, _%_, _≤_, _^_}
 use native.Mathlib.Nat.{mul-le-mul}
 use native.Mathlib.Omega.{arith}
-use lib.IntN.{ℤ, pos, natAbs, _*ℤ_}
+use lib.IntN.{ℤ, natAbs, _*ℤ_}
 use mir.Facts.{toZ-ofZ}
 use Rattle.whole.specs.Nearest.{signed, nearestN, nearest}
-use Rattle.whole.proofs.Signs.{small, natAbs-times}
-use Rattle.whole.proofs.Rounding.{nearestN-le, nearest-split, nearest-zero}
+use Rattle.whole.proofs.Signs.{natAbs-times}
+use Rattle.whole.proofs.Rounding.{nearest-split, nearest-zero}
 use Rattle.whole.proofs.scaled_wide.Statement.{statement}
 use Rattle.whole.proofs.scaled_wide.Tie as tie
 

@@ -1,10 +1,9 @@
 -- n, or 0 - n, by the sign of x.
 use borrow.Author.Needs.{needs}
-use mathlib.Core.Path.{_≡_, _∙_, ap}
+use mathlib.Core.Path.{_∙_, ap}
 use native.Mathlib.Omega.{arith}
-use lib.IntN.{ℤ, pos, negℤ, natAbs, _-ℤ_, +ℤ-idl}
+use lib.IntN.{pos, negℤ, +ℤ-idl}
 use mir.Syntax.{w64}
-use mir.Val.{toZ, ofZ}
 use mir.Facts.{toZ-ofZ, toZ-pos}
 use Rattle.whole.proofs.Signs.{small, natAbs-minus, signed-neg, signed-pos, lt-lit}
 use Rattle.whole.proofs.sign.Statement.{statement}

@@ -9,7 +9,6 @@ use Rattle.paper.specs.Matrices.{named}
 use Rattle.paper.proofs.Changed.{room}
 use Rattle.triangle.specs.Forms.{shapeOf}
 use Rattle.element.specs.Asks.{ElementCard}
-use Rattle.packed.specs.Forms.{numbers}
 use Rattle.model.proofs.Editing.{renews, film-edit, counted, asks, refused-edit, still-P, done-edit}
 use Rattle.model.proofs.NewCard.{card-F}
 

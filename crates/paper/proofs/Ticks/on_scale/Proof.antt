@@ -1,7 +1,7 @@
 use borrow.Author.Needs.{needs}
 use Rattle.paper.proofs.Ticks.on_scale.Statement.{statement}
 use Rattle.paper.proofs.Ticks.on_scale.Tie as tie
-use mathlib.Core.Path.{_≡_, ap, _∙_, sym}
+use mathlib.Core.Path.{_≡_}
 use mathlib.Core.Bool.{true, false}
 use lib.IntN.{pos}
 use lib.Signed.{leZ}
