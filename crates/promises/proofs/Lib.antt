@@ -1,6 +1,7 @@
 -- What is promised. Each statement is to be read; its proof stands below, in the crate that holds the definitions.
 pub mod Numbers
 pub mod Outcomes
+pub mod Packing
 pub mod Decks
 pub mod Matrices
 pub mod Replacing
