@@ -1,9 +1,8 @@
 -- One turn of each test of lent numbers.
 use mathlib.Core.Path.{_≡_, sym, ap, _∙_}
-use mathlib.Core.Bool.{Bool, true, false, not, cond, _||_}
+use mathlib.Core.Bool.{Bool, true, false, not, _||_}
 use mathlib.Core.List.{List}
-use Prim.Native.Nat.{ℕ, suc, _+_, _-_, _^_, _≤_, _<_}
-use native.Mathlib.Numerals.{add-one}
+use Prim.Native.Nat.{ℕ, _+_, _^_, _≤_, _<_}
 use native.Mathlib.Omega.{arith}
 use lib.Dec.{leb}
 use lib.IntN.{ℤ, natAbs}
@@ -11,14 +10,13 @@ use mir.Syntax.{w64}
 use mir.Val.{SFits}
 use mir.Facts.{toZ-ofZ}
 use borrow.Author.Tests.{le-leb, lt-leb}
-use Rattle.whole.specs.Sums.{sumN, any, firstFrom}
+use Rattle.whole.specs.Sums.{sumN, any}
 use Rattle.whole.specs.Packed.{tri, cell, place, entry}
 use Rattle.whole.proofs.Calc.{rd}
 use Rattle.whole.proofs.Signs.{size}
 use Rattle.whole.proofs.Sums.{sumN-more, sumN-upto, any-one}
 use Rattle.paper.specs.Ticks.{onScale}
 use Rattle.paper.specs.Factor.{small}
-use Rattle.paper.specs.Step.{offScale}
 use Rattle.paper.specs.Lent.{rowSize, heavy, pivot, badRow, noFactor, foreign}
 use Rattle.lent.specs.Rows.{lent}
 
@@ -106,37 +104,8 @@ module _ (p a l : List ℤ) (n : ℕ) (r : Bool) (er : r ≡ heavy n p) where
     unfolding foreign
     rest k u eu = eu ∙ or-last (heavy n p || heavy n a) (noFactor n l) s both k
 
--- ---- temperatures: what is left from node i on is the whole
+-- ---- a temperature
 
-abbrev off : List ℤ → ℕ → Bool
-off t i = not (onScale (cell t i))
-
-pub record OffInv (t : List ℤ) (n i : ℕ) : Type 0 where
-  pub upto : i ≤ n
-  pub left : offScale n t ≡ firstFrom (n - i) i (λ k. not (onScale (cell t k)))
-
-pub off-start : (t : List ℤ) (n : ℕ) → OffInv t n 0
-unfolding offScale
-off-start t n = record { upto = omega arith; left = ap (λ (k : ℕ). firstFrom k 0 (off t)) (let z : n ≡ n - 0 = omega arith in z) }
-
-module _ {t : List ℤ} {n i : ℕ} (v : OffInv t n i) (h : i < n) (g : SFits w64 (cell t i)) (r : Bool) (er : r ≡ onScale (rd (cell t i))) where
-  off-row : offScale n t ≡ cond (not r) (suc i) (firstFrom (n - (i + 1)) (suc i) (off t))
-  unfolding firstFrom
-  off-row =
-      let e : n - i ≡ suc (n - (i + 1)) = omega arith in
-      v .left ∙ ap (λ (k : ℕ). firstFrom k i (off t)) e
-      ∙ ap (λ (b : Bool). cond (not b) (suc i) (firstFrom (n - (i + 1)) (suc i) (off t))) (sym (er ∙ ap onScale (toZ-ofZ g)))
-
-  pub off-no : r ≡ false → i + 1 ≡ offScale n t
-  off-no e = add-one i ∙ sym (off-row ∙ ap (λ (b : Bool). cond (not b) (suc i) (firstFrom (n - (i + 1)) (suc i) (off t))) e)
-
-  pub off-yes : r ≡ true → OffInv t n (i + 1)
-  off-yes e = record {
-    upto = omega arith;
-    left = off-row ∙ ap (λ (b : Bool). cond (not b) (suc i) (firstFrom (n - (i + 1)) (suc i) (off t))) e
-        ∙ ap (λ (k : ℕ). firstFrom (n - (i + 1)) k (off t)) (sym (add-one i));
-  }
-
-pub off-end : {t : List ℤ} {n i : ℕ} → OffInv t n i → n ≤ i → 0 ≡ offScale n t
-unfolding firstFrom
-off-end {t} {n} {i} v h = let e : n - i ≡ 0 = omega arith in sym (v .left ∙ ap (λ (k : ℕ). firstFrom k i (off t)) e)
+module _ (t : List ℤ) (i : ℕ) (g : SFits w64 (cell t i)) (r : Bool) (er : r ≡ onScale (rd (cell t i))) where
+  pub off-is : {b : Bool} → r ≡ b → not (onScale (cell t i)) ≡ not b
+  off-is e = ap not (sym (er ∙ ap onScale (toZ-ofZ g)) ∙ e)
