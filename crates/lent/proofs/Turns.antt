@@ -1,62 +1,79 @@
 -- One turn of each test of lent numbers.
-use mathlib.Core.Path.{_≡_, sym, ap, _∙_}
-use mathlib.Core.Bool.{Bool, true, false, not, cond, _||_}
+use mathlib.Core.Path.{_≡_, refl, sym, ap, _∙_}
+use mathlib.Core.Bool.{Bool, true, false, not, _||_}
 use mathlib.Core.List.{List}
-use Prim.Native.Nat.{ℕ, suc, _+_, _-_, _^_, _≤_, _<_}
-use native.Mathlib.Numerals.{add-one}
+use Prim.Native.Nat.{ℕ, zero, suc, _+_, _*_, _^_, _≤_, _<_, min, max}
+use native.Mathlib.Nat.{suc-mul}
 use native.Mathlib.Omega.{arith}
-use lib.Dec.{leb}
+use lib.Dec.{leb, ltb}
 use lib.IntN.{ℤ, natAbs}
 use mir.Syntax.{w64}
 use mir.Val.{SFits}
 use mir.Facts.{toZ-ofZ}
-use borrow.Author.Tests.{le-leb, lt-leb}
-use Rattle.whole.specs.Sums.{sumN, any, firstFrom}
+use borrow.Author.Tests.{le-leb, lt-leb, leb-true, leb-false, ltb-true, ltb-false}
+use Rattle.whole.specs.Sums.{sumN, any}
 use Rattle.whole.specs.Packed.{tri, cell, place, entry}
 use Rattle.whole.proofs.Calc.{rd}
-use Rattle.whole.proofs.Signs.{size}
-use Rattle.whole.proofs.Sums.{sumN-more, sumN-upto, any-one}
+use Rattle.whole.proofs.Sums.{sumN-more, sumN-mono, any-one, any-more}
 use Rattle.paper.specs.Ticks.{onScale}
 use Rattle.paper.specs.Factor.{small}
-use Rattle.paper.specs.Step.{offScale}
 use Rattle.paper.specs.Lent.{rowSize, heavy, pivot, badRow, noFactor, foreign}
-use Rattle.lent.specs.Rows.{lent}
+use Rattle.lent.specs.Rows.{capped, cappedTo, lent}
 
--- ---- a row's magnitudes: the sum so far, and the next of them
+-- ---- a row's sizes, capped
 
-abbrev pub sizes : List ℤ → ℕ → ℕ → ℕ
-sizes m i j = sumN j (λ k. natAbs (entry m i k))
+capped-small : (m : List ℤ) (i j : ℕ) → cappedTo j m i ≤ j * 8589934593
+unfolding cappedTo sumN
+capped-small m i zero = omega arith
+capped-small m i (suc j) = omega (arith, capped-small m i j, suc-mul j 8589934593)
 
-module _ (m : List ℤ) (i at j : ℕ) (e : at ≡ place i j) (g : SFits w64 (cell m at)) (sum z : ℕ) (es : sum ≡ sizes m i j) (ez : z ≡ natAbs (rd (cell m at))) where
-  z-is : z ≡ natAbs (cell m at)
-  z-is = ez ∙ ap natAbs (toZ-ofZ g)
+module _ (m : List ℤ) (i at j : ℕ) (e : at ≡ place i j) (g : SFits w64 (cell m at)) (sum z : ℕ) (es : sum ≡ cappedTo j m i) (ez : z ≡ capped (rd (cell m at))) where
+  pub capped-next : sum + z ≡ cappedTo (j + 1) m i
+  unfolding cappedTo
+  capped-next = (λ k. es k + (ez ∙ ap capped (toZ-ofZ g ∙ ap (cell m) e)) k) ∙ sym (sumN-more j (λ (k : ℕ). capped (entry m i k)))
 
-  pub sum-fits : sum ≤ 2 ^ 33 → sum + z < 2 ^ 64
-  sum-fits h = omega (arith, z-is, size g)
+  pub capped-fits : j < 96 → sum + z < 2 ^ 64
+  capped-fits h = omega (arith, capped-next, capped-small m i (j + 1))
 
-  pub sum-next : sum + z ≡ sizes m i (j + 1)
-  sum-next = (λ k. es k + (z-is ∙ ap (λ (p : ℕ). natAbs (cell m p)) e) k) ∙ sym (sumN-more j (λ (k : ℕ). natAbs (entry m i k)))
+min-sum : (n : ℕ) (f : ℕ → ℕ) (c : ℕ) → min (sumN n f) c ≤ sumN n (λ k. min (f k) c)
+unfolding sumN
+min-sum zero f c = omega arith
+min-sum (suc n) f c = omega (arith, min-sum n f c)
 
-  pub row-over : (n : ℕ) → j < n → 2 ^ 33 < sum + z → true ≡ not (leb (rowSize n m i) (2 ^ 33))
-  unfolding rowSize
-  row-over n h k =
-      ap not (sym (lt-leb (sizes m i n) (2 ^ 33) (omega (arith, sum-next, sumN-upto (λ (q : ℕ). natAbs (entry m i q)) (j + 1) n (omega arith)))))
+-- s passes c where r does
+above : (c s r : ℕ) → (c < s → c < r) → (s ≤ c → r ≤ c) → ltb c s ≡ not (leb r c)
+above c s r f g = go (ltb c s) refl
+  where
+    go : (b : Bool) → ltb c s ≡ b → b ≡ not (leb r c)
+    go true e = sym (ap not (lt-leb r c (f (ltb-true c s e))))
+    go false e = sym (ap not (le-leb r c (g (ltb-false c s e))))
 
-pub row-under : (m : List ℤ) (i n j sum : ℕ) → j ≡ n → sum ≡ sizes m i j → sum ≤ 2 ^ 33 → false ≡ not (leb (rowSize n m i) (2 ^ 33))
-unfolding rowSize
-row-under m i n j sum e es h = ap not (sym (le-leb (sizes m i n) (2 ^ 33) (omega (arith, es, ap (sizes m i) e))))
+pub row-above : (m : List ℤ) (i n sum : ℕ) → sum ≡ cappedTo n m i → ltb (2 ^ 33) sum ≡ not (leb (rowSize n m i) (2 ^ 33))
+unfolding rowSize cappedTo
+row-above m i n sum es =
+    above (2 ^ 33) sum (sumN n (λ k. natAbs (entry m i k)))
+    (λ h. omega (arith, es, sumN-mono n (λ (k : ℕ). capped (entry m i k)) (λ (k : ℕ). natAbs (entry m i k)) (λ k l. omega arith)))
+    (λ h. omega (arith, es, min-sum n (λ (k : ℕ). natAbs (entry m i k)) (suc (2 ^ 33))))
 
--- ---- an l
+-- ---- an l, and the largest of them
 
-module _ (l : List ℤ) (k : ℕ) (g : SFits w64 (cell l k)) (z : ℕ) (ez : z ≡ natAbs (rd (cell l k))) where
-  l-size : z ≡ natAbs (cell l k)
-  l-size = ez ∙ ap natAbs (toZ-ofZ g)
+larger-over : (a b c : ℕ) → not (leb (max a b) c) ≡ not (leb a c) || not (leb b c)
+larger-over a b c = go (leb a c) refl (leb b c) refl
+  where
+    go : (x : Bool) → leb a c ≡ x → (y : Bool) → leb b c ≡ y → not (leb (max a b) c) ≡ not x || not y
+    go true p true q = ap not (le-leb (max a b) c (omega (arith, leb-true a c p, leb-true b c q)))
+    go true p false q = ap not (lt-leb (max a b) c (omega (arith, leb-false b c q)))
+    go false p y q = ap not (lt-leb (max a b) c (omega (arith, leb-false a c p)))
 
-  pub l-over : 2 ^ 24 < z → not (small 24 (cell l k)) ≡ true
-  l-over h = ap not (lt-leb (natAbs (cell l k)) (2 ^ 24) (omega (arith, l-size)))
+module _ (l : List ℤ) (at j : ℕ) (g : SFits w64 (cell l (at + j))) (z : ℕ) (ez : z ≡ natAbs (rd (cell l (at + j)))) (most : ℕ) (em : not (leb most (2 ^ 24)) ≡ any j (λ k. not (small 24 (cell l (at + k))))) where
+  pub large-next : (w : ℕ) → w ≡ max most z → not (leb w (2 ^ 24)) ≡ any (j + 1) (λ k. not (small 24 (cell l (at + k))))
+  large-next w ew =
+      ap (λ (x : ℕ). not (leb x (2 ^ 24))) ew ∙ larger-over most z (2 ^ 24)
+      ∙ (λ k. em k || not (leb ((ez ∙ ap natAbs (toZ-ofZ g)) k) (2 ^ 24)))
+      ∙ sym (any-more j (λ k. not (small 24 (cell l (at + k)))))
 
-  pub l-under : z ≤ 2 ^ 24 → not (small 24 (cell l k)) ≡ false
-  l-under h = ap not (le-leb (natAbs (cell l k)) (2 ^ 24) (omega (arith, l-size)))
+pub large-end : (l : List ℤ) (at n j most : ℕ) → j ≡ n → not (leb most (2 ^ 24)) ≡ any j (λ k. not (small 24 (cell l (at + k)))) → ltb (2 ^ 24) most ≡ any n (λ k. not (small 24 (cell l (at + k))))
+large-end l at n j most e em = above (2 ^ 24) most most (λ h. h) (λ h. h) ∙ em ∙ ap (λ (k : ℕ). any k (λ k. not (small 24 (cell l (at + k))))) e
 
 -- ---- a test of each in turn
 
@@ -106,37 +123,8 @@ module _ (p a l : List ℤ) (n : ℕ) (r : Bool) (er : r ≡ heavy n p) where
     unfolding foreign
     rest k u eu = eu ∙ or-last (heavy n p || heavy n a) (noFactor n l) s both k
 
--- ---- temperatures: what is left from node i on is the whole
+-- ---- a temperature
 
-abbrev off : List ℤ → ℕ → Bool
-off t i = not (onScale (cell t i))
-
-pub record OffInv (t : List ℤ) (n i : ℕ) : Type 0 where
-  pub upto : i ≤ n
-  pub left : offScale n t ≡ firstFrom (n - i) i (λ k. not (onScale (cell t k)))
-
-pub off-start : (t : List ℤ) (n : ℕ) → OffInv t n 0
-unfolding offScale
-off-start t n = record { upto = omega arith; left = ap (λ (k : ℕ). firstFrom k 0 (off t)) (let z : n ≡ n - 0 = omega arith in z) }
-
-module _ {t : List ℤ} {n i : ℕ} (v : OffInv t n i) (h : i < n) (g : SFits w64 (cell t i)) (r : Bool) (er : r ≡ onScale (rd (cell t i))) where
-  off-row : offScale n t ≡ cond (not r) (suc i) (firstFrom (n - (i + 1)) (suc i) (off t))
-  unfolding firstFrom
-  off-row =
-      let e : n - i ≡ suc (n - (i + 1)) = omega arith in
-      v .left ∙ ap (λ (k : ℕ). firstFrom k i (off t)) e
-      ∙ ap (λ (b : Bool). cond (not b) (suc i) (firstFrom (n - (i + 1)) (suc i) (off t))) (sym (er ∙ ap onScale (toZ-ofZ g)))
-
-  pub off-no : r ≡ false → i + 1 ≡ offScale n t
-  off-no e = add-one i ∙ sym (off-row ∙ ap (λ (b : Bool). cond (not b) (suc i) (firstFrom (n - (i + 1)) (suc i) (off t))) e)
-
-  pub off-yes : r ≡ true → OffInv t n (i + 1)
-  off-yes e = record {
-    upto = omega arith;
-    left = off-row ∙ ap (λ (b : Bool). cond (not b) (suc i) (firstFrom (n - (i + 1)) (suc i) (off t))) e
-        ∙ ap (λ (k : ℕ). firstFrom (n - (i + 1)) k (off t)) (sym (add-one i));
-  }
-
-pub off-end : {t : List ℤ} {n i : ℕ} → OffInv t n i → n ≤ i → 0 ≡ offScale n t
-unfolding firstFrom
-off-end {t} {n} {i} v h = let e : n - i ≡ 0 = omega arith in sym (v .left ∙ ap (λ (k : ℕ). firstFrom k i (off t)) e)
+module _ (t : List ℤ) (i : ℕ) (g : SFits w64 (cell t i)) (r : Bool) (er : r ≡ onScale (rd (cell t i))) where
+  pub off-is : {b : Bool} → r ≡ b → not (onScale (cell t i)) ≡ not b
+  off-is e = ap not (sym (er ∙ ap onScale (toZ-ofZ g)) ∙ e)

@@ -1,11 +1,12 @@
 -- What is lent of n nodes: room for n rows, and the bounds that refusals 10 and 11 leave.
 use mathlib.Core.Path.{_≡_}
-use Prim.Native.Nat.{ℕ, _+_, _^_, _≤_, _<_}
+use Prim.Native.Nat.{ℕ, suc, _+_, _^_, _≤_, _<_, min}
 use mathlib.Core.List.{List}
 use lib.IntN.{ℤ, pos, natAbs}
 use lib.Signed.{_≤ℤ_}
 use lib.ListN.{length}
-use Rattle.whole.specs.Packed.{tri, cell}
+use Rattle.whole.specs.Sums.{sumN}
+use Rattle.whole.specs.Packed.{tri, cell, entry}
 use Rattle.paper.specs.Building.{Slices}
 use Rattle.paper.specs.Lent.{rowSize}
 
@@ -19,6 +20,14 @@ pub record Rows (m : List ℤ) (n : ℕ) : Type 0 where
 pub record InRow (m : List ℤ) (i n : ℕ) : Type 0 where
   pub rows : Rows m n
   pub here : i < n
+
+-- a size for the row sums of refusal 10, where more than 2^33 is as good as 2^33 + 1
+abbrev pub capped : ℤ → ℕ
+capped x = min (natAbs x) (suc (2 ^ 33))
+
+-- and the sum of the first j in row i
+unfoldable pub cappedTo : ℕ → List ℤ → ℕ → ℕ
+cappedTo j m i = sumN j (λ k. capped (entry m i k))
 
 -- a matrix that is not heavy
 pub record Light (m : List ℤ) (n : ℕ) : Type 0 where

@@ -3,7 +3,7 @@
 use paper::Ticks;
 ghost use mathlib.Core.Path.{_≡_};
 ghost use mathlib.Core.Bool.{not};
-ghost use Prim.Native.Nat.{_+_, _^_, _≤_, _<_};
+ghost use Prim.Native.Nat.{_+_, _^_, _≤_, _<_, max};
 ghost use lib.Dec.{leb};
 ghost use lib.ListN.{length};
 ghost use Rattle.whole.specs.Sums.{any};
@@ -11,25 +11,55 @@ ghost use Rattle.whole.specs.Packed.{cell};
 ghost use Rattle.paper.specs.Factor.{small};
 ghost use Rattle.paper.specs.Lent.{rowSize, heavy, pivot, badRow, noFactor, foreign};
 ghost use Rattle.paper.specs.Step.{offScale};
-ghost use Rattle.lent.specs.Rows.{InRow, Rows, lent};
+ghost use Rattle.lent.specs.Rows.{InRow, Rows, capped, cappedTo, lent};
 
-// Whether the magnitudes of row i sum above 2^33. A size is at most 2^63, so a sum that stops there fits.
+// ---- P and A
+
+// A size, or 2^33 + 1 where it is more: sums of these pass 2^33 where sums of the sizes do, and stay within 64 bits.
+fn capped(x: i64) -> u64
+    ensures { λ r. ⌜ r ≡ capped x ⌝ }
+{
+    let s = whole::size(x);
+    if s < 8_589_934_593 { s } else { 8_589_934_593 }
+}
+
+// Row i up to its diagonal.
+fn left(m: &[i64], i: usize, n: usize) -> u64
+    requires { ⌜ InRow (now m) i n ⌝ }
+    ensures { λ r. ⌜ r ≡ cappedTo (i + 1) (now (m .entry)) i ⌝ }
+{
+    let at = whole::start(i);
+    let mut sum: u64 = 0;
+    let mut j = 0;
+    while j <= i {
+        sum += capped(m[at + j]);
+        j += 1;
+    }
+    sum
+}
+
+// The whole row i, from what it comes to up to its diagonal.
+fn down(m: &[i64], left: u64, i: usize, n: usize) -> u64
+    requires { ⌜ InRow (now m) i n × (left ≡ cappedTo (i + 1) (now m) i) ⌝ }
+    ensures { λ r. ⌜ r ≡ cappedTo n (now (m .entry)) i ⌝ }
+{
+    let mut sum = left;
+    let mut j = i + 1;
+    let mut at = whole::start(j) + i;
+    while j < n {
+        sum += capped(m[at]);
+        j += 1;
+        at += j;
+    }
+    sum
+}
+
+// Whether the magnitudes of row i sum above 2^33.
 fn heavy_row(m: &[i64], i: usize, n: usize) -> bool
     requires { ⌜ InRow (now m) i n ⌝ }
     ensures { λ r. ⌜ r ≡ not (leb (rowSize n (now (m .entry)) i) (2 ^ 33)) ⌝ }
 {
-    let mut sum: u64 = 0;
-    let mut at = whole::start(i);
-    let mut j = 0;
-    while j < n {
-        sum += whole::size(m[at]);
-        if 8_589_934_592 < sum {
-            return true;
-        }
-        at = whole::next(at, i, j);
-        j += 1;
-    }
-    false
+    8_589_934_592 < down(m, left(m, i, n), i, n)
 }
 
 pub fn heavy(m: &[i64], n: usize) -> bool
@@ -46,19 +76,26 @@ pub fn heavy(m: &[i64], n: usize) -> bool
     false
 }
 
+// ---- a factor
+
+fn larger(a: u64, b: u64) -> u64
+    ensures { λ r. ⌜ r ≡ max a b ⌝ }
+{
+    if a < b { b } else { a }
+}
+
 // Whether one of the n numbers from `at` on is no l.
 fn large(l: &[i64], at: usize, n: usize) -> bool
     requires { ⌜ at + n ≤ length (now l) ⌝ }
     ensures { λ r. ⌜ r ≡ any n (λ j. not (small 24 (cell (now (l .entry)) (at + j)))) ⌝ }
 {
+    let mut most: u64 = 0;
     let mut j = 0;
     while j < n {
-        if 16_777_216 < whole::size(l[at + j]) {
-            return true;
-        }
+        most = larger(most, whole::size(l[at + j]));
         j += 1;
     }
-    false
+    16_777_216 < most
 }
 
 fn pivot(d: i64) -> bool
@@ -89,7 +126,9 @@ pub fn no_factor(l: &[i64], n: usize) -> bool
     false
 }
 
-// Of all that is lent: P, A, then the factor.
+// ---- all that is lent
+
+// P, A, then the factor.
 pub fn foreign(p: &[i64], a: &[i64], factor: &[i64], n: usize) -> bool
     requires { ⌜ Rows (now p) n × Rows (now a) n × Rows (now factor) n ⌝ }
     ensures { λ r. ⌜ r ≡ foreign n (lent (now (p .entry)) (now (a .entry)) (now (factor .entry))) ⌝ }

@@ -15,7 +15,7 @@ use Rattle.whole.proofs.Sums.{sum-plus, sum-minus, sum-ext, sum-single, sumN-si
 use Rattle.paper.specs.Matrices.{cleared}
 use Rattle.paper.specs.Step.{Board, isFixed, A′, rightSide, residual, rowBound}
 use Rattle.lent.specs.Rows.{Mild}
-use Rattle.residual.specs.Asks.{Fair, heldOr, mixed, share, rowResidual, InRow}
+use Rattle.residual.specs.Asks.{Fair, heldOr, mixed, share, fixedOr, Lines}
 use Rattle.residual.proofs.Terms.{part-size}
 
 differ : {X : Type 0} (f : List ℤ) (i j : ℕ) → isFixed f i ≡ false → isFixed f j ≡ true → i ≡ j → X
@@ -83,8 +83,8 @@ fixed-is b t i h p =
 
 -- ---- any row
 
-pub residual-is : (b : Board) (t : List ℤ) (i : ℕ) → i < b .n → rowResidual (b .p) (b .a) (b .fixed) (b .old) t (cell (b .loads) i) i (b .n) ≡ residual b t i
-unfolding rowResidual
+pub residual-is : (b : Board) (t : List ℤ) (i : ℕ) → i < b .n
+    → fixedOr (cell (b .fixed) i) (cell t i) (cell (b .loads) i +ℤ sum (b .n) (mixed (b .p) (b .a) (b .fixed) (b .old) t i)) ≡ residual b t i
 residual-is b t i h = go (isFixed (b .fixed) i) refl
   where
     go : (w : Bool) → isFixed (b .fixed) i ≡ w
@@ -92,22 +92,14 @@ residual-is b t i h = go (isFixed (b .fixed) i) refl
     go true p = rw p (sym (fixed-is b t i h p))
     go false p = rw p (sym (free-is b t i p))
 
-pub in-row : {b : Board} {t : List ℤ} {i : ℕ} → Fair b → Mild t (b .n) → i < b .n → InRow (b .p) (b .a) (b .fixed) (b .old) t (cell (b .loads) i) i (b .n)
-in-row {b} {t} {i} q s h = record {
-  here = h;
-  p-light = q .p-light;
-  a-light = q .a-light;
-  fixed-mild = q .fixed-mild;
-  old-mild = q .old-mild;
-  t-mild = s;
-  load-small = q .loads-small i h;
-}
+pub lines : {b : Board} {t : List ℤ} → Fair b → Mild t (b .n) → Lines (b .p) (b .a) (b .fixed) (b .old) t (b .n)
+lines q s = record { p-light = q .p-light; a-light = q .a-light; fixed-mild = q .fixed-mild; old-mild = q .old-mild; t-mild = s }
 
 pub residual-size : {b : Board} {t : List ℤ} {i : ℕ} → Fair b → Mild t (b .n) → i < b .n → natAbs (residual b t i) ≤ 2 ^ 60
 residual-size {b} {t} {i} q s h = go (isFixed (b .fixed) i) refl
   where
     go : (w : Bool) → isFixed (b .fixed) i ≡ w → natAbs (residual b t i) ≤ 2 ^ 60
-    go false p = rw (free-is b t i p) (part-size (in-row q s h) (b .n) (omega arith))
+    go false p = rw (free-is b t i p) (part-size (lines q s) (cell (b .loads) i) (q .loads-small i h) i (b .n) h (omega arith))
     go true p =
         rw (fixed-is b t i h p)
         (omega (

@@ -1,122 +1,147 @@
--- A row as the code has it, and the pass over all of them.
+-- The pass over the triangle: row i as the code walks it, then all rows.
 use mathlib.Core.Path.{_≡_, refl, sym, ap, subst, _∙_}
-use mathlib.Core.Bool.{Bool, true, false, not, cond}
 use mathlib.Core.List.{List}
-use Prim.Native.Nat.{ℕ, zero, suc, _+_, _^_, _≤_, _<_}
+use Prim.Native.Nat.{ℕ, _+_, _-_, _^_, _≤_, _<_}
 use native.Mathlib.Omega.{arith}
-use native.Mathlib.Nat.{zero-add}
-use lib.Dec.{leb, lit<}
-use lib.IntN.{ℤ, pos, natAbs, _+ℤ_, _-ℤ_, _*ℤ_}
-use lib.Signed.{leZ}
-use lib.ListN.{length, set}
-use mir.Syntax.{w64}
-use mir.Val.{SFits}
-use mir.Facts.{toZ-ofZ}
-use borrow.Author.Tests.{le-leb, lt-leb}
-use Rattle.whole.specs.Sums.{sum, sumN, firstFrom}
-use Rattle.whole.specs.Packed.{cell, entry}
-use Rattle.whole.proofs.Sums.{filled, filled-none, filled-more, filled-next, filled-end, filled-length, orElse, first-ext, first-more, table-at}
-use Rattle.whole.proofs.Calc.{rd, num, size-of}
-use Rattle.paper.specs.Step.{Board, isFixed, residual, residuals, rowBound, unsettled}
+use lib.Dec.{lit<}
+use lib.IntN.{ℤ, pos, natAbs, _+ℤ_, _-ℤ_, _*ℤ_, +ℤ-assoc, +ℤ-idr}
+use lib.ListN.{length, set, drop, length-set, List·getD-append}
+use lib.Seq.{getD-set-same, getD-set-other, getD-append-add, getD-drop}
+use borrow.Author.Count.{below-none, below-more}
+use Rattle.whole.specs.Sums.{sum, table}
+use Rattle.whole.specs.Packed.{tri, cell, place}
+use Rattle.whole.proofs.Sums.{sum-more, filled, filled-more, filled-next, filled-length, table-at, table-length, table-ext, table-cells}
+use Rattle.whole.proofs.Packed.{tri-below, place-low, place-high}
+use Rattle.whole.proofs.Calc.{Is, rd, num, is}
+use Rattle.paper.specs.Step.{Board}
 use Rattle.lent.specs.Rows.{Mild}
-use Rattle.residual.specs.Asks.{Fair, mixed, share, rowResidual, InRow, Weighed}
-use Rattle.residual.proofs.Paper.{residual-is, in-row, free-bound, fixed-bound}
+use Rattle.residual.specs.Asks.{Fair, heldOr, mixed, Lines, InRow, Term}
+use Rattle.residual.proofs.Terms.{part-size, term-asks, term-is}
+use Rattle.residual.proofs.Paper.{lines}
 
--- ---- one row: the test of its node, as the code has it
+-- ---- a list that is filled up to i, below i and from i on
 
-module _ {p a f old t : List ℤ} {load : ℤ} {i n : ℕ} (q : InRow p a f old t load i n) where
-  test-is : {w : Bool} → leZ (pos 0) (rd (cell f i)) ≡ w → isFixed f i ≡ w
-  test-is e = ap (leZ (pos 0)) (sym (num (cell f i) (q .fixed-mild .each i (q .here)) (lit< tt) .eq)) ∙ e
+filled-at : (f : ℕ → ℤ) (s : List ℤ) (i k : ℕ) → k < i → cell (filled f s i) k ≡ f k
+filled-at f s i k h = List·getD-append (table i f) (drop i s) (pos 0) k (omega (arith, table-length i f)) ∙ table-at i k f h
 
-  pub fixed-asks : (natAbs (rd (cell f i)) ≤ 2 ^ 25) × (natAbs (rd (cell t i)) ≤ 2 ^ 25)
-  fixed-asks = (size-of (num (cell f i) (q .fixed-mild .each i (q .here)) (lit< tt)), size-of (num (cell t i) (q .t-mild .each i (q .here)) (lit< tt)))
+filled-past : (f : ℕ → ℤ) (s : List ℤ) (i k : ℕ) → i ≤ k → cell (filled f s i) k ≡ cell s k
+filled-past f s i k h =
+    let e : k ≡ length (table i f) + (k - i) = omega (arith, table-length i f) in
+    let d : i + (k - i) ≡ k = omega arith in
+    ap (cell (filled f s i)) e ∙ getD-append-add (table i f) (drop i s) (k - i) (pos 0) ∙ getD-drop i s (k - i) (pos 0) ∙ ap (cell s) d
 
-  pub fixed-residual : leZ (pos 0) (rd (cell f i)) ≡ true → (z : ℤ) → z ≡ pos (2 ^ 20) *ℤ rd (cell f i) -ℤ pos (2 ^ 20) *ℤ rd (cell t i) → z ≡ rowResidual p a f old t load i n
-  unfolding rowResidual
-  fixed-residual e z ez =
-      let x = num (cell f i) (q .fixed-mild .each i (q .here)) (lit< tt) in
-      let y = num (cell t i) (q .t-mild .each i (q .here)) (lit< tt) in
-      ez ∙ (λ k. pos (2 ^ 20) *ℤ x .eq k -ℤ pos (2 ^ 20) *ℤ y .eq k)
-      ∙ ap (λ (w : Bool). cond w (pos (2 ^ 20) *ℤ cell f i -ℤ pos (2 ^ 20) *ℤ cell t i) (load +ℤ sum n (mixed p a f old t i))) (sym (test-is e))
+-- ---- row i of the triangle, which starts at `at`
 
-  pub free-residual : leZ (pos 0) (rd (cell f i)) ≡ false → SFits w64 load → (z : ℤ) → z ≡ rd load +ℤ sum n (mixed p a f old t i) → z ≡ rowResidual p a f old t load i n
-  unfolding rowResidual
-  free-residual e g z ez = ez ∙ ap (λ (x : ℤ). x +ℤ sum n (mixed p a f old t i)) (toZ-ofZ g) ∙ ap (λ (w : Bool). cond w (pos (2 ^ 20) *ℤ cell f i -ℤ pos (2 ^ 20) *ℤ cell t i) (load +ℤ sum n (mixed p a f old t i))) (sym (test-is e))
+module _ {p a f old t r₀ : List ℤ} {i n : ℕ} (q : InRow p a f old t r₀ i n) where
+  pub own-start : rd (cell r₀ i) ≡ cell r₀ i +ℤ sum 0 (mixed p a f old t i)
+  unfolding sum
+  own-start = num (cell r₀ i) (q .own) (lit< tt) .eq ∙ sym (+ℤ-idr (cell r₀ i))
 
-  pub fixed-row-bound : leZ (pos 0) (rd (cell f i)) ≡ true → (z : ℕ) → z ≡ 2 ^ 20 → z ≡ rowBound a f n i
-  fixed-row-bound e z ez = ez ∙ fixed-bound a f n i (q .here) (test-is e)
+  pub own-end : {j : ℕ} → j ≡ i → {s : ℤ} → s ≡ cell r₀ i +ℤ sum j (mixed p a f old t i) → s ≡ cell r₀ i +ℤ sum i (mixed p a f old t i)
+  own-end e es = es ∙ ap (λ (k : ℕ). cell r₀ i +ℤ sum k (mixed p a f old t i)) e
 
-  pub free-row-bound : leZ (pos 0) (rd (cell f i)) ≡ false → (z : ℕ) → z ≡ sumN n (λ j. share (cell f j) (entry a i j)) → z ≡ rowBound a f n i
-  free-row-bound e z ez = ez ∙ free-bound a f n i (test-is e)
+  pub row-end : {j : ℕ} → j ≡ i → {r : List ℤ} → r ≡ filled (λ k. cell r₀ k +ℤ mixed p a f old t k i) r₀ j → r ≡ filled (λ k. cell r₀ k +ℤ mixed p a f old t k i) r₀ i
+  row-end e er = er ∙ ap (filled (λ k. cell r₀ k +ℤ mixed p a f old t k i) r₀) e
 
--- ---- the lowest unsettled row
+  pub row-long : (j : ℕ) (r : List ℤ) → j ≤ i → r ≡ filled (λ k. cell r₀ k +ℤ mixed p a f old t k i) r₀ j → length r ≡ n
+  row-long j r l er = ap length er ∙ filled-length (λ k. cell r₀ k +ℤ mixed p a f old t k i) r₀ j (omega (arith, q .long, q .here)) ∙ q .long
 
--- the size as the code has it against the bound
-pub over : (r : ℤ) (b m : ℕ) → SFits w64 r → m ≡ natAbs (rd r) → b < m → not (leb (natAbs r) b) ≡ true
-over r b m g e h = ap not (lt-leb (natAbs r) b (omega (arith, e ∙ ap natAbs (toZ-ofZ g))))
+  module _ (at : ℕ) (ea : at ≡ tri i) where
+    pub in-p : at + i < length p
+    in-p = omega (arith, ea, tri-below i n (q .here), q .lines .p-light .rows .room)
 
-pub under : (r : ℤ) (b m : ℕ) → SFits w64 r → m ≡ natAbs (rd r) → m ≤ b → not (leb (natAbs r) b) ≡ false
-under r b m g e h = ap not (le-leb (natAbs r) b (omega (arith, e ∙ ap natAbs (toZ-ofZ g))))
+    pub in-a : at + i < length a
+    in-a = omega (arith, ea, tri-below i n (q .here), q .lines .a-light .rows .room)
 
-pub or-first : (a b : ℕ) → (a ≡ 0 → ⊥) → a ≡ orElse a b
-or-first zero b h = absurd (h refl)
-or-first (suc a) b h = refl
+    -- column j, for row i itself: s is what it came to so far
+    module _ (j : ℕ) (l : j ≤ i) (s : ℤ) (es : s ≡ cell r₀ i +ℤ sum j (mixed p a f old t i)) (h : ℤ) (eh : h ≡ heldOr (rd (cell f j)) (rd (cell t j))) where
+      own-at : at + j ≡ place i j
+      own-at = ap (λ (k : ℕ). k + j) ea ∙ sym (place-low i j l)
 
-pub or-here : (a i : ℕ) (t : Bool) → a ≡ 0 → t ≡ true → i + 1 ≡ orElse a (cond t (suc i) 0)
-or-here a i t e q = omega arith ∙ sym ((λ k. orElse (e k) (cond (q k) (suc i) 0)))
+      own-is : Is s (cell r₀ i +ℤ sum j (mixed p a f old t i)) (2 ^ 60)
+      own-is = is es (part-size (q .lines) (cell r₀ i) (q .own) i j (q .here) (omega (arith, q .here)))
 
-pub or-none : (a i : ℕ) (t : Bool) → a ≡ 0 → t ≡ false → 0 ≡ orElse a (cond t (suc i) 0)
-or-none a i t e q = sym (λ k. orElse (e k) (cond (q k) (suc i) 0))
+      pub own-asks : Term s (rd (cell p (at + j))) (rd (cell old j)) (rd (cell a (at + j))) (rd h)
+      own-asks = term-asks (q .lines) i j (at + j) own-at (q .here) (omega (arith, q .here)) h eh own-is
 
--- ---- the pass
+      pub own-next : (z : ℤ) → z ≡ s +ℤ (rd (cell p (at + j)) *ℤ rd (cell old j) -ℤ rd (cell a (at + j)) *ℤ rd h) → rd z ≡ cell r₀ i +ℤ sum (j + 1) (mixed p a f old t i)
+      own-next z ez =
+          term-is (q .lines) i j (at + j) own-at (q .here) (omega (arith, q .here)) h eh own-is z ez
+          ∙ +ℤ-assoc (cell r₀ i) (sum j (mixed p a f old t i)) (mixed p a f old t i j)
+          ∙ ap (λ (x : ℤ). cell r₀ i +ℤ x) (sym (sum-more j (mixed p a f old t i)))
 
--- row i of t is not settled
-abbrev loose : Board → List ℤ → ℕ → Bool
-loose b t i = not (leb (natAbs (residual b t i)) (rowBound (b .a) (b .fixed) (b .n) i))
+    -- and for row j
+    module _ (j : ℕ) (l : j < i) (r : List ℤ) (er : r ≡ filled (λ k. cell r₀ k +ℤ mixed p a f old t k i) r₀ j) (h : ℤ) (eh : h ≡ heldOr (rd (cell f i)) (rd (cell t i))) where
+      other-at : at + j ≡ place j i
+      other-at = ap (λ (k : ℕ). k + j) ea ∙ sym (place-high j i (omega arith))
 
-pub record PassInv (b : Board) (t r : List ℤ) (first i : ℕ) : Type 0 where
+      other-is : Is (rd (cell r j)) (cell r₀ j) (2 ^ 60)
+      other-is =
+          subst (λ (x : ℤ). Is (rd x) (cell r₀ j) (2 ^ 60)) (sym (ap (λ (x : List ℤ). cell x j) er ∙ filled-next (λ k. cell r₀ k +ℤ mixed p a f old t k i) r₀ j (omega (arith, q .long, q .here)))) (num (cell r₀ j) (q .above j l) (lit< tt))
+
+      pub other-asks : Term (rd (cell r j)) (rd (cell p (at + j))) (rd (cell old i)) (rd (cell a (at + j))) (rd h)
+      other-asks = term-asks (q .lines) j i (at + j) other-at (omega (arith, q .here)) (q .here) h eh other-is
+
+      pub other-next : (z : ℤ) → z ≡ rd (cell r j) +ℤ (rd (cell p (at + j)) *ℤ rd (cell old i) -ℤ rd (cell a (at + j)) *ℤ rd h) → set r j (rd z) ≡ filled (λ k. cell r₀ k +ℤ mixed p a f old t k i) r₀ (j + 1)
+      other-next z ez =
+          (λ k. set (er k) j (term-is (q .lines) j i (at + j) other-at (omega (arith, q .here)) (q .here) h eh other-is z ez k))
+          ∙ filled-more (λ k. cell r₀ k +ℤ mixed p a f old t k i) r₀ j (omega (arith, q .long, q .here))
+
+-- ---- all rows: the first i columns are summed in the rows above i
+
+pub record SumsInv (b : Board) (t r : List ℤ) (i : ℕ) : Type 0 where
   pub upto : i ≤ b .n
-  pub rows : r ≡ filled (residual b t) (b .loads) i
-  pub lowest : first ≡ firstFrom i 0 (λ k. not (leb (natAbs (residual b t k)) (rowBound (b .a) (b .fixed) (b .n) k)))
+  pub long : length r ≡ b .n
+  pub done : (k : ℕ) → k < i → cell r k ≡ cell (b .loads) k +ℤ sum i (mixed (b .p) (b .a) (b .fixed) (b .old) t k)
+  pub rest : (k : ℕ) → i ≤ k → cell r k ≡ cell (b .loads) k
 
-module _ {b : Board} {t r : List ℤ} {first i : ℕ} (q : Fair b) (s : Mild t (b .n)) (v : PassInv b t r first i) where
-  pub pass-long : length r ≡ b .n
-  pass-long = ap length (v .rows) ∙ filled-length (residual b t) (b .loads) i (omega (arith, v .upto, q .loads-long)) ∙ q .loads-long
+pub sums-start : {b : Board} (t : List ℤ) → Fair b → SumsInv b t (b .loads) 0
+sums-start {b} t q = record {
+  upto = omega arith;
+  long = q .loads-long;
+  done = below-none (λ k. cell (b .loads) k ≡ cell (b .loads) k +ℤ sum 0 (mixed (b .p) (b .a) (b .fixed) (b .old) t k));
+  rest = λ k _. refl;
+}
 
+module _ {b : Board} {t r : List ℤ} {i : ℕ} (q : Fair b) (s : Mild t (b .n)) (v : SumsInv b t r i) where
   module _ (h : i < b .n) where
-    here : cell r i ≡ cell (b .loads) i
-    here = ap (λ (x : List ℤ). cell x i) (v .rows) ∙ filled-next (residual b t) (b .loads) i (omega (arith, q .loads-long))
+    pub sums-row : InRow (b .p) (b .a) (b .fixed) (b .old) t r i (b .n)
+    sums-row = record {
+      lines = lines q s;
+      here = h;
+      long = v .long;
+      above = λ j l. subst (λ (z : ℤ). natAbs z ≤ 2 ^ 60) (sym (v .done j l)) (part-size (lines q s) (cell (b .loads) j) (q .loads-small j (omega arith)) j i (omega arith) (v .upto));
+      own = subst (λ (z : ℤ). natAbs z ≤ 2 ^ 57) (sym (v .rest i (omega arith))) (q .loads-small i h);
+    }
 
-    pub pass-asks : InRow (b .p) (b .a) (b .fixed) (b .old) t (rd (cell r i)) i (b .n)
-    pass-asks =
-        subst (λ (z : ℤ). InRow (b .p) (b .a) (b .fixed) (b .old) t z i (b .n)) (sym (ap rd here ∙ num (cell (b .loads) i) (q .loads-small i h) (lit< tt) .eq)) (in-row q s h)
+    module _ (r′ : List ℤ) (er : r′ ≡ filled (λ j. cell r j +ℤ mixed (b .p) (b .a) (b .fixed) (b .old) t j i) r i) where
+      pub after-long : length r′ ≡ b .n
+      after-long = ap length er ∙ filled-length (λ j. cell r j +ℤ mixed (b .p) (b .a) (b .fixed) (b .old) t j i) r i (omega (arith, v .long)) ∙ v .long
 
-    module _ (z : ℤ) (ez : z ≡ rowResidual (b .p) (b .a) (b .fixed) (b .old) t (rd (cell r i)) i (b .n)) (g : SFits w64 z) (m : ℕ) (em : m ≡ rowBound (b .a) (b .fixed) (b .n) i) where
-      z-is : z ≡ residual b t i
-      z-is =
-          ez ∙ ap (λ (x : ℤ). rowResidual (b .p) (b .a) (b .fixed) (b .old) t x i (b .n)) (ap rd here ∙ num (cell (b .loads) i) (q .loads-small i h) (lit< tt) .eq)
-          ∙ residual-is b t i h
-
-      pub pass-next : (next : ℕ) → next ≡ orElse first (cond (not (leb (natAbs z) m)) (suc i) 0) → PassInv b t (set r i (rd z)) next (i + 1)
-      pass-next next en = record {
+      pub sums-next : (z : ℤ) → z ≡ cell r i +ℤ sum (i + 1) (mixed (b .p) (b .a) (b .fixed) (b .old) t i) → SumsInv b t (set r′ i (rd z)) (i + 1)
+      sums-next z ez = record {
         upto = omega arith;
-        rows = (λ k. set (v .rows k) i ((toZ-ofZ g ∙ z-is) k)) ∙ filled-more (residual b t) (b .loads) i (omega (arith, q .loads-long));
-        lowest = en
-            ∙ (λ k. orElse (v .lowest k) (cond (not (leb (natAbs (z-is k)) (em k))) (suc i) 0))
-            ∙ ap (λ (k : ℕ). orElse (firstFrom i 0 (loose b t)) (cond (loose b t k) (suc k) 0)) (sym (zero-add i))
-            ∙ sym (first-more i 0 (loose b t));
+        long = length-set r′ i (rd z) ∙ after-long;
+        done = below-more (λ k. cell (set r′ i (rd z)) k ≡ cell (b .loads) k +ℤ sum (i + 1) (mixed (b .p) (b .a) (b .fixed) (b .old) t k)) i
+            (λ k l.
+            getD-set-other r′ i k (rd z) (pos 0) (omega arith) ∙ ap (λ (x : List ℤ). cell x k) er ∙ filled-at (λ j. cell r j +ℤ mixed (b .p) (b .a) (b .fixed) (b .old) t j i) r i k l
+            ∙ ap (λ (x : ℤ). x +ℤ mixed (b .p) (b .a) (b .fixed) (b .old) t k i) (v .done k l)
+            ∙ +ℤ-assoc (cell (b .loads) k) (sum i (mixed (b .p) (b .a) (b .fixed) (b .old) t k)) (mixed (b .p) (b .a) (b .fixed) (b .old) t k i)
+            ∙ ap (λ (x : ℤ). cell (b .loads) k +ℤ x) (sym (sum-more i (mixed (b .p) (b .a) (b .fixed) (b .old) t k))))
+            (getD-set-same r′ i (rd z) (pos 0) (omega (arith, after-long)) ∙ z-is);
+        rest = λ k l.
+            getD-set-other r′ i k (rd z) (pos 0) (omega arith) ∙ ap (λ (x : List ℤ). cell x k) er
+            ∙ filled-past (λ j. cell r j +ℤ mixed (b .p) (b .a) (b .fixed) (b .old) t j i) r i k (omega arith) ∙ v .rest k (omega arith);
       }
+        where
+          eq : z ≡ cell (b .loads) i +ℤ sum (i + 1) (mixed (b .p) (b .a) (b .fixed) (b .old) t i)
+          eq = ez ∙ ap (λ (x : ℤ). x +ℤ sum (i + 1) (mixed (b .p) (b .a) (b .fixed) (b .old) t i)) (v .rest i (omega arith))
 
-  pub pass-end : b .n ≤ i → Weighed first b t r
-  unfolding residuals unsettled
-  pass-end h =
+          z-is : rd z ≡ cell (b .loads) i +ℤ sum (i + 1) (mixed (b .p) (b .a) (b .fixed) (b .old) t i)
+          z-is = num z (subst (λ (x : ℤ). natAbs x ≤ 2 ^ 60) (sym eq) (part-size (lines q s) (cell (b .loads) i) (q .loads-small i h) i (i + 1) h (omega arith))) (lit< tt) .eq ∙ eq
+
+  pub sums-end : b .n ≤ i → r ≡ table (b .n) (λ k. cell (b .loads) k +ℤ sum (b .n) (mixed (b .p) (b .a) (b .fixed) (b .old) t k))
+  sums-end h =
       let e : i ≡ b .n = omega (arith, v .upto) in
-      record {
-        unsettled-is = v .lowest ∙ ap (λ (k : ℕ). firstFrom k 0 (loose b t)) e
-            ∙ first-ext (b .n) 0 (loose b t) _ (λ k _ l. ap (λ (x : ℤ). not (leb (natAbs x) (rowBound (b .a) (b .fixed) (b .n) k))) (sym (table-at (b .n) k (residual b t) (omega arith))));
-        residuals-are = v .rows ∙ ap (filled (residual b t) (b .loads)) e ∙ filled-end (residual b t) (b .loads) (b .n) (q .loads-long);
-      }
-
-pub pass-start : (b : Board) (t : List ℤ) → PassInv b t (b .loads) 0 0
-unfolding firstFrom
-pass-start b t = record { upto = omega arith; rows = filled-none (residual b t) (b .loads); lowest = refl }
+      sym (table-cells r (b .n) (v .long))
+      ∙ table-ext (b .n) (cell r) (λ k. cell (b .loads) k +ℤ sum (b .n) (mixed (b .p) (b .a) (b .fixed) (b .old) t k)) (λ k l. v .done k (omega arith) ∙ ap (λ (x : ℕ). cell (b .loads) k +ℤ sum x (mixed (b .p) (b .a) (b .fixed) (b .old) t k)) e)

@@ -6,9 +6,8 @@ use Prim.Native.Nat.{ℕ, _^_, _≤_, _<_}
 use lib.IntN.{ℤ, pos, natAbs, _+ℤ_, _-ℤ_, _*ℤ_}
 use lib.Signed.{leZ}
 use lib.ListN.{length}
-use Rattle.whole.specs.Sums.{sum}
 use Rattle.whole.specs.Packed.{cell, entry}
-use Rattle.paper.specs.Step.{Board, isFixed, residuals, unsettled}
+use Rattle.paper.specs.Step.{Board, residuals, unsettled}
 use Rattle.lent.specs.Rows.{Light, Mild}
 
 pub record Fair (b : Board) : Type 0 where
@@ -31,19 +30,25 @@ mixed p a f old t i j = entry p i j *ℤ cell old j -ℤ entry a i j *ℤ heldOr
 unfoldable pub share : ℤ → ℤ → ℕ
 share f a = cond (leZ (pos 0) f) 0 (natAbs a)
 
--- the residual of row i, whose node has this load
-unfoldable pub rowResidual : List ℤ → List ℤ → List ℤ → List ℤ → List ℤ → ℤ → ℕ → ℕ → ℤ
-rowResidual p a f old t load i n =
-    cond (isFixed f i) (pos (2 ^ 20) *ℤ cell f i -ℤ pos (2 ^ 20) *ℤ cell t i) (load +ℤ sum n (mixed p a f old t i))
+-- 2^20 times what a fixed node is off its card, or what a free node's row came to
+abbrev pub fixedOr : ℤ → ℤ → ℤ → ℤ
+fixedOr f t r = cond (leZ (pos 0) f) (pos (2 ^ 20) *ℤ f -ℤ pos (2 ^ 20) *ℤ t) r
 
-pub record InRow (p a f old t : List ℤ) (load : ℤ) (i n : ℕ) : Type 0 where
-  pub here : i < n
+-- what rows are summed from
+pub record Lines (p a f old t : List ℤ) (n : ℕ) : Type 0 where
   pub p-light : Light p n
   pub a-light : Light a n
   pub fixed-mild : Mild f n
   pub old-mild : Mild old n
   pub t-mild : Mild t n
-  pub load-small : natAbs load ≤ 2 ^ 57
+
+-- row i is the next: above it r holds sums, and from it on loads
+pub record InRow (p a f old t r : List ℤ) (i n : ℕ) : Type 0 where
+  pub lines : Lines p a f old t n
+  pub here : i < n
+  pub long : length r ≡ n
+  pub above : (j : ℕ) → j < i → natAbs (cell r j) ≤ 2 ^ 60
+  pub own : natAbs (cell r i) ≤ 2 ^ 57
 
 pub record Term (s p o a h : ℤ) : Type 0 where
   pub s-ok : natAbs s ≤ 2 ^ 60

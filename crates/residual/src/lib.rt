@@ -1,23 +1,18 @@
-// The residuals of a step, row by row, with the row bounds: one pass over P and A.
+// The residuals of a step, by one pass over the triangles of P and A, and the test for settled.
 ghost use mathlib.Core.Path.{_≡_};
-ghost use mathlib.Core.Bool.{cond, not};
-ghost use Prim.Native.Nat.{suc, _+_, _^_, _≤_, _<_};
+ghost use mathlib.Core.Bool.{not};
+ghost use Prim.Native.Nat.{_+_, _^_, _≤_, _<_};
 ghost use lib.Dec.{leb};
-ghost use lib.IntN.{ℤ, pos, natAbs, _+ℤ_, _-ℤ_, _*ℤ_};
-ghost use Rattle.whole.specs.Sums.{sum, sumN};
+ghost use lib.IntN.{ℤ, natAbs, _+ℤ_, _-ℤ_, _*ℤ_};
+ghost use lib.ListN.{length};
+ghost use Rattle.whole.specs.Sums.{sum, sumN, table, firstFrom};
 ghost use Rattle.whole.specs.Packed.{cell, entry};
-ghost use Rattle.whole.proofs.Sums.{orElse};
+ghost use Rattle.whole.proofs.Sums.{filled};
 ghost use Rattle.paper.specs.Step.{board, rowBound};
-ghost use Rattle.lent.specs.Rows.{Mild};
-ghost use Rattle.residual.specs.Asks.{Fair, heldOr, mixed, share, rowResidual, InRow, Term, Weighed};
+ghost use Rattle.lent.specs.Rows.{Light, Mild};
+ghost use Rattle.residual.specs.Asks.{Fair, heldOr, mixed, share, fixedOr, InRow, Term, Weighed};
 
-// What a row comes to: its residual, and the sum of |A'| along it.
-pub struct RowSum {
-    pub residual: i64,
-    pub bound: u64,
-}
-
-// ---- a free node's row
+// ---- each number of P and of A, in the rows of its two nodes
 
 // The T card's temperature, or the node's own where it is free.
 fn held(f: i64, t: i64) -> i64
@@ -33,6 +28,78 @@ fn term(s: i64, p: i64, o: i64, a: i64, h: i64) -> i64
     s + (p * o - a * h)
 }
 
+// Row i of the triangle: each number left of the diagonal also serves its column's row. What row i itself comes to.
+fn row(
+    p: &[i64],
+    a: &[i64],
+    fixed: &[i64],
+    old: &[i64],
+    t: &[i64],
+    r: &mut [i64],
+    i: usize,
+    n: usize,
+) -> i64
+    requires { ⌜ InRow (now p) (now a) (now fixed) (now old) (now t) (now r) i n ⌝ }
+    ensures { λ s. ⌜ s ≡ cell (now (r .entry)) i +ℤ sum (i + 1) (mixed (now (p .entry)) (now (a .entry)) (now (fixed .entry)) (now (old .entry)) (now (t .entry)) i) ⌝ }
+    ensures { λ _. ⌜ now (r .exit) ≡ filled (λ j. cell (now (r .entry)) j +ℤ mixed (now (p .entry)) (now (a .entry)) (now (fixed .entry)) (now (old .entry)) (now (t .entry)) j i) (now (r .entry)) i ⌝ }
+{
+    let at = whole::start(i);
+    let o = old[i];
+    let h = held(fixed[i], t[i]);
+    let mut sum = r[i];
+    let mut j = 0;
+    while j < i {
+        let x = p[at + j];
+        let y = a[at + j];
+        sum = term(sum, x, old[j], y, held(fixed[j], t[j]));
+        let v = term(r[j], x, o, y, h);
+        r[j] = v;
+        j += 1;
+    }
+    term(sum, p[at + i], o, a[at + i], h)
+}
+
+// To the loads in r: P times the old temperatures, less A times the T cards' temperatures and the new ones.
+fn sums(p: &[i64], a: &[i64], fixed: &[i64], old: &[i64], t: &[i64], r: &mut [i64], n: usize)
+    requires { ⌜ Fair (board n (now p) (now a) (now r) (now fixed) (now old)) × Mild (now t) n ⌝ }
+    ensures { λ _. ⌜ now (r .exit) ≡ table n (λ i. cell (now (r .entry)) i +ℤ sum n (mixed (now (p .entry)) (now (a .entry)) (now (fixed .entry)) (now (old .entry)) (now (t .entry)) i)) ⌝ }
+{
+    let mut i = 0;
+    while i < n {
+        let v = row(p, a, fixed, old, t, &mut r[..], i, n);
+        r[i] = v;
+        i += 1;
+    }
+}
+
+// ---- fixed rows
+
+// 2^20 times what a fixed node is off its card, or what a free node's row came to.
+fn fixed_or(f: i64, t: i64, r: i64) -> i64
+    requires { ⌜ (natAbs f ≤ 2 ^ 25) × (natAbs t ≤ 2 ^ 25) ⌝ }
+    ensures { λ s. ⌜ s ≡ fixedOr f t r ⌝ }
+{
+    if 0 <= f {
+        1_048_576 * f - 1_048_576 * t
+    } else {
+        r
+    }
+}
+
+fn fix(fixed: &[i64], t: &[i64], r: &mut [i64], n: usize)
+    requires { ⌜ (n ≤ 96) × Mild (now fixed) n × Mild (now t) n × (length (now r) ≡ n) ⌝ }
+    ensures { λ _. ⌜ now (r .exit) ≡ table n (λ i. fixedOr (cell (now (fixed .entry)) i) (cell (now (t .entry)) i) (cell (now (r .entry)) i)) ⌝ }
+{
+    let mut i = 0;
+    while i < n {
+        let v = fixed_or(fixed[i], t[i], r[i]);
+        r[i] = v;
+        i += 1;
+    }
+}
+
+// ---- settled rows
+
 // |A'| off a free node's diagonal: a fixed column is cleared.
 fn share(f: i64, a: i64) -> u64
     ensures { λ r. ⌜ r ≡ share f a ⌝ }
@@ -40,83 +107,53 @@ fn share(f: i64, a: i64) -> u64
     if 0 <= f { 0 } else { whole::size(a) }
 }
 
-// The load and P times the old temperatures, less A times the T cards' temperatures and the new ones.
-fn free_row(
-    p: &[i64],
-    a: &[i64],
-    fixed: &[i64],
-    old: &[i64],
-    t: &[i64],
-    load: i64,
-    i: usize,
-    n: usize,
-) -> RowSum
-    requires { ⌜ InRow (now p) (now a) (now fixed) (now old) (now t) load i n ⌝ }
-    ensures { λ r. ⌜ (r .residual ≡ load +ℤ sum n (mixed (now (p .entry)) (now (a .entry)) (now (fixed .entry)) (now (old .entry)) (now (t .entry)) i)) × (r .bound ≡ sumN n (λ j. share (cell (now (fixed .entry)) j) (entry (now (a .entry)) i j))) ⌝ }
+// The sum of |A'| along a free node's row.
+fn bound(a: &[i64], fixed: &[i64], i: usize, n: usize) -> u64
+    requires { ⌜ Light (now a) n × Mild (now fixed) n × (i < n) ⌝ }
+    ensures { λ r. ⌜ r ≡ sumN n (λ j. share (cell (now (fixed .entry)) j) (entry (now (a .entry)) i j)) ⌝ }
 {
-    let mut sum = load;
-    let mut bound: u64 = 0;
+    let mut sum: u64 = 0;
     let mut at = whole::start(i);
     let mut j = 0;
     while j < n {
-        sum = term(sum, p[at], old[j], a[at], held(fixed[j], t[j]));
-        bound += share(fixed[j], a[at]);
+        sum += share(fixed[j], a[at]);
         at = whole::next(at, i, j);
         j += 1;
     }
-    RowSum {
-        residual: sum,
-        bound: bound,
-    }
+    sum
 }
 
-// ---- any row
-
-// 2^20 times what a fixed node is off its card.
-fn fixed_row(f: i64, t: i64) -> RowSum
-    requires { ⌜ (natAbs f ≤ 2 ^ 25) × (natAbs t ≤ 2 ^ 25) ⌝ }
-    ensures { λ r. ⌜ (r .residual ≡ pos (2 ^ 20) *ℤ f -ℤ pos (2 ^ 20) *ℤ t) × (r .bound ≡ 2 ^ 20) ⌝ }
+// Whether a residual of row i is within the row's bound. The diagonal alone nearly always reaches it.
+fn settled(a: &[i64], fixed: &[i64], r: i64, i: usize, n: usize) -> bool
+    requires { ⌜ Light (now a) n × Mild (now fixed) n × (i < n) ⌝ }
+    ensures { λ s. ⌜ s ≡ leb (natAbs r) (rowBound (now (a .entry)) (now (fixed .entry)) n i) ⌝ }
 {
-    RowSum {
-        residual: 1_048_576 * f - 1_048_576 * t,
-        bound: 1_048_576,
-    }
-}
-
-fn row(
-    p: &[i64],
-    a: &[i64],
-    fixed: &[i64],
-    old: &[i64],
-    t: &[i64],
-    load: i64,
-    i: usize,
-    n: usize,
-) -> RowSum
-    requires { ⌜ InRow (now p) (now a) (now fixed) (now old) (now t) load i n ⌝ }
-    ensures { λ r. ⌜ (r .residual ≡ rowResidual (now (p .entry)) (now (a .entry)) (now (fixed .entry)) (now (old .entry)) (now (t .entry)) load i n) × (r .bound ≡ rowBound (now (a .entry)) (now (fixed .entry)) n i) ⌝ }
-{
+    let m = whole::size(r);
     if 0 <= fixed[i] {
-        return fixed_row(fixed[i], t[i]);
+        return m <= 1_048_576;
     }
-    free_row(p, a, fixed, old, t, load, i, n)
+    if m <= whole::size(a[whole::start(i) + i]) {
+        return true;
+    }
+    m <= bound(a, fixed, i, n)
 }
 
-// ---- all rows
-
-// The lowest row so far that is not settled, from 1, or 0: row i is the next.
-fn lowest(first: u32, i: usize, sum: RowSum) -> u32
-    requires { ⌜ i < 96 ⌝ }
-    ensures { λ r. ⌜ r ≡ orElse first (cond (not (leb (natAbs (sum .residual)) (sum .bound))) (suc i) 0) ⌝ }
+// The lowest row that is not settled, from 1, or 0.
+fn unsettled(a: &[i64], fixed: &[i64], r: &[i64], n: usize) -> u32
+    requires { ⌜ Light (now a) n × Mild (now fixed) n × (length (now r) ≡ n) ⌝ }
+    ensures { λ row. ⌜ row ≡ firstFrom n 0 (λ i. not (leb (natAbs (cell (now (r .entry)) i)) (rowBound (now (a .entry)) (now (fixed .entry)) n i))) ⌝ }
 {
-    if first != 0 {
-        return first;
-    }
-    if sum.bound < whole::size(sum.residual) {
-        return (i + 1) as u32;
+    let mut i = 0;
+    while i < n {
+        if !settled(a, fixed, r[i], i, n) {
+            return (i + 1) as u32;
+        }
+        i += 1;
     }
     0
 }
+
+// ---- all of it
 
 // r's loads made the residuals of t. The lowest row that is not settled, from 1, or 0.
 pub fn residuals(
@@ -131,14 +168,7 @@ pub fn residuals(
     requires { ⌜ Fair (board n (now p) (now a) (now r) (now fixed) (now old)) × Mild (now t) n ⌝ }
     ensures { λ first. ⌜ Weighed first (board n (now (p .entry)) (now (a .entry)) (now (r .entry)) (now (fixed .entry)) (now (old .entry))) (now (t .entry)) (now (r .exit)) ⌝ }
 {
-    let mut first: u32 = 0;
-    let mut i = 0;
-    while i < n {
-        let sum = row(p, a, fixed, old, t, r[i], i, n);
-        first = lowest(first, i, sum);
-        let residual = sum.residual;
-        r[i] = residual;
-        i += 1;
-    }
-    first
+    sums(p, a, fixed, old, t, &mut r[..], n);
+    fix(fixed, t, &mut r[..], n);
+    unsettled(a, fixed, &r[..], n)
 }

@@ -1,22 +1,22 @@
--- The invariant: no number so far is too large.
+-- The invariant: the largest size so far is past 2^24 where one of the numbers so far is.
 use Rattle.lent.proofs.large.Statement.{statement}
 use Rattle.lent.proofs.large.Tie as tie
-use mathlib.Core.Path.{_≡_, refl, sym}
-use mathlib.Core.Bool.{false, not}
-use Prim.Native.Nat.{_+_, _-_, _≤_}
+use mathlib.Core.Path.{_≡_, refl}
+use mathlib.Core.Bool.{not}
+use Prim.Native.Nat.{_+_, _-_, _^_, _≤_}
 use native.Mathlib.Omega.{arith}
+use lib.Dec.{leb}
 use borrow.Author.Needs.{needs, sfits-of}
 use Rattle.whole.specs.Sums.{any}
 use Rattle.whole.specs.Packed.{cell}
-use Rattle.whole.proofs.Sums.{any-one, any-next}
 use Rattle.paper.specs.Factor.{small}
-use Rattle.lent.proofs.Turns.{l-over, l-under, end}
+use Rattle.lent.proofs.Turns.{large-next, large-end}
 
 abbrev Inv-loop : tie.InvT-loop
-Inv-loop l at n j₀ j = (j ≤ n) × (any j (λ k. not (small 24 (cell l (at + k)))) ≡ false)
+Inv-loop l at n most₀ j₀ most j = (j ≤ n) × (not (leb most (2 ^ 24)) ≡ any j (λ k. not (small 24 (cell l (at + k)))))
 
 abbrev μ-loop : tie.MeasureT-loop
-μ-loop l at n j₀ j = n - j
+μ-loop l at n most₀ j₀ most j = n - j
 
 loop-holds : tie.Need-loop-holds Inv-loop μ-loop
 unfolding any
@@ -34,10 +34,8 @@ shared-slice-copy-out-size c = search needs
 size-requires : tie.Need-size-requires Inv-loop μ-loop
 size-requires c κs = search needs
 
-returns : tie.Need-returns Inv-loop μ-loop
-returns c =
-    let s = c .before .before .before .before .before .args in let v = c .before .before .before .before .loop in
-    sym (any-one (s .n) (λ k. not (small 24 (cell (s .l .now) (s .at + k)))) (v .j) (c .before .before .before .loop-test .taken) (l-over (s .l .now) (s .at + v .j) (sfits-of (c .before .before .size-arg .given)) (c .before .size .result) (c .before .size .ensures) (c .if1 .taken)))
+larger-requires : tie.Need-larger-requires Inv-loop μ-loop
+larger-requires c κs = search needs
 
 add-j : tie.Need-add-j Inv-loop μ-loop
 add-j c = search needs
@@ -46,14 +44,10 @@ loop-less : tie.Need-loop-less Inv-loop μ-loop
 loop-less c = search needs
 
 loop-again : tie.Need-loop-again Inv-loop μ-loop
-loop-again c =
-    let s = c .before .before .before .before .before .args in let v = c .before .before .before .before .loop in (
-      omega arith,
-      any-next (v .j) (λ k. not (small 24 (cell (s .l .now) (s .at + k)))) (v .inv .1) (l-under (s .l .now) (s .at + v .j) (sfits-of (c .before .before .size-arg .given)) (c .before .size .result) (c .before .size .ensures) (c .if1 .left)),
-    )
+loop-again c = let s = c .before .before .before .before .before .args in let v = c .before .before .before .before .loop in (omega arith, large-next (s .l .now) (s .at) (v .j) (sfits-of (c .before .before .size-arg .given)) (c .before .size .result) (c .before .size .ensures) (v .most) (v .inv .1) (c .larger .result) (c .larger .ensures))
 
-returns-2 : tie.Need-returns-2 Inv-loop μ-loop
-returns-2 c = let s = c .before .before .args in let v = c .before .loop in end (s .n) (λ k. not (small 24 (cell (s .l .now) (s .at + k)))) (v .j) (omega arith) (v .inv .1)
+returns : tie.Need-returns Inv-loop μ-loop
+returns c = let s = c .before .before .args in let v = c .before .loop in large-end (s .l .now) (s .at) (s .n) (v .j) (v .most) (omega (arith, v .inv .0)) (v .inv .1)
 
 pub large-spec : {M : Type 1} → statement M
 large-spec =
@@ -66,8 +60,8 @@ large-spec =
     mul-size
     shared-slice-copy-out-size
     size-requires
-    returns
+    larger-requires
     add-j
     loop-less
     loop-again
-    returns-2)
+    returns)
