@@ -191,9 +191,14 @@ fn any_byte(chance: &mut Chance) -> u8 {
     }
 }
 
-/// The old deck goes on stepping under each.
+/// The old deck goes on stepping under each. First the newline of Z, a letter and a range, then by chance.
 fn damaged_decks(record: &mut Record) {
     record.deck(&small());
+    for (at, byte) in [(small().len() - 1, b' '), (42, b'M'), (4, b'9')] {
+        let mut bytes = small();
+        bytes[at] = byte;
+        record.deck(&bytes);
+    }
     for _ in 0..40 {
         let mut bytes = small();
         let chance = &mut record.chance;
@@ -261,6 +266,7 @@ fn nonsense(record: &mut Record) {
 /// Whatever the seed, it is no test where hardly anything was accepted, or where a kind of refusal is not met.
 fn enough(record: &Record) {
     let [decks, replacements, steps] = record.met;
+    eprintln!("{decks:?} {replacements:?} {steps:?}");
     assert!(decks[0] >= 15 && replacements[0] >= 60 && steps[0] >= 150);
     assert!((1..=8).all(|number| decks[number] > 0));
     assert!([3, 4, 6, 7, 8, 13].iter().all(|&number| replacements[number] > 0));
