@@ -1,0 +1,45 @@
+#include <linux/string.h>
+#include "model.h"
+
+/* Reads a deck, builds its matrices and starts every node at D's temperature. The deck is read into a table of its own, and
+ * a refused build leaves p, a and factor, so a deck that is refused, wherever, leaves the old one at work. */
+uint64_t model_deck(struct model *model, const uint8_t *bytes, size_t length)
+{
+	uint64_t start, end, answer;
+	size_t numbers, node;
+
+	answer = gormulast_read(bytes, length, model->next, GORMULAST_MAX_TABLE, &start, &end);
+	if (answer)
+		return answer;
+	numbers = (end - start) / GORMULAST_CARD_BYTES * GORMULAST_CARD_NUMBERS;
+	answer = gormulast_build(model->next, numbers, model->p, MATRIX, model->a, MATRIX,
+				 model->factor, MATRIX, model->work, MATRIX);
+	if (answer)
+		return answer;
+	memcpy(model->table, model->next, numbers * sizeof(*model->table));
+	model->length = numbers;
+	model->nodes = model->table[numbers - 4];
+	for (node = 0; node < model->nodes; node++)
+		model->temperatures[node] = model->table[2];
+	return 0;
+}
+
+uint64_t model_replace(struct model *model, uint32_t card, const uint32_t new[GORMULAST_CARD_NUMBERS])
+{
+	return gormulast_replace(model->table, model->length, model->p, MATRIX, model->a, MATRIX,
+				 model->factor, MATRIX, model->work, MATRIX,
+				 card, new[0], new[1], new[2], new[3], new[4], new[5]);
+}
+
+uint64_t model_step(struct model *model)
+{
+	return gormulast_step(model->table, model->length, model->p, MATRIX, model->a, MATRIX,
+			      model->factor, MATRIX, model->temperatures, model->nodes);
+}
+
+size_t model_bytes(const struct model *model, uint8_t *bytes, size_t room)
+{
+	if (gormulast_write(model->table, model->length, bytes, room))
+		return 0;
+	return model->length / GORMULAST_CARD_NUMBERS * GORMULAST_CARD_BYTES;
+}

@@ -1,0 +1,39 @@
+//! What the guest is to do, and what it must then show, by the program of reference/.
+//!
+//!     kernel SEED DIR
+//!
+//! Writes DIR/plan/commands, DIR/plan/ with the decks that they name, and DIR/expected. With the same seed, always the same.
+
+#[path = "../../../reference/tests/common/mod.rs"]
+mod decks;
+
+mod model;
+mod plan;
+mod record;
+mod words;
+
+use record::Record;
+use std::path::Path;
+use std::process::ExitCode;
+
+fn main() -> ExitCode {
+    let words: Vec<String> = std::env::args().skip(1).collect();
+    let [seed, folder] = &words[..] else {
+        eprintln!("usage: kernel SEED DIR");
+        return ExitCode::from(2);
+    };
+    let Ok(seed) = seed.parse() else {
+        eprintln!("kernel: a seed is a number");
+        return ExitCode::from(2);
+    };
+    let mut record = Record::new(seed);
+    plan::all(&mut record);
+    match record.write(Path::new(folder)) {
+        Ok(told) => println!("seed {seed}: {told}"),
+        Err(error) => {
+            eprintln!("kernel: {error}");
+            return ExitCode::FAILURE;
+        }
+    }
+    ExitCode::SUCCESS
+}

@@ -1,0 +1,274 @@
+//! What is tried, part by part.
+
+use crate::decks::{bytes_of, Chance, Groups, D, E, F, H, M, N, T, TOP, Z};
+use crate::record::Record;
+use reference::{Card, MAX_BYTES};
+
+pub fn all(record: &mut Record) {
+    before_any_deck(record);
+    checked_decks(record);
+    a_triangle_replaced(record);
+    refusing_replacements(record);
+    off_the_scale(record);
+    boards(record);
+    wild_decks(record);
+    damaged_decks(record);
+    random_bytes(record);
+    lengths(record);
+    nonsense(record);
+    enough(record);
+}
+
+fn before_any_deck(record: &mut Record) {
+    record.back();
+    record.steps(1);
+    record.replace(6, [E, 1, 2, 3, 1, 2_000]);
+    record.deck(b"");
+}
+
+/// A groups' deck, read back and stepped.
+fn tried(record: &mut Record, groups: &Groups) {
+    record.deck(&bytes_of(&groups.table()));
+    record.back();
+    record.steps(1);
+}
+
+/// P6 to P11 of the paper.
+fn checked_decks(record: &mut Record) {
+    let base = Groups::base;
+    let mut decks = [base(), base(), base(), base(), base(), base(), base()];
+    decks[0].heats.push([1, 3]);
+    (decks[2].materials[0][2], decks[2].d[0]) = (1, 60_000);
+    decks[3].nodes = vec![[0, 0], [100, 0], [101, 1]];
+    decks[3].materials[0] = [10_000, 10_000, 1];
+    for (at, capacity) in [(4, 960), (5, 961)] {
+        decks[at].d[0] = 1;
+        decks[at].elements[0][4] = 4_000;
+        decks[at].materials[0][2] = capacity;
+    }
+    decks[6].nodes = vec![[0, 0], [50, 50], [100, 100]];
+    for groups in &decks {
+        tried(record, groups);
+    }
+}
+
+// ---- replacements
+
+/// The base with heat, film and a held node: a hundred replacements, and steps between them.
+fn a_triangle_replaced(record: &mut Record) {
+    let mut groups = Groups::base();
+    groups.materials.push([20_000, 400, 1_900]);
+    groups.heats.push([1, 3_000]);
+    groups.films.push([1, 48_000, 18_000_000]);
+    groups.fixed.push([2, 21_000_000]);
+    tried(record, &groups);
+    replaced(record, 100, 1);
+    record.back();
+}
+
+/// Replacements by chance, a step after each `between`.
+fn replaced(record: &mut Record, count: usize, between: usize) {
+    for turn in 1..=count {
+        let (card, new) = replacement(&mut record.chance, &record.model.table);
+        record.replace(card, new);
+        if turn % between == 0 {
+            record.steps(1);
+        }
+        if turn % 10 == 0 && record.model.table.len() < 300 {
+            record.back();
+        }
+    }
+}
+
+/// A card that may change and its new values; one time in three with a fault.
+fn replacement(chance: &mut Chance, table: &[u32]) -> (u32, Card) {
+    let cards: Vec<&[u32]> = table.chunks_exact(6).collect();
+    let free: Vec<usize> = (0..cards.len())
+        .filter(|&index| [E, H, F, T].contains(&cards[index][0]))
+        .collect();
+    let materials = cards.iter().filter(|card| card[0] == M).count() as u32;
+    let index = chance.pick(&free);
+    let mut new: Card = cards[index].try_into().unwrap();
+    match new[0] {
+        E => (new[4], new[5]) = (chance.within(1, materials), chance.within(800, 2_000)),
+        H => new[2] = chance.within(1, 500_000),
+        F => (new[2], new[3]) = (chance.within(1, 100_000), warmth(chance)),
+        _ => new[2] = warmth(chance),
+    }
+    let mut card = index as u32 + 1;
+    if chance.one_in(3) {
+        fault(chance, &mut card, &mut new, cards.len() as u32);
+    }
+    (card, new)
+}
+
+fn warmth(chance: &mut Chance) -> u32 {
+    chance.within(18_000_000, 22_000_000)
+}
+
+fn fault(chance: &mut Chance, card: &mut u32, new: &mut Card, cards: u32) {
+    match chance.within(0, 4) {
+        0 => *card = chance.pick(&[0, 1, 2, cards, cards + 1, u32::MAX]),
+        1 => new[0] = chance.pick(&[D, N, M, E, H, F, T, Z, 0, 256 + E, u32::MAX]),
+        2 => *card = chance.within(1, cards),
+        _ => new[chance.within(1, 5) as usize] = chance.unsigned(),
+    }
+}
+
+/// A second material with which the one element is refused: by 6, by 7 at a row's end, by 8.
+fn refusing_replacements(record: &mut Record) {
+    let base = Groups::base;
+    let mut decks = [base(), base(), base()];
+    (decks[0].d[0], decks[0].elements[0][4]) = (1, 4_000);
+    decks[0].materials = vec![[1_000, 1_000, 960], [1_000, 1_000, 961]];
+    decks[1].d[0] = 60_000;
+    decks[1].materials.push([1_000, 1_000, 1]);
+    decks[2].d[0] = 100;
+    decks[2].nodes = vec![[0, 0], [100, 0], [101, 1]];
+    decks[2].materials = vec![[10_000, 10_000, 5_000], [10_000, 10_000, 1]];
+    for groups in &mut decks {
+        groups.heats.push([1, 700]);
+        tried(record, groups);
+        let [i, j, k, _, thickness] = groups.elements[0];
+        for material in [2, 1, 2] {
+            record.replace(7, [E, i, j, k, material, thickness]);
+            record.steps(2);
+        }
+        record.back();
+    }
+}
+
+/// So much heat that the second step is refused, and cooler again.
+fn off_the_scale(record: &mut Record) {
+    let mut groups = Groups::base();
+    groups.heats.push([1, 5_000_000]);
+    record.deck(&bytes_of(&groups.table()));
+    record.steps(1_000);
+    record.steps(1);
+    record.replace(7, [H, 1, 5, 0, 0, 0]);
+    record.steps(1_000);
+}
+
+/// Sheets of nodes as on a board, the last of the most nodes that there may be.
+fn boards(record: &mut Record) {
+    for (columns, rows, count) in [(4, 3, 60), (6, 6, 30), (12, 8, 30)] {
+        let groups = Groups::sheet(&mut record.chance, columns, rows);
+        tried(record, &groups);
+        replaced(record, count, 3);
+        record.steps(20);
+        record.back();
+    }
+}
+
+/// Any accepted cards, every field at its ends: few build, and of those some don't step.
+fn wild_decks(record: &mut Record) {
+    for turn in 0..40 {
+        let chance = &mut record.chance;
+        let groups = if turn % 2 == 0 {
+            Groups::wild(chance)
+        } else {
+            Groups::slivers(chance)
+        };
+        record.deck(&bytes_of(&groups.table()));
+        record.steps(3);
+    }
+}
+
+// ---- bytes that are no deck
+
+fn small() -> Vec<u8> {
+    let mut groups = Groups::base();
+    groups.heats.push([1, 3]);
+    groups.films.push([1, 480, 19_660_800]);
+    groups.fixed.push([3, 19_000_000]);
+    bytes_of(&groups.table())
+}
+
+fn any_byte(chance: &mut Chance) -> u8 {
+    match chance.within(0, 2) {
+        0 => chance.bits() as u8,
+        _ => chance.pick(b"0123456789 \nDNMEHFTZ"),
+    }
+}
+
+/// The old deck goes on stepping under each. First the newline of Z, a letter and a range, then by chance.
+fn damaged_decks(record: &mut Record) {
+    record.deck(&small());
+    for (at, byte) in [(small().len() - 1, b' '), (42, b'M'), (4, b'9')] {
+        let mut bytes = small();
+        bytes[at] = byte;
+        record.deck(&bytes);
+    }
+    for _ in 0..40 {
+        let mut bytes = small();
+        let chance = &mut record.chance;
+        let at = chance.index(bytes.len());
+        bytes[at] = any_byte(chance);
+        record.deck(&bytes);
+        record.steps(1);
+    }
+    record.back();
+}
+
+fn random_bytes(record: &mut Record) {
+    for length in [1, 41, 42, 43, 84, 420, 3_000, 4_096, 4_097, 20_000, 65_536, 65_537] {
+        let chance = &mut record.chance;
+        let mut bytes: Vec<u8> = (0..length).map(|_| any_byte(chance)).collect();
+        record.deck(&bytes);
+        // The same with a trailer that can be followed.
+        if length >= 420 {
+            let trailer = format!("Z{:8}{:8}{:8}{:8}{:8}\n", 294, 3, 1, 1, 1);
+            bytes[length - 42..].copy_from_slice(trailer.as_bytes());
+            record.deck(&bytes);
+        }
+    }
+    record.steps(1);
+}
+
+/// A deck behind so many notes that it is just not too long, too long by one, and by far.
+fn lengths(record: &mut Record) {
+    let deck = small();
+    for length in [MAX_BYTES - 1, MAX_BYTES, MAX_BYTES + 1, MAX_BYTES + 42, 200_000] {
+        let mut bytes = vec![b'.'; length - deck.len()];
+        bytes.extend(&deck);
+        record.deck(&bytes);
+        record.steps(1);
+    }
+    record.back();
+}
+
+/// What is no count of numbers, or past 32 bits.
+fn nonsense(record: &mut Record) {
+    for line in [
+        "steps",
+        "steps 0",
+        "steps 100001",
+        "steps 1 1",
+        "steps -1",
+        "steps 1.5",
+        "steps one",
+        "steps 4294967297",
+        "steps 18446744073709551617",
+        "replace",
+        "replace 8 70 1 480 19660800 0",
+        "replace 8 70 1 480 19660800 0 0 0",
+        "replace 8 70 1 480 19660800 0 4294967296",
+        "replace 8 F 1 480 19660800 0 0",
+        "replace 8 70  1 480 19660800 0 0",
+    ] {
+        record.nonsense(line);
+    }
+    record.nonsense(&format!("steps {}", "1".repeat(4_000)));
+    record.replace(8, [F, 1, 481, TOP, 0, 0]);
+    record.steps(3);
+}
+
+/// Whatever the seed, it is no test where hardly anything was accepted, or where a kind of refusal is not met.
+fn enough(record: &Record) {
+    let [decks, replacements, steps] = record.met;
+    eprintln!("{decks:?} {replacements:?} {steps:?}");
+    assert!(decks[0] >= 15 && replacements[0] >= 60 && steps[0] >= 150);
+    assert!((1..=8).all(|number| decks[number] > 0));
+    assert!([3, 4, 6, 7, 8, 13].iter().all(|&number| replacements[number] > 0));
+    assert!(steps[1] > 0 && steps[11] > 0);
+}

@@ -1,0 +1,114 @@
+//! The commands, one a line, and what the guest shows of each.
+
+use crate::decks::Chance;
+use crate::model::Model;
+use crate::words;
+use reference::{Answer, Card, Stepped};
+use std::path::Path;
+use std::{fs, io};
+
+pub struct Record {
+    pub chance: Chance,
+    pub model: Model,
+    /// The words of the last answer.
+    answer: String,
+    commands: Vec<String>,
+    decks: Vec<Vec<u8>>,
+    shown: Vec<String>,
+    /// Accepted calls, and refused ones by number: decks, replacements, writes of steps.
+    pub met: [[u32; 14]; 3],
+}
+
+fn number_of(answer: Answer) -> usize {
+    (answer.packed() & 255) as usize
+}
+
+impl Record {
+    pub fn new(seed: u64) -> Record {
+        Record {
+            chance: Chance::seeded(seed),
+            model: Model::new(),
+            answer: "no answer".to_string(),
+            commands: vec![],
+            decks: vec![],
+            shown: vec![],
+            met: [[0; 14]; 3],
+        }
+    }
+
+    fn command(&mut self, line: String) {
+        self.shown.push(format!("{} {line}", self.commands.len() + 1));
+        self.commands.push(line);
+    }
+
+    /// After every command but `back`: the answer and the temperatures.
+    fn show(&mut self) {
+        let ticks: Vec<String> = self.model.temperatures.iter().map(i64::to_string).collect();
+        self.shown.push(self.answer.clone());
+        self.shown.push(ticks.join(" "));
+    }
+
+    pub fn deck(&mut self, bytes: &[u8]) {
+        self.command(format!("deck {}", self.decks.len()));
+        self.decks.push(bytes.to_vec());
+        let answer = self.model.deck(bytes);
+        self.met[0][number_of(answer)] += 1;
+        self.answer = words::answered(answer);
+        self.show();
+    }
+
+    pub fn replace(&mut self, card: u32, new: Card) {
+        let fields = new.map(|number| number.to_string()).join(" ");
+        self.command(format!("replace {card} {fields}"));
+        let answer = self.model.replace(card, new);
+        self.met[1][number_of(answer)] += 1;
+        self.answer = words::answered(answer);
+        self.show();
+    }
+
+    pub fn steps(&mut self, wanted: u32) {
+        self.command(format!("steps {wanted}"));
+        let (last, done) = self.model.steps(wanted);
+        let number = match last {
+            Stepped::Settled(_) => 0,
+            Stepped::Refused(refusal) => usize::from(refusal.number),
+        };
+        self.met[2][number] += 1;
+        self.answer = words::stepped(last, done);
+        self.show();
+    }
+
+    /// A line that is no call: the module doesn't take it.
+    pub fn nonsense(&mut self, line: &str) {
+        self.command(line.to_string());
+        self.shown.push("not taken".to_string());
+        self.show();
+    }
+
+    /// The deck as bytes, each newline with a mark before it.
+    pub fn back(&mut self) {
+        self.command("back".to_string());
+        let text = String::from_utf8(self.model.bytes()).expect("a deck is text");
+        self.shown.extend(text.lines().map(|line| format!("{line}$")));
+    }
+
+    /// Writes it all, and says how much it is.
+    pub fn write(mut self, folder: &Path) -> io::Result<String> {
+        let plan = folder.join("plan");
+        fs::create_dir_all(&plan)?;
+        for (number, bytes) in self.decks.iter().enumerate() {
+            fs::write(plan.join(number.to_string()), bytes)?;
+        }
+        fs::write(plan.join("commands"), self.commands.join("\n") + "\n")?;
+        self.shown.extend(["taint 0", "end"].map(str::to_string));
+        fs::write(folder.join("expected"), self.shown.join("\n") + "\n")?;
+        let [decks, replacements, steps] = self.met.map(|met| {
+            let refused: u32 = met[1..].iter().sum();
+            format!("{} accepted and {refused} refused", met[0])
+        });
+        Ok(format!(
+            "{} commands; decks {decks}, replacements {replacements}, steps {steps}",
+            self.commands.len()
+        ))
+    }
+}
