@@ -9,7 +9,7 @@ pub fn all(record: &mut Record) {
     checked_decks(record);
     a_triangle_replaced(record);
     refusing_replacements(record);
-    off_the_scale(record);
+    refused_steps(record);
     boards(record);
     wild_decks(record);
     damaged_decks(record);
@@ -138,8 +138,8 @@ fn refusing_replacements(record: &mut Record) {
     }
 }
 
-/// So much heat that the second step is refused, and cooler again.
-fn off_the_scale(record: &mut Record) {
+/// So much heat that the second step is off the scale, and less again; and so much on so little that x is past its bound.
+fn refused_steps(record: &mut Record) {
     let mut groups = Groups::base();
     groups.heats.push([1, 5_000_000]);
     record.deck(&bytes_of(&groups.table()));
@@ -147,6 +147,13 @@ fn off_the_scale(record: &mut Record) {
     record.steps(1);
     record.replace(7, [H, 1, 5, 0, 0, 0]);
     record.steps(1_000);
+
+    groups.d = [41_030, 0, 2];
+    groups.nodes = vec![[4_095, 0], [4, 1_442], [2_065, 1_318]];
+    groups.materials = vec![[490_825, 1, 2_879]];
+    groups.elements = vec![[1, 2, 3, 1, 4]];
+    groups.fixed.push([3, 549_536]);
+    tried(record, &groups);
 }
 
 /// Sheets of nodes as on a board, the last of the most nodes that there may be.
@@ -266,9 +273,8 @@ fn nonsense(record: &mut Record) {
 /// Whatever the seed, it is no test where hardly anything was accepted, or where a kind of refusal is not met.
 fn enough(record: &Record) {
     let [decks, replacements, steps] = record.met;
-    eprintln!("{decks:?} {replacements:?} {steps:?}");
     assert!(decks[0] >= 15 && replacements[0] >= 60 && steps[0] >= 150);
     assert!((1..=8).all(|number| decks[number] > 0));
     assert!([3, 4, 6, 7, 8, 13].iter().all(|&number| replacements[number] > 0));
-    assert!(steps[1] > 0 && steps[11] > 0);
+    assert!([1, 8, 11].iter().all(|&number| steps[number] > 0));
 }
