@@ -11,7 +11,9 @@ pub fn all(record: &mut Record) {
     refusing_replacements(record);
     refused_steps(record);
     boards(record);
+    largest(record);
     wild_decks(record);
+    edges(record);
     damaged_decks(record);
     random_bytes(record);
     lengths(record);
@@ -167,6 +169,30 @@ fn boards(record: &mut Record) {
     }
 }
 
+/// As many cards of each kind as there may be; then one more, which no trailer allows.
+fn largest(record: &mut Record) {
+    let mut groups = Groups::sheet(&mut record.chance, 12, 8);
+    groups.materials.resize(8, [1_000, 1_000, 2_400]);
+    groups.elements.resize(160, groups.elements[0]);
+    groups.heats = (1..=160).map(|element| [element, 1_000]).collect();
+    groups.films = (1..=160)
+        .map(|element| [element, 480, 20_000_000])
+        .collect();
+    groups.fixed = (1..=96).map(|node| [node, 19_000_000 + node]).collect();
+    tried(record, &groups);
+    replaced(record, 10, 5);
+    for kind in 0..4 {
+        let mut more = groups.clone();
+        match kind {
+            0 => more.nodes.push([0, 0]),
+            1 => more.materials.push([1_000, 1_000, 2_400]),
+            2 => more.elements.push(groups.elements[0]),
+            _ => more.fixed.push([96, 19_000_000]),
+        }
+        record.deck(&text_of(&more.table()));
+    }
+}
+
 /// Any accepted cards, every field at its ends: few build, and of those some don't step.
 fn wild_decks(record: &mut Record) {
     for turn in 0..40 {
@@ -183,12 +209,68 @@ fn wild_decks(record: &mut Record) {
 
 // ---- bytes that are no deck
 
-fn small() -> Vec<u8> {
+/// A table as bytes, whether it is a deck or not.
+fn text_of(table: &[u32]) -> Vec<u8> {
+    let mut text = String::new();
+    for card in table.chunks_exact(6) {
+        let used = match card[0] {
+            E | Z => 5,
+            D | M | F => 3,
+            _ => 2,
+        };
+        let fields: String = card[1..=used]
+            .iter()
+            .map(|field| format!("{field:8}"))
+            .collect();
+        text += &format!("{}{fields:40}\n", char::from(card[0] as u8));
+    }
+    text.into_bytes()
+}
+
+/// The base with a card of every kind: D, three N, M, E, H, F, T, Z.
+fn one_of_each() -> Vec<u32> {
     let mut groups = Groups::base();
     groups.heats.push([1, 3]);
     groups.films.push([1, 480, 19_660_800]);
     groups.fixed.push([3, 19_000_000]);
-    bytes_of(&groups.table())
+    groups.table()
+}
+
+fn small() -> Vec<u8> {
+    bytes_of(&one_of_each())
+}
+
+/// Card, field, and the field's range in `one_of_each`.
+const RANGES: [(usize, usize, u32, u32); 17] = [
+    (0, 1, 1, 60_000),
+    (0, 2, 0, TOP),
+    (0, 3, 1, 100_000),
+    (1, 1, 0, 4_095),
+    (1, 2, 0, 4_095),
+    (4, 1, 1, 500_000),
+    (4, 2, 1, 500_000),
+    (4, 3, 1, 5_000),
+    (5, 1, 1, 3),
+    (5, 4, 1, 1),
+    (5, 5, 1, 4_000),
+    (6, 1, 1, 1),
+    (6, 2, 1, 5_000_000),
+    (7, 2, 1, 100_000),
+    (7, 3, 0, TOP),
+    (8, 1, 1, 3),
+    (8, 2, 0, TOP),
+];
+
+/// Each field at the ends of its range, and past them.
+fn edges(record: &mut Record) {
+    for (card, field, least, most) in RANGES {
+        for value in [least.saturating_sub(1), least, most, most + 1] {
+            let mut table = one_of_each();
+            table[6 * card + field] = value;
+            record.deck(&text_of(&table));
+        }
+    }
+    record.back();
 }
 
 fn any_byte(chance: &mut Chance) -> u8 {
@@ -218,7 +300,9 @@ fn damaged_decks(record: &mut Record) {
 }
 
 fn random_bytes(record: &mut Record) {
-    for length in [1, 41, 42, 43, 84, 420, 3_000, 4_096, 4_097, 20_000, 65_536, 65_537] {
+    for length in [
+        1, 41, 42, 43, 84, 420, 3_000, 4_096, 4_097, 20_000, 65_536, 65_537,
+    ] {
         let chance = &mut record.chance;
         let mut bytes: Vec<u8> = (0..length).map(|_| any_byte(chance)).collect();
         record.deck(&bytes);
@@ -235,7 +319,13 @@ fn random_bytes(record: &mut Record) {
 /// A deck behind so many notes that it is just not too long, too long by one, and by far.
 fn lengths(record: &mut Record) {
     let deck = small();
-    for length in [MAX_BYTES - 1, MAX_BYTES, MAX_BYTES + 1, MAX_BYTES + 42, 200_000] {
+    for length in [
+        MAX_BYTES - 1,
+        MAX_BYTES,
+        MAX_BYTES + 1,
+        MAX_BYTES + 42,
+        200_000,
+    ] {
         let mut bytes = vec![b'.'; length - deck.len()];
         bytes.extend(&deck);
         record.deck(&bytes);
@@ -275,6 +365,8 @@ fn enough(record: &Record) {
     let [decks, replacements, steps] = record.met;
     assert!(decks[0] >= 15 && replacements[0] >= 60 && steps[0] >= 150);
     assert!((1..=8).all(|number| decks[number] > 0));
-    assert!([3, 4, 6, 7, 8, 13].iter().all(|&number| replacements[number] > 0));
+    assert!([3, 4, 6, 7, 8, 13]
+        .iter()
+        .all(|&number| replacements[number] > 0));
     assert!([1, 8, 11].iter().all(|&number| steps[number] > 0));
 }

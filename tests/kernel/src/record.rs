@@ -37,7 +37,8 @@ impl Record {
     }
 
     fn command(&mut self, line: String) {
-        self.shown.push(format!("{} {line}", self.commands.len() + 1));
+        self.shown
+            .push(format!("{} {line}", self.commands.len() + 1));
         self.commands.push(line);
     }
 
@@ -89,7 +90,8 @@ impl Record {
     pub fn back(&mut self) {
         self.command("back".to_string());
         let text = String::from_utf8(self.model.bytes()).expect("a deck is text");
-        self.shown.extend(text.lines().map(|line| format!("{line}$")));
+        self.shown
+            .extend(text.lines().map(|line| format!("{line}$")));
     }
 
     /// Writes it all, and says how much it is.
