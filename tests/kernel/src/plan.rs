@@ -14,6 +14,7 @@ pub fn all(record: &mut Record) {
     largest(record);
     wild_decks(record);
     edges(record);
+    limits(record);
     damaged_decks(record);
     random_bytes(record);
     lengths(record);
@@ -277,6 +278,35 @@ fn any_byte(chance: &mut Chance) -> u8 {
     match chance.within(0, 2) {
         0 => chance.bits() as u8,
         _ => chance.pick(b"0123456789 \nDNMEHFTZ"),
+    }
+}
+
+/// Just at a bound that is worked out, and just past it: u and each pair of 4,000,000, a first pivot of 16.
+fn limits(record: &mut Record) {
+    let mut groups = Groups::base();
+    (groups.d[0], groups.elements[0][4]) = (1, 1);
+    for nodes in [
+        [[0, 0], [4_000, 0], [0, 4_000]],
+        [[0, 0], [4_001, 999], [4, 4_000]],
+    ] {
+        groups.nodes = nodes.to_vec();
+        tried(record, &groups);
+    }
+    groups = Groups::base();
+    for (long, k, thickness) in [(4, 500_000, 4_000), (942, 499_563, 17)] {
+        groups.nodes = vec![[0, 0], [1, 0], [0, long]];
+        groups.materials = vec![[k, 1, 1]];
+        for [i, j, k] in [[1, 2, 3], [2, 3, 1], [3, 1, 2]] {
+            groups.elements = vec![[i, j, k, 1, thickness]];
+            tried(record, &groups);
+        }
+    }
+    groups = Groups::base();
+    groups.d[0] = 60_000;
+    groups.materials = vec![[1, 1, 403]];
+    for [i, j, k] in [[1, 2, 3], [2, 3, 1]] {
+        groups.elements = vec![[i, j, k, 1, 1_000]];
+        tried(record, &groups);
     }
 }
 
