@@ -281,7 +281,7 @@ fn any_byte(chance: &mut Chance) -> u8 {
     }
 }
 
-/// Just at a bound that is worked out, and just past it: u and each pair of 4,000,000, a first pivot of 16.
+/// Just at a bound that is worked out, and just past it: u and each pair of 4,000,000, a first and a last pivot of 16.
 fn limits(record: &mut Record) {
     let mut groups = Groups::base();
     (groups.d[0], groups.elements[0][4]) = (1, 1);
@@ -306,6 +306,8 @@ fn limits(record: &mut Record) {
     groups.materials = vec![[1, 1, 403]];
     tried(record, &groups);
     groups.nodes.swap(0, 1);
+    tried(record, &groups);
+    groups.materials = vec![[10, 10, 375]];
     tried(record, &groups);
 }
 
