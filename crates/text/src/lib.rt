@@ -78,38 +78,41 @@ fn field_of(u: usize, s: &[u8], k: usize) -> Field
     blank_of(&s[at..end])
 }
 
-// The five fields after the letter.
-fn fields_of(u: usize, s: &[u8], letter: u32) -> [u32; 6]
-    requires { ⌜ length (now s) ≡ 42 ⌝ }
-    ensures { λ r. ⌜ r ≡ fieldsFrom u (now (s .entry)) 5 0 (letter ∷ 0 ∷ 0 ∷ 0 ∷ 0 ∷ 0 ∷ []) ⌝ }
+// The five fields, into a row that has the letter; six zeros where one is malformed.
+fn fields_of(u: usize, s: &[u8], row: &mut [u32])
+    requires { ⌜ (length (now s) ≡ 42) × (length (now row) ≡ 6) ⌝ }
+    ensures { λ _. ⌜ now (row .exit) ≡ fieldsFrom u (now (s .entry)) 5 0 (now (row .entry)) ⌝ }
 {
-    let mut card = [letter, 0, 0, 0, 0, 0];
     let mut k = 0;
     while k < 5 {
         let f = field_of(u, s, k);
         let Field::Number(v) = f else {
-            return [0, 0, 0, 0, 0, 0];
+            cards::row_to([0, 0, 0, 0, 0, 0], row);
+            return;
         };
-        card[k + 1] = v;
+        row[k + 1] = v;
         k += 1;
     }
-    card
 }
 
-// A card's bytes as its six numbers; six zeros where it is malformed.
-pub fn card_of(s: &[u8]) -> [u32; 6]
-    requires { ⌜ length (now s) ≡ 42 ⌝ }
-    ensures { λ r. ⌜ r ≡ cardOf (now (s .entry)) ⌝ }
+// A card's bytes as its six numbers; six zeros where it is malformed. They are written where they are to stand: a card
+// returned by value is copied by wide reads, which wait for the narrow writes before them.
+pub fn card_of(s: &[u8], row: &mut [u32])
+    requires { ⌜ (length (now s) ≡ 42) × (length (now row) ≡ 6) ⌝ }
+    ensures { λ _. ⌜ now (row .exit) ≡ cardOf (now (s .entry)) ⌝ }
 {
     let letter = s[0] as u32;
     let u = cards::used_of(cards::kind(letter));
     if u == 0 {
-        return [0, 0, 0, 0, 0, 0];
+        cards::row_to([0, 0, 0, 0, 0, 0], row);
+        return;
     }
     if s[41] != 10 {
-        return [0, 0, 0, 0, 0, 0];
+        cards::row_to([0, 0, 0, 0, 0, 0], row);
+        return;
     }
-    fields_of(u, s, letter)
+    cards::row_to([letter, 0, 0, 0, 0, 0], row);
+    fields_of(u, s, row);
 }
 
 // ---- printed
