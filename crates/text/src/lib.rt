@@ -51,16 +51,20 @@ fn number_of(s: &[u8]) -> Field
     Field::Malformed
 }
 
-// An unused field's columns.
+// An unused field's columns. All are looked at, so that they can be at once.
 fn blank_of(s: &[u8]) -> Field
     ensures { λ r. ⌜ r ≡ blank (now (s .entry)) ⌝ }
 {
+    let mut clear = true;
     let mut i = 0;
     while i < s.len() {
         if s[i] != 32 {
-            return Field::Malformed;
+            clear = false;
         }
         i += 1;
+    }
+    if !clear {
+        return Field::Malformed;
     }
     Field::Number(0)
 }
