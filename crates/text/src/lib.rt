@@ -3,8 +3,8 @@ use paper::Field;
 ghost use mathlib.Core.Path.{_≡_};
 ghost use mathlib.Core.List.{List, [], _∷_, _++_};
 ghost use Prim.Native.Nat.{ℕ, _+_, _≤_, _<_};
-ghost use lib.ListN.{length, take, drop};
-ghost use Rattle.paper.specs.Text.{digits, number, blank, column, columns, printed, fieldOf, fieldsFrom, cardOf, textField, textFrom, textOf};
+ghost use lib.ListN.{length, take, drop, replicate};
+ghost use Rattle.paper.specs.Text.{digits, number, blank, columns, printed, fieldOf, fieldsFrom, cardOf, textField, textFrom, textOf};
 
 // ---- read
 
@@ -121,47 +121,50 @@ pub fn card_of(s: &[u8], row: &mut [u32])
 
 // ---- printed
 
-fn column_of(n: u32) -> u8
-    ensures { λ r. ⌜ r ≡ column n ⌝ }
+fn blank_to(out: &mut [u8])
+    ensures { λ _. ⌜ now (out .exit) ≡ replicate (length (now (out .entry))) 32 ⌝ }
 {
-    if n == 0 {
-        return 32;
+    let mut i = 0;
+    while i < out.len() {
+        out[i] = 32;
+        i += 1;
     }
-    48 + (n % 10) as u8
 }
 
-// w columns before what stands from w on.
-fn columns_to(w: usize, n: u32, out: &mut [u8])
-    requires { ⌜ w ≤ length (now out) ⌝ }
-    ensures { λ r. ⌜ now (out .exit) ≡ columns w n (drop w (now (out .entry))) ⌝ }
+// The digits of n before what stands from w on, over blanks.
+fn digits_to(w: usize, n: u32, out: &mut [u8])
+    requires { ⌜ (w ≤ length (now out)) × (take w (now out) ≡ replicate w 32) ⌝ }
+    ensures { λ _. ⌜ now (out .exit) ≡ columns w n (drop w (now (out .entry))) ⌝ }
 {
     let mut v = n;
     let mut j = w;
     while 0 < j {
+        if v == 0 {
+            return;
+        }
         j -= 1;
-        out[j] = column_of(v);
+        out[j] = 48 + (v % 10) as u8;
         v = v / 10;
     }
 }
 
-// A number in 8 columns.
+// A number in 8 columns, over blanks.
 fn print_to(n: u32, out: &mut [u8])
-    requires { ⌜ length (now out) ≡ 8 ⌝ }
-    ensures { λ r. ⌜ now (out .exit) ≡ printed n ⌝ }
+    requires { ⌜ now out ≡ replicate 8 32 ⌝ }
+    ensures { λ _. ⌜ now (out .exit) ≡ printed n ⌝ }
 {
     out[7] = 48 + (n % 10) as u8;
-    columns_to(7, n / 10, out);
+    digits_to(7, n / 10, out);
 }
 
 fn field_to(u: usize, k: usize, n: u32, out: &mut [u8])
     requires { ⌜ length (now out) ≡ 8 ⌝ }
-    ensures { λ r. ⌜ now (out .exit) ≡ textField u k n ⌝ }
+    ensures { λ _. ⌜ now (out .exit) ≡ textField u k n ⌝ }
 {
+    blank_to(&mut out[..]);
     if k < u {
-        print_to(n, out);
-        return;
+        print_to(n, &mut out[..]);
     }
-    columns_to(8, 0, out);
 }
 
 // The five fields after the letter.
