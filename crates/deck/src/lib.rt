@@ -83,13 +83,14 @@ fn judge_text(z: Counts, s: &[u8], start: usize, rows: usize) -> Answer
     requires { ⌜ (start + rows * 42 ≤ length (now s)) × (rows < 1000) ⌝ }
     ensures { λ r. ⌜ r ≡ judgeFrom z (cardAt (now (s .entry)) start) rows 0 0 0 ⌝ }
 {
+    let mut card = [0u32; 6];
     let mut i = 0;
     let mut p: u32 = 0;
     let mut key: u32 = 0;
     while i < rows {
         let at = start + i * 42;
         let end = at + 42;
-        let card = text::card_of(&s[at..end]);
+        text::card_of(&s[at..end], &mut card);
         let k = cards::kind(card[0]);
         let a = cards::judge_card(z, i, p, key, k, &card);
         let Answer::Done = a else {
@@ -124,7 +125,9 @@ fn last_card(s: &[u8]) -> [u32; 6]
 {
     let n = s.len();
     let at = n - 42;
-    text::card_of(&s[at..n])
+    let mut card = [0u32; 6];
+    text::card_of(&s[at..n], &mut card);
+    card
 }
 
 // The judge of bytes for a table of `room` numbers.
@@ -160,7 +163,7 @@ fn rows_to(s: &[u8], start: usize, rows: usize, table: &mut [u32])
         let to = from + 42;
         let at = i * 6;
         let end = at + 6;
-        cards::row_to(text::card_of(&s[from..to]), &mut table[at..end]);
+        text::card_of(&s[from..to], &mut table[at..end]);
         i += 1;
     }
 }

@@ -1,5 +1,6 @@
 -- A field's columns, read one by one.
-use mathlib.Core.Path.{_≡_}
+use mathlib.Core.Path.{_≡_, refl, sym, ap}
+use mathlib.Core.Bool.{Bool, true, false, cond}
 use mathlib.Core.List.{List}
 use Prim.Native.Nat.{ℕ, suc, _+_, _-_, _*_, _^_, _≤_, _<_}
 use native.Mathlib.Numerals.{add-one}
@@ -8,6 +9,7 @@ use native.Mathlib.Omega.{arith}
 use borrow.Author.Tests.{eq-eqb, ne-eqb, le-leb, lt-leb}
 use lib.ListN.{length, getD, drop, drop-of-length-le}
 use lib.Seq.{drop-cons}
+use Rattle.paper.specs.declared.Field.{Field}
 use Rattle.paper.specs.declared.Field.the-variants.{Number, Malformed}
 use Rattle.paper.specs.Text.{digits, alone, number, blank}
 
@@ -35,6 +37,14 @@ module _ (s : List ℕ) (i : ℕ) where
   pub blank-here : i < length s → (getD s i 0 ≡ 32 → ⊥) → Malformed ≡ blank (drop i s)
   unfolding blank
   blank-here h a = rw (drop-cons s i 0 h) (simp (ne-eqb (getD s i 0) 32 a))
+
+  -- once a column is marred, the field is; until then the rest decides
+  pub marred-here : i < length s → (getD s i 0 ≡ 32 → ⊥) → (clear : Bool) → cond clear (blank (drop i s)) Malformed ≡ Malformed
+  marred-here h a true = sym (blank-here h a)
+  marred-here h a false = refl
+
+  pub marred-on : i < length s → getD s i 0 ≡ 32 → (clear : Bool) → cond clear (blank (drop i s)) Malformed ≡ cond clear (blank (drop (i + 1) s)) Malformed
+  marred-on h a clear = ap (λ (f : Field). cond clear f Malformed) (blank-on h a)
 
   pub blank-end : length s ≤ i → Number 0 ≡ blank (drop i s)
   unfolding blank

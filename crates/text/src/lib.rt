@@ -3,8 +3,8 @@ use paper::Field;
 ghost use mathlib.Core.Path.{_≡_};
 ghost use mathlib.Core.List.{List, [], _∷_, _++_};
 ghost use Prim.Native.Nat.{ℕ, _+_, _≤_, _<_};
-ghost use lib.ListN.{length, take, drop};
-ghost use Rattle.paper.specs.Text.{digits, number, blank, column, columns, printed, fieldOf, fieldsFrom, cardOf, textField, textFrom, textOf};
+ghost use lib.ListN.{length, take, drop, replicate};
+ghost use Rattle.paper.specs.Text.{digits, number, blank, columns, printed, fieldOf, fieldsFrom, cardOf, textField, textFrom, textOf};
 
 // ---- read
 
@@ -51,16 +51,20 @@ fn number_of(s: &[u8]) -> Field
     Field::Malformed
 }
 
-// An unused field's columns.
+// An unused field's columns. All are looked at, so that they can be at once.
 fn blank_of(s: &[u8]) -> Field
     ensures { λ r. ⌜ r ≡ blank (now (s .entry)) ⌝ }
 {
+    let mut clear = true;
     let mut i = 0;
     while i < s.len() {
         if s[i] != 32 {
-            return Field::Malformed;
+            clear = false;
         }
         i += 1;
+    }
+    if !clear {
+        return Field::Malformed;
     }
     Field::Number(0)
 }
@@ -78,83 +82,89 @@ fn field_of(u: usize, s: &[u8], k: usize) -> Field
     blank_of(&s[at..end])
 }
 
-// The five fields after the letter.
-fn fields_of(u: usize, s: &[u8], letter: u32) -> [u32; 6]
-    requires { ⌜ length (now s) ≡ 42 ⌝ }
-    ensures { λ r. ⌜ r ≡ fieldsFrom u (now (s .entry)) 5 0 (letter ∷ 0 ∷ 0 ∷ 0 ∷ 0 ∷ 0 ∷ []) ⌝ }
+// The five fields, into a row that has the letter; six zeros where one is malformed.
+fn fields_of(u: usize, s: &[u8], row: &mut [u32])
+    requires { ⌜ (length (now s) ≡ 42) × (length (now row) ≡ 6) ⌝ }
+    ensures { λ _. ⌜ now (row .exit) ≡ fieldsFrom u (now (s .entry)) 5 0 (now (row .entry)) ⌝ }
 {
-    let mut card = [letter, 0, 0, 0, 0, 0];
     let mut k = 0;
     while k < 5 {
         let f = field_of(u, s, k);
         let Field::Number(v) = f else {
-            return [0, 0, 0, 0, 0, 0];
+            cards::row_to([0, 0, 0, 0, 0, 0], row);
+            return;
         };
-        card[k + 1] = v;
+        row[k + 1] = v;
         k += 1;
     }
-    card
 }
 
-// A card's bytes as its six numbers; six zeros where it is malformed.
-pub fn card_of(s: &[u8]) -> [u32; 6]
-    requires { ⌜ length (now s) ≡ 42 ⌝ }
-    ensures { λ r. ⌜ r ≡ cardOf (now (s .entry)) ⌝ }
+// A card's bytes as its six numbers; six zeros where it is malformed. They are written where they are to stand: a card
+// returned by value is copied by wide reads, which wait for the narrow writes before them.
+pub fn card_of(s: &[u8], row: &mut [u32])
+    requires { ⌜ (length (now s) ≡ 42) × (length (now row) ≡ 6) ⌝ }
+    ensures { λ _. ⌜ now (row .exit) ≡ cardOf (now (s .entry)) ⌝ }
 {
     let letter = s[0] as u32;
     let u = cards::used_of(cards::kind(letter));
     if u == 0 {
-        return [0, 0, 0, 0, 0, 0];
+        cards::row_to([0, 0, 0, 0, 0, 0], row);
+        return;
     }
     if s[41] != 10 {
-        return [0, 0, 0, 0, 0, 0];
+        cards::row_to([0, 0, 0, 0, 0, 0], row);
+        return;
     }
-    fields_of(u, s, letter)
+    cards::row_to([letter, 0, 0, 0, 0, 0], row);
+    fields_of(u, s, row);
 }
 
 // ---- printed
 
-fn column_of(n: u32) -> u8
-    ensures { λ r. ⌜ r ≡ column n ⌝ }
+fn blank_to(out: &mut [u8])
+    ensures { λ _. ⌜ now (out .exit) ≡ replicate (length (now (out .entry))) 32 ⌝ }
 {
-    if n == 0 {
-        return 32;
+    let mut i = 0;
+    while i < out.len() {
+        out[i] = 32;
+        i += 1;
     }
-    48 + (n % 10) as u8
 }
 
-// w columns before what stands from w on.
-fn columns_to(w: usize, n: u32, out: &mut [u8])
-    requires { ⌜ w ≤ length (now out) ⌝ }
-    ensures { λ r. ⌜ now (out .exit) ≡ columns w n (drop w (now (out .entry))) ⌝ }
+// The digits of n before what stands from w on, over blanks.
+fn digits_to(w: usize, n: u32, out: &mut [u8])
+    requires { ⌜ (w ≤ length (now out)) × (take w (now out) ≡ replicate w 32) ⌝ }
+    ensures { λ _. ⌜ now (out .exit) ≡ columns w n (drop w (now (out .entry))) ⌝ }
 {
     let mut v = n;
     let mut j = w;
     while 0 < j {
+        if v == 0 {
+            return;
+        }
         j -= 1;
-        out[j] = column_of(v);
+        out[j] = 48 + (v % 10) as u8;
         v = v / 10;
     }
 }
 
-// A number in 8 columns.
+// A number in 8 columns, over blanks.
 fn print_to(n: u32, out: &mut [u8])
-    requires { ⌜ length (now out) ≡ 8 ⌝ }
-    ensures { λ r. ⌜ now (out .exit) ≡ printed n ⌝ }
+    requires { ⌜ now out ≡ replicate 8 32 ⌝ }
+    ensures { λ _. ⌜ now (out .exit) ≡ printed n ⌝ }
 {
     out[7] = 48 + (n % 10) as u8;
-    columns_to(7, n / 10, out);
+    digits_to(7, n / 10, out);
 }
 
 fn field_to(u: usize, k: usize, n: u32, out: &mut [u8])
     requires { ⌜ length (now out) ≡ 8 ⌝ }
-    ensures { λ r. ⌜ now (out .exit) ≡ textField u k n ⌝ }
+    ensures { λ _. ⌜ now (out .exit) ≡ textField u k n ⌝ }
 {
+    blank_to(&mut out[..]);
     if k < u {
-        print_to(n, out);
-        return;
+        print_to(n, &mut out[..]);
     }
-    columns_to(8, 0, out);
 }
 
 // The five fields after the letter.

@@ -6,7 +6,7 @@ use mathlib.Core.List.{List}
 use Prim.Native.Nat.{ℕ, _-_, _≤_}
 use native.Mathlib.Nat.{sub-zero}
 use native.Mathlib.Omega.{arith}
-use lib.ListN.{getD}
+use lib.ListN.{length, getD}
 use Rattle.paper.specs.Cards.{order, orderOf}
 use Rattle.paper.specs.Judge.{judgeCard, judgeFrom}
 use Rattle.paper.specs.Calls.{cardAt}
@@ -14,13 +14,13 @@ use Rattle.paper.proofs.Judging.{judge-on, judge-here, judge-end}
 use Rattle.deck.proofs.InRows.{lent}
 
 abbrev Inv-loop : tie.InvT-loop
-Inv-loop z s start rows i₀ p₀ key₀ i p key = (i ≤ rows) × (judgeFrom z (cardAt s start) rows 0 0 0 ≡ judgeFrom z (cardAt s start) (rows - i) i p key)
+Inv-loop z s start rows card₀ i₀ p₀ key₀ card i p key = (i ≤ rows) × (length card ≡ 6) × (judgeFrom z (cardAt s start) rows 0 0 0 ≡ judgeFrom z (cardAt s start) (rows - i) i p key)
 
 abbrev μ-loop : tie.MeasureT-loop
-μ-loop z s start rows i₀ p₀ key₀ i p key = rows - i
+μ-loop z s start rows card₀ i₀ p₀ key₀ card i p key = rows - i
 
 loop-holds : tie.Need-loop-holds Inv-loop μ-loop
-loop-holds c = (search needs, rw sub-zero)
+loop-holds c = (search needs, search needs, rw sub-zero)
 
 mul-at : tie.Need-mul-at Inv-loop μ-loop
 mul-at c = search needs
@@ -39,6 +39,9 @@ part-card-of-start c = search needs
 
 part-card-of-end : tie.Need-part-card-of-end Inv-loop μ-loop
 part-card-of-end c = search needs
+
+slice-aggregate-card-of : tie.Need-slice-aggregate-card-of Inv-loop μ-loop
+slice-aggregate-card-of c = search needs
 
 card-of-requires : tie.Need-card-of-requires Inv-loop μ-loop
 card-of-requires c κs = search needs
@@ -63,11 +66,11 @@ enum-told-2 c = search needs
 
 returns : tie.Need-returns Inv-loop μ-loop
 returns c =
-    let a = c .before .before .before .before .before .before .before .before .before .before .args in
-    let l = c .before .before .before .before .before .before .before .before .loop in
-    let row = c .before .before .before .before .before .card-of .ensures ∙ lent (a .s .now) (a .start) (l .i) in
+    let a = c .before .before .before .before .before .before .before .before .before .before .before .before .args in
+    let l = c .before .before .before .before .before .before .before .before .before .before .loop in
+    let row = c .before .before .before .before .before .before .card-of .ensures ∙ lent (a .s .now) (a .start) (l .i) in
     let e = sym (c .before .before .judge-card .ensures ∙ ap (judgeCard (a .z) (l .i) (l .p) (l .key)) row) ∙ c .enum-told2 .given .1 in
-    c .enum-told2 .given .1 ∙ judge-here (a .z) (cardAt (a .s .now) (a .start)) (a .rows) (l .i) (l .p) (l .key) _ (omega arith) e ∙ sym (l .inv .1)
+    c .enum-told2 .given .1 ∙ judge-here (a .z) (cardAt (a .s .now) (a .start)) (a .rows) (l .i) (l .p) (l .key) _ (omega arith) e ∙ sym (l .inv .2)
 
 order-of-requires : tie.Need-order-of-requires Inv-loop μ-loop
 order-of-requires c κs = search needs
@@ -83,20 +86,20 @@ loop-less c = search needs
 
 loop-again : tie.Need-loop-again Inv-loop μ-loop
 loop-again c =
-    let a = c .before .before .before .before .before .before .before .before .before .before .before .args in
-    let l = c .before .before .before .before .before .before .before .before .before .loop in
-    let row = c .before .before .before .before .before .before .card-of .ensures ∙ lent (a .s .now) (a .start) (l .i) in
+    let a = c .before .before .before .before .before .before .before .before .before .before .before .before .before .args in
+    let l = c .before .before .before .before .before .before .before .before .before .before .before .loop in
+    let row = c .before .before .before .before .before .before .before .card-of .ensures ∙ lent (a .s .now) (a .start) (l .i) in
     let e = sym (c .before .before .before .judge-card .ensures ∙ ap (judgeCard (a .z) (l .i) (l .p) (l .key)) row) ∙ c .before .enum-told .given .1 in
     let o = c .order-of .ensures ∙ ap order (c .before .before .before .before .before .kind .ensures) ∙ ap orderOf row in
     let k = ap (λ (r : List ℕ). getD r 1 0) row in
     let g = judge-on (a .z) (cardAt (a .s .now) (a .start)) (a .rows) (l .i) (l .p) (l .key) (omega arith) e in
-    (omega arith, cc (l .inv .1))
+    (omega arith, c .before .before .before .before .before .before .before .card-of .kept .1 .0 ∙ l .inv .1, cc (l .inv .2))
 
 returns-2 : tie.Need-returns-2 Inv-loop μ-loop
 returns-2 c =
     let a = c .before .before .before .args in
     let l = c .before .loop in
-    judge-end (a .z) (cardAt (a .s .now) (a .start)) (a .rows) (l .i) (l .p) (l .key) (omega arith) ∙ sym (l .inv .1)
+    judge-end (a .z) (cardAt (a .s .now) (a .start)) (a .rows) (l .i) (l .p) (l .key) (omega arith) ∙ sym (l .inv .2)
 
 pub judge-text-spec : {M : Type 1} → statement M
 judge-text-spec =
@@ -111,6 +114,7 @@ judge-text-spec =
     sub-card-of
     part-card-of-start
     part-card-of-end
+    slice-aggregate-card-of
     card-of-requires
     array-read-kind
     kind-requires

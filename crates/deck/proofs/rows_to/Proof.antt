@@ -45,23 +45,20 @@ part-card-of-start c = search needs
 part-card-of-end : tie.Need-part-card-of-end Inv-loop μ-loop
 part-card-of-end c = search needs
 
+mul-card-of : tie.Need-mul-card-of Inv-loop μ-loop
+mul-card-of c = search needs
+
+sub-card-of-2 : tie.Need-sub-card-of-2 Inv-loop μ-loop
+sub-card-of-2 c = search needs
+
+part-card-of-start-2 : tie.Need-part-card-of-start-2 Inv-loop μ-loop
+part-card-of-start-2 c = search needs
+
+part-card-of-end-2 : tie.Need-part-card-of-end-2 Inv-loop μ-loop
+part-card-of-end-2 c = search needs
+
 card-of-requires : tie.Need-card-of-requires Inv-loop μ-loop
-card-of-requires c κs = search needs
-
-mul-row-to : tie.Need-mul-row-to Inv-loop μ-loop
-mul-row-to c = search needs
-
-sub-row-to : tie.Need-sub-row-to Inv-loop μ-loop
-sub-row-to c = search needs
-
-part-row-to-start : tie.Need-part-row-to-start Inv-loop μ-loop
-part-row-to-start c = search needs
-
-part-row-to-end : tie.Need-part-row-to-end Inv-loop μ-loop
-part-row-to-end c = search needs
-
-row-to-requires : tie.Need-row-to-requires Inv-loop μ-loop
-row-to-requires c κs = mid-len (c .before .before .before .before .loop .i * 6) (c .before .before .before .before .loop .i * 6 + 6) (c .before .before .before .before .loop .table) (omega arith) ∙ omega arith
+card-of-requires c κs = (search needs, mid-len (c .before .before .before .loop .i * 6) (c .before .before .before .loop .i * 6 + 6) (c .before .before .before .loop .table) (omega arith) ∙ omega arith)
 
 add-i : tie.Need-add-i Inv-loop μ-loop
 add-i c = search needs
@@ -71,14 +68,14 @@ loop-less c = search needs
 
 loop-again : tie.Need-loop-again Inv-loop μ-loop
 loop-again c =
-    let l = c .before .before .before .before .before .before .before .loop in
-    let a = c .before .before .before .before .before .before .before .before .before .before .args in
+    let l = c .before .before .before .before .before .before .loop in
+    let a = c .before .before .before .before .before .before .before .before .before .args in
     let row = cardAt (a .s .now) (a .start) in
     let n = a .rows in
-    let ys = c .before .before .row-to .last .1 .0 in
+    let ys = c .before .before .card-of .last .1 .0 in
     let g : l .i * 6 + 6 ≤ length (l .table) = omega arith in
-    let e : ys ≡ row (l .i) = c .before .before .row-to .ensures ∙ c .before .before .before .before .card-of .ensures ∙ lent (a .s .now) (a .start) (l .i) in
-    let f : length ys ≡ 6 = c .before .before .row-to .kept .1 .0 ∙ mid-len (l .i * 6) (l .i * 6 + 6) (l .table) g ∙ omega arith in (
+    let e : ys ≡ row (l .i) = c .before .before .card-of .ensures ∙ lent (a .s .now) (a .start) (l .i) in
+    let f : length ys ≡ 6 = c .before .before .card-of .kept .1 .0 ∙ mid-len (l .i * 6) (l .i * 6 + 6) (l .table) g ∙ omega arith in (
       omega arith,
       put-length (l .table) ys (l .i * 6) 6 g f ∙ l .inv .1,
       rows-more row 6 n (l .i) (l .table) ys (joined row n 0) (omega arith) g f e (omega arith) (l .inv .2),
@@ -110,12 +107,11 @@ rows-to-spec =
     sub-card-of
     part-card-of-start
     part-card-of-end
+    mul-card-of
+    sub-card-of-2
+    part-card-of-start-2
+    part-card-of-end-2
     card-of-requires
-    mul-row-to
-    sub-row-to
-    part-row-to-start
-    part-row-to-end
-    row-to-requires
     add-i
     loop-less
     loop-again

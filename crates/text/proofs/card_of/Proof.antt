@@ -2,7 +2,7 @@ use borrow.Author.Needs.{needs}
 use Rattle.text.proofs.card_of.Statement.{statement}
 use Rattle.text.proofs.card_of.Tie as tie
 use mathlib.Core.Path.{sym, ap, _∙_}
-use mathlib.Core.List.{[], _∷_}
+use mathlib.Core.List.{List, [], _∷_}
 use Prim.Native.Nat.{ℕ}
 use native.Mathlib.Omega.{arith}
 use lib.ListN.{getD}
@@ -22,25 +22,43 @@ kind-requires c κs = search needs
 used-of-requires : tie.Need-used-of-requires
 used-of-requires c κs = search needs
 
+row-to-requires : tie.Need-row-to-requires
+row-to-requires c κs = search needs
+
+same-length : tie.Need-same-length
+same-length c = search needs
+
 returns : tie.Need-returns
-returns c = card-none (c .before .before .before .before .before .args .s .now) (sym (c .before .used-of .ensures .0 ∙ ap used (c .before .before .kind .ensures)) ∙ c .if1 .taken)
+returns c = c .before .before .row-to .ensures ∙ card-none (c .before .before .before .before .before .before .before .before .before .before .args .s .now) (sym (c .before .before .before .before .before .used-of .ensures .0 ∙ ap used (c .before .before .before .before .before .before .kind .ensures)) ∙ c .before .before .before .before .if1 .taken)
 
 shared-slice-read-if2 : tie.Need-shared-slice-read-if2
 shared-slice-read-if2 c = search needs
 
+row-to-requires-2 : tie.Need-row-to-requires-2
+row-to-requires-2 c κs = search needs
+
+same-length-2 : tie.Need-same-length-2
+same-length-2 c = search needs
+
 returns-2 : tie.Need-returns-2
 returns-2 c =
-    let u = c .before .before .before .used-of .ensures .0 ∙ ap used (c .before .before .before .before .kind .ensures) in
-    card-line (c .before .before .before .before .before .before .before .args .s .now) (λ e. c .before .before .if1 .left (u ∙ e)) (c .if2 .taken)
+    let u = c .before .before .before .before .before .before .before .used-of .ensures .0 ∙ ap used (c .before .before .before .before .before .before .before .before .kind .ensures) in
+    c .before .before .row-to2 .ensures ∙ card-line (c .before .before .before .before .before .before .before .before .before .before .before .before .args .s .now) (λ e. c .before .before .before .before .before .before .if1 .left (u ∙ e)) (c .before .before .before .before .if2 .taken)
+
+row-to-requires-3 : tie.Need-row-to-requires-3
+row-to-requires-3 c κs = search needs
 
 fields-of-requires : tie.Need-fields-of-requires
 fields-of-requires c κs = search needs
 
+same-length-3 : tie.Need-same-length-3
+same-length-3 c = search needs
+
 returns-3 : tie.Need-returns-3
 returns-3 c =
-    let b = c .before .before .before .before .before .before .before .before .args .s .now in
-    let u = c .before .before .before .before .used-of .ensures .0 ∙ ap used (c .before .before .before .before .before .kind .ensures) in
-    c .fields-of .ensures ∙ ap (λ (v : ℕ). fieldsFrom v b 5 0 (getD b 0 0 ∷ 0 ∷ 0 ∷ 0 ∷ 0 ∷ 0 ∷ [])) u ∙ card-fields b (λ e. c .before .before .before .if1 .left (u ∙ e)) (c .before .if2 .left)
+    let b = c .before .before .before .before .before .before .before .before .before .before .before .before .before .before .before .before .args .s .now in
+    let u = c .before .before .before .before .before .before .before .before .before .before .before .used-of .ensures .0 ∙ ap used (c .before .before .before .before .before .before .before .before .before .before .before .before .kind .ensures) in
+    c .before .before .fields-of .ensures ∙ ap (fieldsFrom (c .before .before .before .before .before .before .before .before .before .before .before .used-of .result) b 5 0) (c .before .before .before .before .before .before .row-to3 .ensures) ∙ ap (λ (v : ℕ). fieldsFrom v b 5 0 (getD b 0 0 ∷ 0 ∷ 0 ∷ 0 ∷ 0 ∷ 0 ∷ [])) u ∙ card-fields b (λ e. c .before .before .before .before .before .before .before .before .before .before .if1 .left (u ∙ e)) (c .before .before .before .before .before .before .before .before .if2 .left)
 
 pub card-of-spec : {M : Type 1} → statement M
 card-of-spec =
@@ -50,8 +68,14 @@ card-of-spec =
     cast-letter
     kind-requires
     used-of-requires
+    row-to-requires
+    same-length
     returns
     shared-slice-read-if2
+    row-to-requires-2
+    same-length-2
     returns-2
+    row-to-requires-3
     fields-of-requires
+    same-length-3
     returns-3)

@@ -2,7 +2,6 @@ use Rattle.text.proofs.fields_of.Statement.{statement}
 use Rattle.text.proofs.fields_of.Tie as tie
 use borrow.Author.Needs.{needs}
 use mathlib.Core.Path.{_≡_, refl, sym, _∙_}
-use mathlib.Core.List.{[], _∷_}
 use Prim.Native.Nat.{_-_, _≤_}
 use native.Mathlib.Omega.{arith}
 use lib.ListN.{length, length-set}
@@ -10,13 +9,13 @@ use Rattle.paper.specs.Text.{fieldsFrom}
 use Rattle.text.proofs.ReadCard.{fields-on, fields-here, fields-end}
 
 abbrev Inv-loop : tie.InvT-loop
-Inv-loop u s letter card₀ k₀ card k = (k ≤ 5) × (length card ≡ 6) × (fieldsFrom u s 5 0 (letter ∷ 0 ∷ 0 ∷ 0 ∷ 0 ∷ 0 ∷ []) ≡ fieldsFrom u s (5 - k) k card)
+Inv-loop u s row₀ k₀ row k = (k ≤ 5) × (length row ≡ 6) × (fieldsFrom u s 5 0 row₀ ≡ fieldsFrom u s (5 - k) k row)
 
 abbrev μ-loop : tie.MeasureT-loop
-μ-loop u s letter card₀ k₀ card k = 5 - k
+μ-loop u s row₀ k₀ row k = 5 - k
 
 loop-holds : tie.Need-loop-holds Inv-loop μ-loop
-loop-holds c = (search needs, refl, refl)
+loop-holds c = (search needs, search needs, refl)
 
 field-of-requires : tie.Need-field-of-requires Inv-loop μ-loop
 field-of-requires c κs = search needs
@@ -27,20 +26,26 @@ enum-known-f c = search needs
 enum-told : tie.Need-enum-told Inv-loop μ-loop
 enum-told c = search needs
 
+row-to-requires : tie.Need-row-to-requires Inv-loop μ-loop
+row-to-requires c κs = search needs
+
+same-length : tie.Need-same-length Inv-loop μ-loop
+same-length c = search needs
+
 returns : tie.Need-returns Inv-loop μ-loop
 returns c =
-    let a = c .before .before .before .before .before .before .args in
-    let l = c .before .before .before .before .loop in
-    fields-here (a .u) (a .s .now) (l .k) (l .card) (omega arith) (sym (c .before .before .field-of .ensures) ∙ c .enum-told .given .1) ∙ sym (l .inv .2)
+    let a = c .before .before .before .before .before .before .before .before .before .before .before .args in
+    let l = c .before .before .before .before .before .before .before .before .loop in
+    c .before .before .row-to .ensures ∙ fields-here (a .u) (a .s .now) (l .k) (l .row) (omega arith) (sym (c .before .before .before .before .before .before .field-of .ensures) ∙ c .before .before .before .before .enum-told .given .1) ∙ sym (l .inv .2)
 
-add-card : tie.Need-add-card Inv-loop μ-loop
-add-card c = search needs
+add-row : tie.Need-add-row Inv-loop μ-loop
+add-row c = search needs
 
-mul-card : tie.Need-mul-card Inv-loop μ-loop
-mul-card c = search needs
+mul-row : tie.Need-mul-row Inv-loop μ-loop
+mul-row c = search needs
 
-array-write-card : tie.Need-array-write-card Inv-loop μ-loop
-array-write-card c = search needs
+slice-write-row : tie.Need-slice-write-row Inv-loop μ-loop
+slice-write-row c = search needs
 
 add-k : tie.Need-add-k Inv-loop μ-loop
 add-k c = search needs
@@ -50,15 +55,18 @@ loop-less c = search needs
 
 loop-again : tie.Need-loop-again Inv-loop μ-loop
 loop-again c =
-    let a = c .before .before .before .before .before .before .before .args in
+    let a = c .before .before .before .before .before .before .before .before .args in
     let l = c .before .before .before .before .before .loop in
-    (omega arith, simp length-set (l .inv .1), l .inv .2 ∙ fields-on (a .u) (a .s .now) (l .k) (l .card) _ (omega arith) (sym (c .before .before .before .field-of .ensures) ∙ c .before .f .given .1))
+    (omega arith, simp length-set (l .inv .1), l .inv .2 ∙ fields-on (a .u) (a .s .now) (l .k) (l .row) _ (omega arith) (sym (c .before .before .before .field-of .ensures) ∙ c .before .f .given .1))
+
+same-length-2 : tie.Need-same-length-2 Inv-loop μ-loop
+same-length-2 c = search needs
 
 returns-2 : tie.Need-returns-2 Inv-loop μ-loop
 returns-2 c =
-    let a = c .before .before .before .args in
+    let a = c .before .before .before .before .args in
     let l = c .before .loop in
-    fields-end (a .u) (a .s .now) (l .k) (l .card) (omega arith) ∙ sym (l .inv .2)
+    fields-end (a .u) (a .s .now) (l .k) (l .row) (omega arith) ∙ sym (l .inv .2)
 
 pub fields-of-spec : {M : Type 1} → statement M
 fields-of-spec =
@@ -70,11 +78,14 @@ fields-of-spec =
     field-of-requires
     enum-known-f
     enum-told
+    row-to-requires
+    same-length
     returns
-    add-card
-    mul-card
-    array-write-card
+    add-row
+    mul-row
+    slice-write-row
     add-k
     loop-less
     loop-again
+    same-length-2
     returns-2)

@@ -1,10 +1,11 @@
 use borrow.Author.Needs.{needs}
 use Rattle.text.proofs.print_to.Statement.{statement}
 use Rattle.text.proofs.print_to.Tie as tie
-use mathlib.Core.Path.{refl, _∙_}
-use Prim.Native.Nat.{_+_, _%_}
+use mathlib.Core.Path.{_≡_, refl, ap, _∙_}
+use mathlib.Core.List.{List}
+use Prim.Native.Nat.{ℕ, _+_, _%_}
 use native.Mathlib.Omega.{arith}
-use lib.ListN.{length-set}
+use lib.ListN.{length, take, set, length-set}
 use Rattle.text.proofs.PrintField.{printed-is}
 
 cast-out : tie.Need-cast-out
@@ -14,17 +15,20 @@ add-out : tie.Need-add-out
 add-out c = search needs
 
 slice-write-out : tie.Need-slice-write-out
-slice-write-out c = search needs
+slice-write-out c = omega (arith, ap length (c .before .pre))
 
-columns-to-requires : tie.Need-columns-to-requires
-columns-to-requires c κs = simp length-set (omega arith)
+digits-to-requires : tie.Need-digits-to-requires
+digits-to-requires c κs =
+    let d = 48 + c .before .before .args .n % 10 in
+    let l = ap length (c .before .before .pre) in
+    (simp length-set (omega (arith, l)), ap (λ (s : List ℕ). take 7 (set s 7 d)) (c .before .before .pre))
 
 same-length : tie.Need-same-length
-same-length c = c .before .before .columns-to .kept .1 .1 .0 ∙ length-set (c .before .before .before .before .before .args .out .now) 7 (48 + c .before .before .before .before .before .args .n % 10)
+same-length c = search needs
 
 returns : tie.Need-returns
-returns c = c .before .before .columns-to .ensures ∙ printed-is (c .before .before .before .before .before .args .out .now) (c .before .before .before .before .before .args .n) (48 + c .before .before .before .before .before .args .n % 10) (c .before .before .before .before .before .pre) refl
+returns c = c .before .before .digits-to .ensures ∙ printed-is (c .before .before .before .before .before .args .out .now) (c .before .before .before .before .before .args .n) (ap length (c .before .before .before .before .before .pre))
 
 pub print-to-spec : {M : Type 1} → statement M
 print-to-spec =
-    tie.close (tie.spec cast-out add-out slice-write-out columns-to-requires same-length returns)
+    tie.close (tie.spec cast-out add-out slice-write-out digits-to-requires same-length returns)
