@@ -14,7 +14,7 @@ use mir.Val.{SFits}
 use mir.Facts.{toZ-ofZ}
 use borrow.Author.Count.{below-none, below-more}
 use Rattle.whole.specs.Sums.{sumN, any}
-use Rattle.whole.specs.Packed.{tri, cell, place, entry}
+use Rattle.whole.specs.Packed.{tri, cell, entry}
 use Rattle.whole.proofs.Calc.{rd}
 use Rattle.whole.proofs.Packed.{tri-below, place-low, place-high}
 use Rattle.whole.proofs.Sums.{sumN-more, sumN-mono, any-ext}

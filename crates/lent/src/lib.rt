@@ -54,6 +54,7 @@ fn totals(m: &[i64], sums: &mut [u64], n: usize)
     }
 }
 
+// Whether one of the n sums passes 2^33.
 fn passed(sums: &[u64], n: usize) -> bool
     requires { ⌜ n ≤ length (now sums) ⌝ }
     ensures { λ r. ⌜ r ≡ any n (λ i. ltb (2 ^ 33) (getD (now (sums .entry)) i 0)) ⌝ }
