@@ -2,3 +2,4 @@
 pub mod Told
 pub mod First
 mod Turns
+mod RowSums

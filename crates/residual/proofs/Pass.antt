@@ -15,7 +15,7 @@ use Rattle.whole.proofs.Packed.{tri-below, place-low, place-high}
 use Rattle.whole.proofs.Calc.{Is, rd, num, is}
 use Rattle.paper.specs.Step.{Board}
 use Rattle.lent.specs.Rows.{Mild}
-use Rattle.residual.specs.Asks.{Fair, heldOr, mixed, Lines, InRow, Term}
+use Rattle.residual.specs.Asks.{Fair, heldOr, mixed, InRow, Term}
 use Rattle.residual.proofs.Terms.{part-size, term-asks, term-is}
 use Rattle.residual.proofs.Paper.{lines}
 

@@ -224,7 +224,7 @@ pub fn step(
     past_9(table, p, a, factor, &mut temperatures[..])
 }
 
-// k steps, as far as none is refused.
+// k steps of a deck that was judged, as far as none is refused.
 fn steps(
     table: &[u32],
     p: &[i64],
@@ -233,11 +233,12 @@ fn steps(
     temperatures: &mut [i64],
     k: u32,
 ) -> Ran
+    requires { ⌜ judged (now table) ≡ Done ⌝ }
     ensures { λ e. ⌜ Leaves e (now (temperatures .exit)) (runFrom k 0 (now (table .entry)) (lent (now (p .entry)) (now (a .entry)) (now (factor .entry))) (now (temperatures .entry))) ⌝ }
 {
     let mut count: u32 = 0;
     while count < k {
-        let e = step(table, p, a, factor, &mut temperatures[..]);
+        let e = past_9(table, p, a, factor, &mut temperatures[..]);
         if let Stepped::Refused(why) = e {
             return Ran::Refused(why);
         }

@@ -27,7 +27,7 @@ field-requires : tie.Need-field-requires
 field-requires c κs = let d = deck (c .before .before .before .before .args .table .now) (sym (c .before .before .judge .ensures) ∙ c .enum-told .given .1) in omega (arith, d .whole, d .all)
 
 steps-requires : tie.Need-steps-requires
-steps-requires c κs = search needs
+steps-requires c κs = sym (c .before .before .before .before .judge .ensures) ∙ c .before .before .enum-told .given .1
 
 same-length : tie.Need-same-length
 same-length c = search needs

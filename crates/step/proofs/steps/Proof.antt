@@ -18,17 +18,17 @@ abbrev μ-loop : tie.MeasureT-loop
 loop-holds : tie.Need-loop-holds Inv-loop μ-loop
 loop-holds c = let s = c .before .args in (refl, run-start (s .table .now) (lent (s .p .now) (s .a .now) (s .factor .now)) (s .temperatures .now) (s .k))
 
-step-requires : tie.Need-step-requires Inv-loop μ-loop
-step-requires c κs = search needs
+past-9-requires : tie.Need-past-9-requires Inv-loop μ-loop
+past-9-requires c κs = search needs
 
 enum-known-e : tie.Need-enum-known-e Inv-loop μ-loop
 enum-known-e c = search needs
 
 same-length : tie.Need-same-length Inv-loop μ-loop
-same-length c = c .before .before .before .before .step .kept .1 .1 .1 .1 .0 ∙ c .before .before .before .before .before .before .before .loop .inv .0
+same-length c = c .before .before .before .before .past-9 .kept .1 .1 .1 .1 .0 ∙ c .before .before .before .before .before .before .before .loop .inv .0
 
 returns : tie.Need-returns Inv-loop μ-loop
-returns c = run-refused (c .before .before .before .before .before .before .before .loop .inv .1) (c .before .before .before .before .before .before .loop-test .taken) (c .before .before .before .before .step .result) (c .before .before .before .before .step .ensures .0) (c .before .before .before .before .step .last .1 .1 .1 .1 .0) (c .before .before .before .before .step .ensures .1) _ (c .before .e .given .1)
+returns c = run-refused (c .before .before .before .before .before .before .before .loop .inv .1) (c .before .before .before .before .before .before .loop-test .taken) (c .before .before .before .before .past-9 .result) (c .before .before .before .before .past-9 .ensures .answer-is) (c .before .before .before .before .past-9 .last .1 .1 .1 .1 .0) (c .before .before .before .before .past-9 .ensures .left-is) _ (c .before .e .given .1)
 
 enum-told : tie.Need-enum-told Inv-loop μ-loop
 enum-told c = search needs
@@ -41,8 +41,8 @@ loop-less c = search needs
 
 loop-again : tie.Need-loop-again Inv-loop μ-loop
 loop-again c = (
-  c .before .before .before .step .kept .1 .1 .1 .1 .0 ∙ c .before .before .before .before .before .before .loop .inv .0,
-  run-next (c .before .before .before .before .before .before .loop .inv .1) (c .before .before .before .before .before .loop-test .taken) (c .before .before .before .step .result) (c .before .before .before .step .ensures .0) (c .before .before .before .step .last .1 .1 .1 .1 .0) (c .before .before .before .step .ensures .1) _ (c .enum-told .given .1),
+  c .before .before .before .past-9 .kept .1 .1 .1 .1 .0 ∙ c .before .before .before .before .before .before .loop .inv .0,
+  run-next (c .before .before .before .before .before .before .loop .inv .1) (c .before .before .before .before .before .loop-test .taken) (c .before .before .before .past-9 .result) (c .before .before .before .past-9 .ensures .answer-is) (c .before .before .before .past-9 .last .1 .1 .1 .1 .0) (c .before .before .before .past-9 .ensures .left-is) _ (c .enum-told .given .1),
 )
 
 same-length-2 : tie.Need-same-length-2 Inv-loop μ-loop
@@ -58,7 +58,7 @@ steps-spec =
     Inv-loop
     μ-loop
     loop-holds
-    step-requires
+    past-9-requires
     enum-known-e
     same-length
     returns
