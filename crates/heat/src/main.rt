@@ -1,35 +1,17 @@
 // The stepping program: reads a deck from standard input, builds, starts every node at D's start temperature, does D's steps
 // and prints the temperatures. A refusal prints `R number place` alone.
 use libc::STDIN_FILENO;
-use libc::STDOUT_FILENO;
 use paper::Answer;
 use paper::Ran;
-
-fn number(n: u64) {
-    io::write_all(STDOUT_FILENO, b" ");
-    io::print_decimal(STDOUT_FILENO, n);
-}
-
-fn line(letter: &[u8], a: u64, b: u64) {
-    io::write_all(STDOUT_FILENO, letter);
-    number(a);
-    number(b);
-    io::write_all(STDOUT_FILENO, b"\n");
-}
-
-// An answer as read gives it.
-fn refused(answer: u64) {
-    line(b"R", answer % 256, answer / 65_536);
-}
 
 // Each node's temperature, then Z with the steps done and the lines to go back.
 fn printed(temperatures: &[i64], steps: u32) {
     let mut i = 0;
     while i < temperatures.len() {
-        line(b"T", i as u64 + 1, whole::size(temperatures[i]));
+        lines::line(b"T", i as u64 + 1, whole::size(temperatures[i]));
         i += 1;
     }
-    line(b"Z", steps as u64, temperatures.len() as u64);
+    lines::line(b"Z", steps as u64, temperatures.len() as u64);
 }
 
 // D's start temperature.
@@ -53,7 +35,7 @@ fn size(x: u32) -> usize {
 fn stepped(table: &[u32], p: &[i64], a: &[i64], factor: &[i64], temperatures: &mut [i64]) {
     match step::run(table, p, a, factor, &mut temperatures[..]) {
         Ran::Finished(steps) => printed(&temperatures[..], steps),
-        Ran::Refused(why) => refused(deck::packed_refusal(why)),
+        Ran::Refused(why) => lines::refused(deck::packed_refusal(why)),
     }
 }
 
@@ -65,7 +47,7 @@ fn ran(table: &[u32]) {
     let mut temperatures = [0i64; 96];
     let answer = model::build(table, &mut p, &mut a, &mut factor, &mut work);
     if let Answer::Refused(why) = answer {
-        refused(deck::packed_refusal(why));
+        lines::refused(deck::packed_refusal(why));
         return;
     }
     let n = nodes(table);
@@ -82,7 +64,7 @@ fn main() {
     let n = io::read_full(STDIN_FILENO, &mut bytes);
     let part = deck::read(&bytes[..n], &mut table, &mut answer);
     if answer != 0 {
-        refused(answer);
+        lines::refused(answer);
         return;
     }
     let k = part.len() / 42 * 6;

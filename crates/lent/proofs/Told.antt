@@ -1,24 +1,23 @@
 -- What lent numbers that refusals 10 and 11 let pass are: the bounds of a step and of a replacement.
 use mathlib.Core.Path.{_≡_, sym, subst}
-use mathlib.Core.Bool.{true, false, not, _||_}
+use mathlib.Core.Bool.{false, not, _||_}
 use mathlib.Core.List.{List}
 use Prim.Native.Nat.{ℕ, _+_, _^_, _≤_, _<_}
 use native.Mathlib.Omega.{arith}
 use lib.Dec.{leb}
 use lib.IntN.{ℤ, pos, natAbs}
-use lib.Signed.{leZ, _<ℤ_}
+use lib.Signed.{_<ℤ_}
 use lib.ListN.{length, take}
 use lib.Seq.{getD-take, length-take-le}
 use borrow.Author.Tests.{leb-true, not-false}
-use Rattle.whole.specs.Sums.{sumN, any}
+use Rattle.whole.specs.Sums.{sumN}
 use Rattle.whole.specs.Packed.{tri, cell, entry}
 use Rattle.whole.proofs.Linear.{zarith}
 use Rattle.whole.proofs.Sums.{sumN-upto, sumN-one, any-each, first-none}
 use Rattle.whole.proofs.Tests.{nor-told}
 use Rattle.paper.specs.Ticks.{onScale}
 use Rattle.paper.specs.Building.{Slices}
-use Rattle.paper.specs.Factor.{small}
-use Rattle.paper.specs.Lent.{rowSize, heavy, pivot, badRow, noFactor, foreign}
+use Rattle.paper.specs.Lent.{rowSize, heavy, noFactor, foreign}
 use Rattle.paper.specs.Step.{offScale}
 use Rattle.paper.proofs.Scale.{on-scale-size}
 use Rattle.paper.proofs.Lent.{passed}

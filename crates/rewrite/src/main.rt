@@ -4,14 +4,6 @@ use libc::STDOUT_FILENO;
 ghost use Prim.Native.Nat.{_*_, _≤_};
 ghost use lib.ListN.{length};
 
-fn refused(answer: u64) {
-    io::write_all(STDOUT_FILENO, b"R ");
-    io::print_decimal(STDOUT_FILENO, answer % 256);
-    io::write_all(STDOUT_FILENO, b" ");
-    io::print_decimal(STDOUT_FILENO, answer / 65_536);
-    io::write_all(STDOUT_FILENO, b"\n");
-}
-
 // The table's deck as bytes.
 fn written(table: &[u32]) {
     let mut bytes = [0u8; 65_536];
@@ -29,7 +21,7 @@ fn main() {
     let n = io::read_full(STDIN_FILENO, &mut bytes);
     let part = deck::read(&bytes[..n], &mut table, &mut answer);
     if answer != 0 {
-        refused(answer);
+        lines::refused(answer);
         return;
     }
     let k = part.len() / 42 * 6;

@@ -2,7 +2,7 @@ use borrow.Author.Needs.{needs}
 use Rattle.text.proofs.card_of.Statement.{statement}
 use Rattle.text.proofs.card_of.Tie as tie
 use mathlib.Core.Path.{sym, ap, _∙_}
-use mathlib.Core.List.{List, [], _∷_}
+use mathlib.Core.List.{[], _∷_}
 use Prim.Native.Nat.{ℕ}
 use native.Mathlib.Omega.{arith}
 use lib.ListN.{getD}
