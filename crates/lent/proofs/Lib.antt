@@ -2,4 +2,3 @@
 pub mod Told
 pub mod First
 mod Turns
-mod RowSums

@@ -2,7 +2,8 @@
 use mathlib.Core.Path.{_≡_, refl, sym, ap, _∙_}
 use mathlib.Core.Bool.{Bool, true, false, not, _||_}
 use mathlib.Core.List.{List}
-use Prim.Native.Nat.{ℕ, _+_, _^_, _≤_, _<_, max}
+use Prim.Native.Nat.{ℕ, zero, suc, _+_, _*_, _^_, _≤_, _<_, min, max}
+use native.Mathlib.Nat.{suc-mul}
 use native.Mathlib.Omega.{arith}
 use lib.Dec.{leb, ltb}
 use lib.IntN.{ℤ, natAbs}
@@ -10,22 +11,49 @@ use mir.Syntax.{w64}
 use mir.Val.{SFits}
 use mir.Facts.{toZ-ofZ}
 use borrow.Author.Tests.{le-leb, lt-leb, leb-true, leb-false, ltb-true, ltb-false}
-use Rattle.whole.specs.Sums.{any}
-use Rattle.whole.specs.Packed.{tri, cell}
+use Rattle.whole.specs.Sums.{sumN, any}
+use Rattle.whole.specs.Packed.{tri, cell, place, entry}
 use Rattle.whole.proofs.Calc.{rd}
-use Rattle.whole.proofs.Sums.{any-one, any-more}
+use Rattle.whole.proofs.Sums.{sumN-more, sumN-mono, any-one, any-more}
 use Rattle.paper.specs.Ticks.{onScale}
 use Rattle.paper.specs.Factor.{small}
-use Rattle.paper.specs.Lent.{heavy, pivot, badRow, noFactor, foreign}
-use Rattle.lent.specs.Rows.{lent}
+use Rattle.paper.specs.Lent.{rowSize, heavy, pivot, badRow, noFactor, foreign}
+use Rattle.lent.specs.Rows.{capped, cappedTo, lent}
+
+-- ---- a row's sizes, capped
+
+capped-small : (m : List ℤ) (i j : ℕ) → cappedTo j m i ≤ j * 8589934593
+unfolding cappedTo sumN
+capped-small m i zero = omega arith
+capped-small m i (suc j) = omega (arith, capped-small m i j, suc-mul j 8589934593)
+
+module _ (m : List ℤ) (i at j : ℕ) (e : at ≡ place i j) (g : SFits w64 (cell m at)) (sum z : ℕ) (es : sum ≡ cappedTo j m i) (ez : z ≡ capped (rd (cell m at))) where
+  pub capped-next : sum + z ≡ cappedTo (j + 1) m i
+  unfolding cappedTo
+  capped-next = (λ k. es k + (ez ∙ ap capped (toZ-ofZ g ∙ ap (cell m) e)) k) ∙ sym (sumN-more j (λ (k : ℕ). capped (entry m i k)))
+
+  pub capped-fits : j < 96 → sum + z < 2 ^ 64
+  capped-fits h = omega (arith, capped-next, capped-small m i (j + 1))
+
+min-sum : (n : ℕ) (f : ℕ → ℕ) (c : ℕ) → min (sumN n f) c ≤ sumN n (λ k. min (f k) c)
+unfolding sumN
+min-sum zero f c = omega arith
+min-sum (suc n) f c = omega (arith, min-sum n f c)
 
 -- s passes c where r does
-pub above : (c s r : ℕ) → (c < s → c < r) → (s ≤ c → r ≤ c) → ltb c s ≡ not (leb r c)
+above : (c s r : ℕ) → (c < s → c < r) → (s ≤ c → r ≤ c) → ltb c s ≡ not (leb r c)
 above c s r f g = go (ltb c s) refl
   where
     go : (b : Bool) → ltb c s ≡ b → b ≡ not (leb r c)
     go true e = sym (ap not (lt-leb r c (f (ltb-true c s e))))
     go false e = sym (ap not (le-leb r c (g (ltb-false c s e))))
+
+pub row-above : (m : List ℤ) (i n sum : ℕ) → sum ≡ cappedTo n m i → ltb (2 ^ 33) sum ≡ not (leb (rowSize n m i) (2 ^ 33))
+unfolding rowSize cappedTo
+row-above m i n sum es =
+    above (2 ^ 33) sum (sumN n (λ k. natAbs (entry m i k)))
+    (λ h. omega (arith, es, sumN-mono n (λ (k : ℕ). capped (entry m i k)) (λ (k : ℕ). natAbs (entry m i k)) (λ k l. omega arith)))
+    (λ h. omega (arith, es, min-sum n (λ (k : ℕ). natAbs (entry m i k)) (suc (2 ^ 33))))
 
 -- ---- an l, and the largest of them
 

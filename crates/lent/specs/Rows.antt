@@ -4,7 +4,7 @@ use Prim.Native.Nat.{ℕ, suc, _+_, _^_, _≤_, _<_, min}
 use mathlib.Core.List.{List}
 use lib.IntN.{ℤ, pos, natAbs}
 use lib.Signed.{_≤ℤ_}
-use lib.ListN.{length, getD}
+use lib.ListN.{length}
 use Rattle.whole.specs.Sums.{sumN}
 use Rattle.whole.specs.Packed.{tri, cell, entry}
 use Rattle.paper.specs.Building.{Slices}
@@ -28,23 +28,6 @@ capped x = min (natAbs x) (suc (2 ^ 33))
 -- and the sum of the first j in row i
 unfoldable pub cappedTo : ℕ → List ℤ → ℕ → ℕ
 cappedTo j m i = sumN j (λ k. capped (entry m i k))
-
--- room for the row sums: those of the rows above i are sums so far
-pub record Room (x : List ℕ) (i : ℕ) : Type 0 where
-  pub long : i < length x
-  pub small : (k : ℕ) → k < i → getD x k 0 ≤ 2 ^ 40
-
--- the first j numbers of row i counted in their columns' rows
-pub record Spread (m : List ℤ) (i j : ℕ) (x y : List ℕ) : Type 0 where
-  pub long : length y ≡ length x
-  pub each : (k : ℕ) → k < j → getD y k 0 ≡ getD x k 0 + capped (entry m k i)
-  pub rest : (k : ℕ) → j ≤ k → getD y k 0 ≡ getD x k 0
-
--- the first j numbers of each of the first i rows summed
-pub record Totals (m : List ℤ) (i j : ℕ) (x y : List ℕ) : Type 0 where
-  pub long : length y ≡ length x
-  pub each : (k : ℕ) → k < i → getD y k 0 ≡ cappedTo j m k
-  pub rest : (k : ℕ) → i ≤ k → getD y k 0 ≡ getD x k 0
 
 -- a matrix that is not heavy
 pub record Light (m : List ℤ) (n : ℕ) : Type 0 where

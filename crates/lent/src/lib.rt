@@ -4,14 +4,14 @@ use paper::Ticks;
 ghost use mathlib.Core.Path.{_≡_};
 ghost use mathlib.Core.Bool.{not};
 ghost use Prim.Native.Nat.{_+_, _^_, _≤_, _<_, max};
-ghost use lib.Dec.{ltb};
-ghost use lib.ListN.{length, getD};
+ghost use lib.Dec.{leb};
+ghost use lib.ListN.{length};
 ghost use Rattle.whole.specs.Sums.{any};
 ghost use Rattle.whole.specs.Packed.{cell};
 ghost use Rattle.paper.specs.Factor.{small};
-ghost use Rattle.paper.specs.Lent.{heavy, pivot, badRow, noFactor, foreign};
+ghost use Rattle.paper.specs.Lent.{rowSize, heavy, pivot, badRow, noFactor, foreign};
 ghost use Rattle.paper.specs.Step.{offScale};
-ghost use Rattle.lent.specs.Rows.{InRow, Rows, Room, Spread, Totals, capped, cappedTo, lent};
+ghost use Rattle.lent.specs.Rows.{InRow, Rows, capped, cappedTo, lent};
 
 // ---- P and A
 
@@ -23,60 +23,57 @@ fn capped(x: i64) -> u64
     if s < 8_589_934_593 { s } else { 8_589_934_593 }
 }
 
-// Row i of the triangle: each number left of the diagonal also counts in its column's row. What row i comes to so far.
-fn spread(m: &[i64], sums: &mut [u64], i: usize, n: usize) -> u64
-    requires { ⌜ InRow (now m) i n × Room (now sums) i ⌝ }
+// Row i up to its diagonal.
+fn left(m: &[i64], i: usize, n: usize) -> u64
+    requires { ⌜ InRow (now m) i n ⌝ }
     ensures { λ r. ⌜ r ≡ cappedTo (i + 1) (now (m .entry)) i ⌝ }
-    ensures { λ _. ⌜ Spread (now (m .entry)) i i (now (sums .entry)) (now (sums .exit)) ⌝ }
 {
     let at = whole::start(i);
     let mut sum: u64 = 0;
     let mut j = 0;
-    while j < i {
-        let v = capped(m[at + j]);
-        sum += v;
-        sums[j] = sums[j] + v;
+    while j <= i {
+        sum += capped(m[at + j]);
         j += 1;
     }
-    sum + capped(m[at + i])
+    sum
 }
 
-// The sums of all rows.
-fn totals(m: &[i64], sums: &mut [u64], n: usize)
-    requires { ⌜ Rows (now m) n × (n ≤ length (now sums)) ⌝ }
-    ensures { λ _. ⌜ Totals (now (m .entry)) n n (now (sums .entry)) (now (sums .exit)) ⌝ }
+// The whole row i, from what it comes to up to its diagonal.
+fn down(m: &[i64], left: u64, i: usize, n: usize) -> u64
+    requires { ⌜ InRow (now m) i n × (left ≡ cappedTo (i + 1) (now m) i) ⌝ }
+    ensures { λ r. ⌜ r ≡ cappedTo n (now (m .entry)) i ⌝ }
 {
-    let mut i = 0;
-    while i < n {
-        let v = spread(m, &mut sums[..], i, n);
-        sums[i] = v;
-        i += 1;
+    let mut sum = left;
+    let mut j = i + 1;
+    let mut at = whole::start(j) + i;
+    while j < n {
+        sum += capped(m[at]);
+        j += 1;
+        at += j;
     }
+    sum
 }
 
-// Whether one of the n sums passes 2^33.
-fn passed(sums: &[u64], n: usize) -> bool
-    requires { ⌜ n ≤ length (now sums) ⌝ }
-    ensures { λ r. ⌜ r ≡ any n (λ i. ltb (2 ^ 33) (getD (now (sums .entry)) i 0)) ⌝ }
+// Whether the magnitudes of row i sum above 2^33.
+fn heavy_row(m: &[i64], i: usize, n: usize) -> bool
+    requires { ⌜ InRow (now m) i n ⌝ }
+    ensures { λ r. ⌜ r ≡ not (leb (rowSize n (now (m .entry)) i) (2 ^ 33)) ⌝ }
+{
+    8_589_934_592 < down(m, left(m, i, n), i, n)
+}
+
+pub fn heavy(m: &[i64], n: usize) -> bool
+    requires { ⌜ Rows (now m) n ⌝ }
+    ensures { λ r. ⌜ r ≡ heavy n (now (m .entry)) ⌝ }
 {
     let mut i = 0;
     while i < n {
-        if 8_589_934_592 < sums[i] {
+        if heavy_row(m, i, n) {
             return true;
         }
         i += 1;
     }
     false
-}
-
-// Whether the magnitudes of a row sum above 2^33. One pass over the triangle.
-pub fn heavy(m: &[i64], n: usize) -> bool
-    requires { ⌜ Rows (now m) n ⌝ }
-    ensures { λ r. ⌜ r ≡ heavy n (now (m .entry)) ⌝ }
-{
-    let mut sums = [0u64; 96];
-    totals(m, &mut sums, n);
-    passed(&sums, n)
 }
 
 // ---- a factor
