@@ -1,4 +1,3 @@
--- What refusal 10 leaves, for callers, and the search for a first.
+-- What refusal 10 leaves, for callers.
 pub mod Told
-pub mod First
 mod Turns

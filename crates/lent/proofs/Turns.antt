@@ -2,7 +2,7 @@
 use mathlib.Core.Path.{_≡_, refl, sym, ap, _∙_}
 use mathlib.Core.Bool.{Bool, true, false, not, _||_}
 use mathlib.Core.List.{List}
-use Prim.Native.Nat.{ℕ, zero, suc, _+_, _*_, _^_, _≤_, _<_, min, max}
+use Prim.Native.Nat.{ℕ, zero, suc, _+_, _*_, _^_, _≤_, _<_, max}
 use native.Mathlib.Nat.{suc-mul}
 use native.Mathlib.Omega.{arith}
 use lib.Dec.{leb, ltb}
@@ -14,7 +14,7 @@ use borrow.Author.Tests.{le-leb, lt-leb, leb-true, leb-false, ltb-true, ltb-fals
 use Rattle.whole.specs.Sums.{sumN, any}
 use Rattle.whole.specs.Packed.{tri, cell, place, entry}
 use Rattle.whole.proofs.Calc.{rd}
-use Rattle.whole.proofs.Sums.{sumN-more, sumN-mono, any-one, any-more}
+use Rattle.whole.proofs.Sums.{sumN-more, sumN-mono, sumN-min, any-one, any-more}
 use Rattle.paper.specs.Ticks.{onScale}
 use Rattle.paper.specs.Factor.{small}
 use Rattle.paper.specs.Lent.{rowSize, heavy, pivot, badRow, noFactor, foreign}
@@ -35,11 +35,6 @@ module _ (m : List ℤ) (i at j : ℕ) (e : at ≡ place i j) (g : SFits w64 (ce
   pub capped-fits : j < 96 → sum + z < 2 ^ 64
   capped-fits h = omega (arith, capped-next, capped-small m i (j + 1))
 
-min-sum : (n : ℕ) (f : ℕ → ℕ) (c : ℕ) → min (sumN n f) c ≤ sumN n (λ k. min (f k) c)
-unfolding sumN
-min-sum zero f c = omega arith
-min-sum (suc n) f c = omega (arith, min-sum n f c)
-
 -- s passes c where r does
 above : (c s r : ℕ) → (c < s → c < r) → (s ≤ c → r ≤ c) → ltb c s ≡ not (leb r c)
 above c s r f g = go (ltb c s) refl
@@ -53,7 +48,7 @@ unfolding rowSize cappedTo
 row-above m i n sum es =
     above (2 ^ 33) sum (sumN n (λ k. natAbs (entry m i k)))
     (λ h. omega (arith, es, sumN-mono n (λ (k : ℕ). capped (entry m i k)) (λ (k : ℕ). natAbs (entry m i k)) (λ k l. omega arith)))
-    (λ h. omega (arith, es, min-sum n (λ (k : ℕ). natAbs (entry m i k)) (suc (2 ^ 33))))
+    (λ h. omega (arith, es, sumN-min n (λ (k : ℕ). natAbs (entry m i k)) (suc (2 ^ 33))))
 
 -- ---- an l, and the largest of them
 

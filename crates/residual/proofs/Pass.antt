@@ -5,12 +5,12 @@ use Prim.Native.Nat.{ℕ, _+_, _-_, _^_, _≤_, _<_}
 use native.Mathlib.Omega.{arith}
 use lib.Dec.{lit<}
 use lib.IntN.{ℤ, pos, natAbs, _+ℤ_, _-ℤ_, _*ℤ_, +ℤ-assoc, +ℤ-idr}
-use lib.ListN.{length, set, drop, length-set, List·getD-append}
-use lib.Seq.{getD-set-same, getD-set-other, getD-append-add, getD-drop}
+use lib.ListN.{length, set, length-set}
+use lib.Seq.{getD-set-same, getD-set-other}
 use borrow.Author.Count.{below-none, below-more}
 use Rattle.whole.specs.Sums.{sum, table}
 use Rattle.whole.specs.Packed.{tri, cell, place}
-use Rattle.whole.proofs.Sums.{sum-more, filled, filled-more, filled-next, filled-length, table-at, table-length, table-ext, table-cells}
+use Rattle.whole.proofs.Sums.{sum-more, filled, filled-more, filled-next, filled-at, filled-past, filled-length, table-ext, table-cells}
 use Rattle.whole.proofs.Packed.{tri-below, place-low, place-high}
 use Rattle.whole.proofs.Calc.{Is, rd, num, is}
 use Rattle.paper.specs.Step.{Board}
@@ -18,17 +18,6 @@ use Rattle.lent.specs.Rows.{Mild}
 use Rattle.residual.specs.Asks.{Fair, heldOr, mixed, InRow, Term}
 use Rattle.residual.proofs.Terms.{part-size, term-asks, term-is}
 use Rattle.residual.proofs.Paper.{lines}
-
--- ---- a list that is filled up to i, below i and from i on
-
-filled-at : (f : ℕ → ℤ) (s : List ℤ) (i k : ℕ) → k < i → cell (filled f s i) k ≡ f k
-filled-at f s i k h = List·getD-append (table i f) (drop i s) (pos 0) k (omega (arith, table-length i f)) ∙ table-at i k f h
-
-filled-past : (f : ℕ → ℤ) (s : List ℤ) (i k : ℕ) → i ≤ k → cell (filled f s i) k ≡ cell s k
-filled-past f s i k h =
-    let e : k ≡ length (table i f) + (k - i) = omega (arith, table-length i f) in
-    let d : i + (k - i) ≡ k = omega arith in
-    ap (cell (filled f s i)) e ∙ getD-append-add (table i f) (drop i s) (k - i) (pos 0) ∙ getD-drop i s (k - i) (pos 0) ∙ ap (cell s) d
 
 -- ---- row i of the triangle, which starts at `at`
 

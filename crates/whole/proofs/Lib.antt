@@ -6,5 +6,6 @@ pub mod Ring
 pub mod Rounding
 pub mod Tests
 pub mod Sums
+pub mod First
 pub mod Packed
 pub mod Lists

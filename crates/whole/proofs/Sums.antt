@@ -3,14 +3,14 @@ use mathlib.Core.Path.{_≡_, refl, sym, ap, _∙_}
 use mathlib.Core.Bool.{Bool, true, false, cond, _||_, true≢false}
 use mathlib.Core.Logic.{⊎-elim}
 use mathlib.Core.List.{List, [], _∷_, _++_, append-assoc, append-nil}
-use Prim.Native.Nat.{ℕ, zero, suc, _+_, _-_, _*_, _≤_, _<_}
+use Prim.Native.Nat.{ℕ, zero, suc, _+_, _-_, _*_, _≤_, _<_, min}
 use native.Mathlib.Nat.{eq-or-lt-of-le, le-of-suc-le-suc, add-zero, add-mul, suc-mul}
 use native.Mathlib.Decide.{ℕ-discrete}
 use native.Mathlib.Numerals.{add-one}
 use native.Mathlib.Omega.{arith}
 use lib.IntN.{ℤ, pos, natAbs, _+ℤ_, _-ℤ_, +ℤ-idl, +ℤ-idr}
 use lib.ListN.{length, set, drop, replicate, length-set, length-append, length-replicate, length-drop, getD-replicate, List·getD-append, drop-of-length-le}
-use lib.Seq.{getD-at, getD-set-same, getD-set-other, set-at, drop-cons, ext-getD}
+use lib.Seq.{getD-drop, getD-append-add, getD-at, getD-set-same, getD-set-other, set-at, drop-cons, ext-getD}
 use Rattle.whole.specs.Sums.{sum, sumN, any, firstFrom, table}
 use Rattle.whole.specs.Packed.{cell}
 use Rattle.whole.proofs.Signs.{natAbs-plus}
@@ -102,6 +102,12 @@ pub sumN-mono : (n : ℕ) (f g : ℕ → ℕ) → ((k : ℕ) → k < n → f k �
 unfolding sumN
 sumN-mono zero f g h = omega arith
 sumN-mono (suc n) f g h = omega (arith, sumN-mono n f g (λ k l. h k (omega arith)), h n (omega arith))
+
+-- of sizes cut off at c
+pub sumN-min : (n : ℕ) (f : ℕ → ℕ) (c : ℕ) → min (sumN n f) c ≤ sumN n (λ k. min (f k) c)
+unfolding sumN
+sumN-min zero f c = omega arith
+sumN-min (suc n) f c = omega (arith, sumN-min n f c)
 
 pub sumN-plus : (n : ℕ) (f g : ℕ → ℕ) → sumN n (λ k. f k + g k) ≡ sumN n f + sumN n g
 unfolding sumN
@@ -318,6 +324,15 @@ filled-more f s i h =
 pub filled-next : (f : ℕ → ℤ) (s : List ℤ) (i : ℕ) → i < length s → cell (filled f s i) i ≡ cell s i
 filled-next f s i h =
     ap (λ (d : List ℤ). cell (table i f ++ d) i) (drop-cons s i (pos 0) h) ∙ getD-at (table i f) (cell s i) (drop (suc i) s) (pos 0) i (table-length i f)
+
+pub filled-at : (f : ℕ → ℤ) (s : List ℤ) (i k : ℕ) → k < i → cell (filled f s i) k ≡ f k
+filled-at f s i k h = List·getD-append (table i f) (drop i s) (pos 0) k (omega (arith, table-length i f)) ∙ table-at i k f h
+
+pub filled-past : (f : ℕ → ℤ) (s : List ℤ) (i k : ℕ) → i ≤ k → cell (filled f s i) k ≡ cell s k
+filled-past f s i k h =
+    let e : k ≡ length (table i f) + (k - i) = omega (arith, table-length i f) in
+    let d : i + (k - i) ≡ k = omega arith in
+    ap (cell (filled f s i)) e ∙ getD-append-add (table i f) (drop i s) (k - i) (pos 0) ∙ getD-drop i s (k - i) (pos 0) ∙ ap (cell s) d
 
 pub filled-length : (f : ℕ → ℤ) (s : List ℤ) (i : ℕ) → i ≤ length s → length (filled f s i) ≡ length s
 filled-length f s i h = omega (arith, length-append (table i f) (drop i s), table-length i f, length-drop i s)

@@ -9,7 +9,7 @@ use mathlib.Core.Bool.{not}
 use Rattle.whole.specs.Packed.{cell}
 use Rattle.paper.specs.Ticks.{onScale}
 use Rattle.paper.specs.Step.{offScale}
-use Rattle.lent.proofs.First.{Looking, look-start, look-here, look-on, look-end}
+use Rattle.whole.proofs.First.{Looking, look-start, look-here, look-on, look-end}
 use Rattle.lent.proofs.Turns.{off-is}
 
 abbrev Inv-loop : tie.InvT-loop

@@ -10,7 +10,7 @@ use borrow.Author.Needs.{needs, sfits-of}
 use borrow.Author.Tests.{not-true, not-false}
 use Rattle.whole.specs.Packed.{cell}
 use Rattle.paper.specs.Step.{rowBound}
-use Rattle.lent.proofs.First.{Looking, look-start, look-here, look-on, look-end}
+use Rattle.whole.proofs.First.{Looking, look-start, look-here, look-on, look-end}
 use Rattle.residual.proofs.Settling.{loose-is}
 
 abbrev Inv-loop : tie.InvT-loop
