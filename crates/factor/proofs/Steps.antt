@@ -15,10 +15,11 @@ use Rattle.whole.proofs.Sums.{sum-ext}
 use Rattle.whole.proofs.Packed.{tri-below}
 use Rattle.paper.specs.Refusals.{Outcome, refused, done, when}
 use Rattle.paper.specs.Factor.{R, small, w, l, rowFrom}
-use Rattle.paper.specs.declared.Answer.the-variants.{Done, Refused}
+use Rattle.paper.specs.declared.Answer.the-variants.{Refused}
 use Rattle.paper.specs.declared.Refusal.{Refusal}
 use Rattle.paper.specs.declared.Refusal.the-variants.{Bound, Pivot}
 use Rattle.factor.specs.Asks.{Entry, Column, Row, RowDone}
+use Rattle.paper.proofs.Outcomes.{done-refused}
 use Rattle.paper.proofs.Finished.{fin-more}
 
 -- ---- w and l read no more than the row's numbers so far
@@ -104,7 +105,4 @@ row-next {xs} {ws} {s} {i} {j} row h u v hu hv = record {
 -- ---- a row that is refused
 
 pub row-refused : {r : Refusal} {o : Outcome (List ℤ)} {i : ℕ} {ys : List ℤ} → refused r ≡ o → RowDone (Refused r) o i ys
-row-refused {r} e = record { rest = e; finished = λ d. absurd (never d); fresh = λ d. absurd (never d) }
-  where
-    never : Refused r ≡ Done → ⊥
-    never d = let z : _≡_ {A = ℕ} 0 1 = cc in omega arith
+row-refused e = record { rest = e; finished = λ d. done-refused d; fresh = λ d. done-refused d }

@@ -28,13 +28,16 @@ cond-done false a r e = done-refused e
 
 -- ---- outcomes
 
+pub refused-done : {X Y : Type 0} {r : Refusal} {x : X} → refused r ≡ done x → Y
+refused-done e = absurd (let z : _≡_ {A = ℕ} 0 1 = cc in omega arith)
+
 pub after-done : {X : Type 0} (a : Answer) (o : Outcome X) (x : X) → after a o ≡ done x → (a ≡ Done) × (o ≡ done x)
 after-done Done o x e = (refl, e)
-after-done (Refused r) o x e = absurd (let z : _≡_ {A = ℕ} 0 1 = cc in omega arith)
+after-done (Refused r) o x e = refused-done e
 
 pub when-done : {X : Type 0} (b : Bool) (r : Refusal) (o : Outcome X) (x : X) → when b r o ≡ done x → (b ≡ true) × (o ≡ done x)
 when-done true r o x e = (refl, e)
-when-done false r o x e = absurd (let z : _≡_ {A = ℕ} 0 1 = cc in omega arith)
+when-done false r o x e = refused-done e
 
 pub done-inj : {X : Type 0} {x y : X} → done x ≡ done y → x ≡ y
 done-inj {x} e = ap (λ o. of x o) e
@@ -78,5 +81,5 @@ then-ends P Q (done x) f h g = g x h
 
 -- a part that ends: what it ends with, and that the rest goes on from it
 pub then-done : {X Y : Type 0} (P : X → Type 0) (o : Outcome X) (f : X → Outcome Y) (y : Y) → Ends P o → then o f ≡ done y → (x : X) × (o ≡ done x) × (f x ≡ done y) × P x
-then-done P (refused r) f y k e = absurd (let z : _≡_ {A = ℕ} 0 1 = cc in omega arith)
+then-done P (refused r) f y k e = refused-done e
 then-done P (done x) f y k e = (x, refl, e, k)

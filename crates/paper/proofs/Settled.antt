@@ -22,7 +22,7 @@ use Rattle.paper.specs.Step.{Board, boardOf, A′, rightSide, residual, 
 use Rattle.paper.specs.Calls.{front, roomy, endsStep, onwards, stepOutcome, stepCall}
 use Rattle.paper.specs.declared.Refusal.the-variants.{Short, Foreign, OffScale, Unsettled}
 use Rattle.paper.specs.declared.Stepped.the-variants.{Settled}
-use Rattle.paper.proofs.Outcomes.{after-done, when-done, done-inj, Ends, ends-all, ends-map, when-ends, then-ends, then-done}
+use Rattle.paper.proofs.Outcomes.{refused-done, after-done, when-done, done-inj, Ends, ends-all, ends-map, when-ends, then-ends, then-done}
 
 abbrev pub Within : Board → List ℤ → Type 0
 Within b t = (i : ℕ) → i < b .n → natAbs (residual b t i) ≤ rowBound (b .a) (b .fixed) (b .n) i
@@ -69,7 +69,7 @@ pub attempts-settle : (b : Board) (l : List ℤ) (k c : ℕ) (t r : List ℤ) (s
 unfolding attempts
 attempts-settle b l zero c t r s e =
     let (u, _, g, h) = then-done (λ u. length u ≡ length t) (correct l (b .n) t r) _ s (correct-long l (b .n) t r) e in
-    at-once b 0 c t u s (unsettled b (residuals b u)) (λ row. refused (Unsettled row)) h refl (λ m q. absurd (let z : _≡_ {A = ℕ} 0 1 = cc in omega arith)) g
+    at-once b 0 c t u s (unsettled b (residuals b u)) (λ row. refused (Unsettled row)) h refl (λ m q. refused-done q) g
 attempts-settle b l (suc k) c t r s e =
     let (u, _, g, h) = then-done (λ u. length u ≡ length t) (correct l (b .n) t r) _ s (correct-long l (b .n) t r) e in
     at-once b (suc k) c t u s (unsettled b (residuals b u)) (λ row. attempts b l k (suc c) u (residuals b u)) h refl
@@ -84,7 +84,7 @@ residual-front b t u i h = ap (λ (z : ℤ). rightSide b i -ℤ z) (sum-ext (b .
 
 on-told : (node : ℕ) (o : Outcome Settling) (s : Settling) → onwards node o ≡ done s → o ≡ done s
 on-told zero o s e = e
-on-told (suc node) o s e = absurd (let z : _≡_ {A = ℕ} 0 1 = cc in omega arith)
+on-told (suc node) o s e = refused-done e
 
 pub record Accepted (b : Board) (c : ℕ) (new : List ℤ) : Type 0 where
   pub within : Within b new

@@ -16,7 +16,7 @@ use Rattle.paper.specs.Refusals.{Outcome, refused, done, when, then}
 use Rattle.paper.specs.Factor.{R, w, l, small, rowFrom, rowsFrom}
 use Rattle.paper.specs.declared.Refusal.{Refusal}
 use Rattle.paper.specs.declared.Refusal.the-variants.{Pivot, Bound}
-use Rattle.paper.proofs.Outcomes.{then-then, then-ext, Ends, when-ends, then-ends, ends-map, ends-done, then-done, done-inj}
+use Rattle.paper.proofs.Outcomes.{then-then, then-ext, Ends, when-ends, then-ends, ends-map, ends-done, then-done, refused-done, done-inj}
 
 -- ---- 1. rows a, then rows b
 abbrev row : ℕ → List ℤ → Outcome (List ℤ)
@@ -130,7 +130,7 @@ rows-front (suc r) m p q h =
 
 -- ---- 4. after a change of the matrix in rows from m on, the finished rows below m are kept and factoring goes on from row m
 behind-done : (P : List ℤ → Type 0) (q : List ℤ) (o : Outcome (List ℤ)) (F : List ℤ) → Ends P o → behind q o ≡ done F → (G : List ℤ) × (o ≡ done G) × (F ≡ G ++ q) × P G
-behind-done P q (refused r) F k e = absurd (let z : _≡_ {A = ℕ} 0 1 = cc in omega arith)
+behind-done P q (refused r) F k e = refused-done e
 behind-done P q (done G) F k e = (G, refl, sym (done-inj e), k)
 
 split0 : (m r : ℕ) (X : List ℤ) → rowsFrom (m + r) 0 X ≡ then (rowsFrom m 0 X) (rowsFrom r m)
