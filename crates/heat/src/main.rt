@@ -1,17 +1,35 @@
 // The stepping program: reads a deck from standard input, builds, starts every node at D's start temperature, does D's steps
 // and prints the temperatures. A refusal prints `R number place` alone.
 use libc::STDIN_FILENO;
+use libc::STDOUT_FILENO;
 use paper::Answer;
 use paper::Ran;
+
+fn number(n: u64) {
+    io::write_all(STDOUT_FILENO, b" ");
+    io::print_decimal(STDOUT_FILENO, n);
+}
+
+fn line(letter: &[u8], a: u64, b: u64) {
+    io::write_all(STDOUT_FILENO, letter);
+    number(a);
+    number(b);
+    io::write_all(STDOUT_FILENO, b"\n");
+}
+
+// A refusal out of a packed answer.
+fn refused(answer: u64) {
+    line(b"R", answer % 256, answer / 65_536);
+}
 
 // Each node's temperature, then Z with the steps done and the lines to go back.
 fn printed(temperatures: &[i64], steps: u32) {
     let mut i = 0;
     while i < temperatures.len() {
-        lines::line(b"T", i as u64 + 1, whole::size(temperatures[i]));
+        line(b"T", i as u64 + 1, whole::size(temperatures[i]));
         i += 1;
     }
-    lines::line(b"Z", steps as u64, temperatures.len() as u64);
+    line(b"Z", steps as u64, temperatures.len() as u64);
 }
 
 // D's start temperature.
@@ -35,7 +53,7 @@ fn size(x: u32) -> usize {
 fn stepped(table: &[u32], p: &[i64], a: &[i64], factor: &[i64], temperatures: &mut [i64]) {
     match step::run(table, p, a, factor, &mut temperatures[..]) {
         Ran::Finished(steps) => printed(&temperatures[..], steps),
-        Ran::Refused(why) => lines::refused(deck::packed_refusal(why)),
+        Ran::Refused(why) => refused(deck::packed_refusal(why)),
     }
 }
 
@@ -47,7 +65,7 @@ fn ran(table: &[u32]) {
     let mut temperatures = [0i64; 96];
     let answer = model::build(table, &mut p, &mut a, &mut factor, &mut work);
     if let Answer::Refused(why) = answer {
-        lines::refused(deck::packed_refusal(why));
+        refused(deck::packed_refusal(why));
         return;
     }
     let n = nodes(table);
@@ -64,7 +82,7 @@ fn main() {
     let n = io::read_full(STDIN_FILENO, &mut bytes);
     let part = deck::read(&bytes[..n], &mut table, &mut answer);
     if answer != 0 {
-        lines::refused(answer);
+        refused(answer);
         return;
     }
     let k = part.len() / 42 * 6;

@@ -1,4 +1,5 @@
-// Reads a deck from standard input and writes it back, without its notes: the same bytes from D to Z. A refusal prints `R number place`.
+// Reads a deck from standard input and writes it back, without its notes: the same bytes from D to Z. What it refuses it does not write.
+use libc::STDERR_FILENO;
 use libc::STDIN_FILENO;
 use libc::STDOUT_FILENO;
 ghost use Prim.Native.Nat.{_*_, _≤_};
@@ -21,7 +22,7 @@ fn main() {
     let n = io::read_full(STDIN_FILENO, &mut bytes);
     let part = deck::read(&bytes[..n], &mut table, &mut answer);
     if answer != 0 {
-        lines::refused(answer);
+        io::write_all(STDERR_FILENO, b"rewrite: not a deck\n");
         return;
     }
     let k = part.len() / 42 * 6;
