@@ -5,7 +5,7 @@ use lib.IntN.{ℤ}
 use Rattle.whole.specs.Packed.{lower}
 use Rattle.paper.specs.Refusals.{Outcome, done, then, andThen, after}
 use Rattle.paper.specs.Cards.{nodes, elements}
-use Rattle.paper.specs.Triangle.{elementJudged}
+use Rattle.paper.specs.Elements.{elementJudged}
 use Rattle.paper.specs.Matrices.{P, A, fixed, cleared}
 use Rattle.paper.specs.Factor.{rowsFrom}
 use Rattle.paper.specs.declared.Answer.{Answer}

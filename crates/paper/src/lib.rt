@@ -45,6 +45,15 @@ pub enum Kind {
     Other,
 }
 
+// What is known of a kind of card: specs/Kinds has a line of it for each.
+pub struct About {
+    pub letter: u32,
+    pub order: u32,
+    pub section: usize,
+    pub keeps: usize,
+    pub keys: u32,
+}
+
 // What Z counts.
 pub struct Counts {
     pub nodes: u32,
@@ -74,6 +83,12 @@ pub enum Refusal {
     OffScale(u32),
     Unsettled(u32),
     Replacement(u32),
+}
+
+// A refusal's number and place.
+pub struct Given {
+    pub number: u32,
+    pub place: u32,
 }
 
 // What read, write, build and replace answer.
