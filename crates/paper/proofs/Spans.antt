@@ -12,11 +12,11 @@ use Rattle.whole.specs.Sums.{sumN}
 use Rattle.whole.proofs.Tests.{and-told}
 use Rattle.whole.proofs.Sums.{sumN-upto}
 use Rattle.paper.specs.Kinds.{about, kindOf}
-use Rattle.paper.specs.Cards.{Column, _⋯_, within, sections, before, columns, field, letter, rows, nodes, materials, elements, materialRow, elementRow, countsOf, countsAt, stepOf}
+use Rattle.paper.specs.Cards.{Column, _⋯_, within, sections, before, columns, field, letter, rows, nodes, materials, elements, materialRow, elementRow, rowAt, countsOf, countsAt, stepOf}
 use Rattle.paper.specs.Ticks.{top}
 use Rattle.paper.specs.Corners.{Shape, shapeOf}
-use Rattle.paper.specs.Elements.{bodyAt, elementAt}
-use Rattle.paper.specs.Parts.{partOf, partAt}
+use Rattle.paper.specs.Elements.{bodyOf, elementOf, elementAt}
+use Rattle.paper.specs.Parts.{namedShape, partOf, partAt}
 use Rattle.paper.specs.declared.Counts.{Counts}
 use Rattle.paper.specs.declared.Kind.{Kind}
 use Rattle.paper.specs.declared.Kind.the-variants.{D, N, M, E, H, F, T, Z, Other}
@@ -253,8 +253,9 @@ module _ (t : List ℕ) (d : Deck t) where
 -- ---- the shape of an element is its body's
 
 pub element-shape : (t : List ℕ) (row : ℕ) → elementAt t row .shape ≡ shapeOf t (cornersAt t row)
-unfolding elementAt bodyAt
-element-shape t row = refl
+unfolding elementOf bodyOf
+element-shape t row =
+    λ i. shapeOf t (row-field t row 1 (omega arith) i ∷ row-field t row 2 (omega arith) i ∷ row-field t row 3 (omega arith) i ∷ [])
 
 pub element-corners : (t : List ℕ) (row : ℕ) → elementAt t row .shape .corners ≡ cornersAt t row
 unfolding shapeOf
@@ -264,14 +265,17 @@ module _ (t : List ℕ) (d : Deck t) where
   named-corners : (e : ℕ) → In 1 (elements t) e → Inside (nodes t) (elementAt t (elementRow t e) .shape .corners)
   named-corners e h = rw (element-corners t (elementRow t e)) (body-corners t d (elementRow t e) (omega (arith, d .all, h .1)) (is-body t d e h))
 
-  corners-by : (row : ℕ) (kind : Kind) → row < rows t → kindIn t row ≡ kind → Inside (nodes t) (partOf t row kind .corners)
+  named-at : (row : ℕ) → In 1 (elements t) (field t row 1) → Inside (nodes t) (namedShape t (rowAt t row) .corners)
+  named-at row h = named-corners (getD (rowAt t row) 1 0) (rw (row-field t row 1 (omega arith)) h)
+
+  corners-by : (row : ℕ) (kind : Kind) → row < rows t → kindIn t row ≡ kind → Inside (nodes t) (partOf t (rowAt t row) kind .corners)
   unfolding partOf shapeOf
   corners-by row D h e = tt
   corners-by row N h e = tt
   corners-by row M h e = tt
   corners-by row E h e = rw (element-corners t row) (body-corners t d row h (flat e))
-  corners-by row H h e = named-corners (field t row 1) (names-H t d row h e)
-  corners-by row F h e = named-corners (field t row 1) (names-F t d row h e)
+  corners-by row H h e = named-at row (names-H t d row h e)
+  corners-by row F h e = named-at row (names-F t d row h e)
   corners-by row T h e = tt
   corners-by row Z h e = tt
   corners-by row Other h e = tt

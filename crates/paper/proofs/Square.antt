@@ -12,10 +12,10 @@ use Rattle.whole.specs.Sums.{sum}
 use Rattle.whole.proofs.Tests.{eqb-swap}
 use Rattle.whole.proofs.Sums.{sum-ext, sum-plus, sum-single, sum-swap, sum-zero}
 use Rattle.paper.specs.Kinds.{kindOf}
-use Rattle.paper.specs.Cards.{rows, letter}
+use Rattle.paper.specs.Cards.{rowAt, rows, letter}
 use Rattle.paper.specs.Corners.{Body, square, mass, spread}
 use Rattle.paper.specs.Triangle.{b, c, pair}
-use Rattle.paper.specs.Elements.{Element, bodyAt, elementAt}
+use Rattle.paper.specs.Elements.{Element, bodyOf, elementOf, elementAt}
 use Rattle.paper.specs.Parts.{Part, nothing, nowhere, bulk, partOf, partAt}
 use Rattle.paper.specs.Matrices.{addsP, addsA, P, A}
 use Rattle.paper.specs.declared.Kind.{Kind}
@@ -69,8 +69,8 @@ unfolding pair
 pair-symmetric e i j = rw (*ℤ-comm (b (e .shape) i) (b (e .shape) j), *ℤ-comm (c (e .shape) i) (c (e .shape) j))
 
 pub element-symmetric : (t : List ℕ) (row i j : ℕ) → elementAt t row .between i j ≡ elementAt t row .between j i
-unfolding elementAt
-element-symmetric t row i j = pair-symmetric (bodyAt t row) i j
+unfolding elementOf
+element-symmetric t row i j = pair-symmetric (bodyOf t (rowAt t row)) i j
 
 -- ---- what a card adds
 
@@ -96,13 +96,13 @@ pub part-sound : (t : List ℕ) (row : ℕ) → Sound (partAt t row)
 unfolding partOf
 part-sound t row = by-kind (kindOf (letter t row))
   where
-    by-kind : (kind : Kind) → Sound (partOf t row kind)
+    by-kind : (kind : Kind) → Sound (partOf t (rowAt t row) kind)
     by-kind D = plain nothing refl
     by-kind N = plain nothing refl
     by-kind M = plain nothing refl
     by-kind E = bulk-sound (elementAt t row) (element-symmetric t row)
-    by-kind H = plain (partOf t row H) refl
-    by-kind F = plain (partOf t row F) refl
+    by-kind H = plain (partOf t (rowAt t row) H) refl
+    by-kind F = plain (partOf t (rowAt t row) F) refl
     by-kind T = plain nothing refl
     by-kind Z = plain nothing refl
     by-kind Other = plain nothing refl

@@ -1,12 +1,12 @@
--- An element as its card in a row gives it, and refusals 5 and 6.
+-- An element as its card gives it, and refusals 5 and 6.
 use mathlib.Core.Bool.{Bool, not, cond, _&&_}
 use mathlib.Core.List.{List, [], _∷_}
 use Prim.Native.Nat.{ℕ}
 use lib.Dec.{leb}
 use lib.IntN.{ℤ, natAbs}
-use lib.ListN.{length}
+use lib.ListN.{length, getD}
 use Rattle.whole.specs.Sums.{any}
-use Rattle.paper.specs.Cards.{field, materialRow, elementRow, stepOf}
+use Rattle.paper.specs.Cards.{rowAt, field, materialRow, elementRow, stepOf}
 use Rattle.paper.specs.Corners.{Shape, Body, shapeOf}
 use Rattle.paper.specs.Triangle.{S, pair, u}
 use Rattle.paper.specs.declared.Answer.{Answer}
@@ -20,21 +20,26 @@ pub record Element : Type 0 where
   pub between : ℕ → ℕ → ℤ
   pub stored : ℕ
 
-unfoldable pub bodyAt : List ℕ → ℕ → Body
-bodyAt t row =
-    let m = materialRow t (field t row 4) in
+-- of a card's six numbers, in a deck that has its nodes and its material
+unfoldable pub bodyOf : List ℕ → List ℕ → Body
+bodyOf t card =
+    let m = materialRow t (getD card 4 0) in
     record {
-      shape = shapeOf t (field t row 1 ∷ field t row 2 ∷ field t row 3 ∷ []);
+      shape = shapeOf t (getD card 1 0 ∷ getD card 2 0 ∷ getD card 3 0 ∷ []);
       kx = field t m 1;
       ky = field t m 2;
       capacity = field t m 3;
-      thickness = field t row 5;
+      thickness = getD card 5 0;
     }
 
-unfoldable pub elementAt : List ℕ → ℕ → Element
-elementAt t row =
-    let e = bodyAt t row in
+unfoldable pub elementOf : List ℕ → List ℕ → Element
+elementOf t card =
+    let e = bodyOf t card in
     record { shape = e .shape; size = S (e .shape); between = pair e; stored = u (stepOf t) e }
+
+-- the card in a row
+abbrev pub elementAt : List ℕ → ℕ → Element
+elementAt t row = elementOf t (rowAt t row)
 
 -- ---- refusals of element number e
 

@@ -1,15 +1,15 @@
--- What the card in a row adds, as one value: matrices, loads and their places all come of it.
+-- What a card adds, as one value: matrices, loads and their places all come of it.
 use mathlib.Core.Bool.{Bool, true, false}
 use mathlib.Core.List.{List, [], _∷_}
 use Prim.Native.Nat.{ℕ, _+_, _-_, _*_, _/_, min}
 use lib.IntN.{ℤ, pos}
 use lib.ListN.{length, getD}
 use Rattle.paper.specs.Ticks.{kelvin}
-use Rattle.paper.specs.Kinds.{kindOf}
-use Rattle.paper.specs.Cards.{field, letter, elementRow}
+use Rattle.paper.specs.Kinds.{kindOf, kindAt}
+use Rattle.paper.specs.Cards.{rowAt, letter, elementRow}
 use Rattle.paper.specs.Corners.{Shape, square}
 use Rattle.paper.specs.Triangle.{faceFilm}
-use Rattle.paper.specs.Elements.{Element, elementAt}
+use Rattle.paper.specs.Elements.{Element, elementOf, elementAt}
 use Rattle.paper.specs.declared.Kind.{Kind}
 use Rattle.paper.specs.declared.Kind.the-variants.{D, N, M, E, H, F, T, Z, Other}
 
@@ -62,25 +62,30 @@ heatShare n heat = pos (kelvin * heat / n)
 -- ---- by kind
 
 -- the row of the element that a card names, and its corners
-abbrev pub namedRow : List ℕ → ℕ → ℕ
-namedRow t row = elementRow t (field t row 1)
+abbrev pub namedRow : List ℕ → List ℕ → ℕ
+namedRow t card = elementRow t (getD card 1 0)
 
-abbrev pub namedShape : List ℕ → ℕ → Shape
-namedShape t row = elementAt t (namedRow t row) .shape
+abbrev pub namedShape : List ℕ → List ℕ → Shape
+namedShape t card = elementAt t (namedRow t card) .shape
 
-unfoldable pub partOf : List ℕ → ℕ → Kind → Part
-partOf t row D = nothing
-partOf t row N = nothing
-partOf t row M = nothing
-partOf t row E = bulk (elementAt t row)
-partOf t row H = let s = namedShape t row in loaded (s .corners) (λ a. heatShare (length (s .corners)) (field t row 2))
-partOf t row F = let s = namedShape t row in filmed (s .corners) (faceFilm (field t row 2) s) (field t row 3)
-partOf t row T = nothing
-partOf t row Z = nothing
-partOf t row Other = nothing
+-- of a card's six numbers, in a deck that has what they name
+unfoldable pub partOf : List ℕ → List ℕ → Kind → Part
+partOf t card D = nothing
+partOf t card N = nothing
+partOf t card M = nothing
+partOf t card E = bulk (elementOf t card)
+partOf t card H = let s = namedShape t card in loaded (s .corners) (λ a. heatShare (length (s .corners)) (getD card 2 0))
+partOf t card F = let s = namedShape t card in filmed (s .corners) (faceFilm (getD card 2 0) s) (getD card 3 0)
+partOf t card T = nothing
+partOf t card Z = nothing
+partOf t card Other = nothing
 
+abbrev pub partFor : List ℕ → List ℕ → Part
+partFor t card = partOf t card (kindAt card)
+
+-- the card in a row
 abbrev pub partAt : List ℕ → ℕ → Part
-partAt t row = partOf t row (kindOf (letter t row))
+partAt t row = partOf t (rowAt t row) (kindOf (letter t row))
 
 -- the least corner, as a row from 0
 unfoldable pub least : List ℕ → ℕ → ℕ
