@@ -11,3 +11,6 @@ pub mod Joined
 pub mod Spans
 pub mod Sizes
 pub mod Places
+pub mod Fields
+pub mod CardText
+pub mod Judging
