@@ -1,9 +1,11 @@
 -- A card's letter and its kind tell each other, and what the table of kinds says of those that are replaced.
 use mathlib.Core.Path.{_≡_, refl, sym, ap, _∙_}
 use mathlib.Core.Bool.{Bool, true, false, cond}
+use mathlib.Core.List.{List, [], _∷_}
 use Prim.Native.Nat.{ℕ, _≤_, _<_}
 use native.Mathlib.Omega.{arith}
 use lib.Dec.{eqb}
+use lib.ListN.{getD}
 use borrow.Author.Tests.{eqb-true}
 use Rattle.paper.specs.Kinds.{about, letterOf, kindOf}
 use Rattle.paper.specs.declared.Kind.{Kind}
@@ -126,3 +128,24 @@ material-kind F e = absurd (omega arith)
 material-kind T e = absurd (omega arith)
 material-kind Z e = absurd (omega arith)
 material-kind Other e = absurd (omega arith)
+
+-- ---- a kind by its order
+
+abbrev inOrder : List Kind
+inOrder = D ∷ N ∷ M ∷ E ∷ H ∷ F ∷ T ∷ Z ∷ Other ∷ []
+
+by-order : (k : Kind) → getD inOrder (about k .order) Other ≡ k
+unfolding about
+by-order D = refl
+by-order N = refl
+by-order M = refl
+by-order E = refl
+by-order H = refl
+by-order F = refl
+by-order T = refl
+by-order Z = refl
+by-order Other = refl
+
+-- THEOREM. No two kinds have the same order.
+pub same-order : (k k′ : Kind) → about k .order ≡ about k′ .order → k ≡ k′
+same-order k k′ e = sym (by-order k) ∙ ap (λ (o : ℕ). getD inOrder o Other) e ∙ by-order k′

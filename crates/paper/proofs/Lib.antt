@@ -14,3 +14,4 @@ pub mod Places
 pub mod Fields
 pub mod CardText
 pub mod Judging
+pub mod Judged
