@@ -1,5 +1,5 @@
 -- What each public call answers and leaves, of any bytes, any table and any lent slices. Whatever is not named is only read.
-use mathlib.Core.Bool.{Bool, true, not, cond, _&&_, _||_}
+use mathlib.Core.Bool.{Bool, true, cond, _&&_, _||_}
 use mathlib.Core.List.{List, [], _++_}
 use Prim.Native.Nat.{ℕ, zero, suc, _+_, _-_, _*_}
 use lib.Dec.{ltb, leb, eqb}
@@ -10,15 +10,15 @@ use Rattle.paper.specs.Cards.{cards, countsOf, countsAt, rowAt, rows, no
 use Rattle.paper.specs.Text.{cardOf, textOf}
 use Rattle.paper.specs.Judge.{judgeFrom, judged, trailer, newJudged}
 use Rattle.paper.specs.Building.{Slices, build}
-use Rattle.whole.specs.Packed.{tri}
+use Rattle.whole.specs.Packed.{matrix}
 use Rattle.paper.specs.Replacing.{stirs, replaced}
-use Rattle.paper.specs.Lent.{foreign}
+use Rattle.paper.specs.Lent.{roomy, enough, opened, lentJudged}
 use Rattle.paper.specs.Step.{Settling, boardOf, stepped, offScale}
 use Rattle.paper.specs.declared.Counts.{Counts}
 use Rattle.paper.specs.declared.Answer.{Answer}
 use Rattle.paper.specs.declared.Answer.the-variants.{Done, Refused}
 use Rattle.paper.specs.declared.Refusal.{Refusal}
-use Rattle.paper.specs.declared.Refusal.the-variants.{Length, Trailer, Short, Foreign, OffScale}
+use Rattle.paper.specs.declared.Refusal.the-variants.{Length, Trailer, Short, OffScale}
 use Rattle.paper.specs.declared.Stepped.{Stepped}
 use Rattle.paper.specs.declared.Stepped.the-variants as stepAnswer
 
@@ -126,23 +126,12 @@ leftStep answer z = record { answer = answer; lent = z }
 abbrev pub over : {X : Type 0} → List X → List X → List X
 over made xs = made ++ drop (length made) xs
 
--- the matrix length; whether a slice has it, and what of it that covers
+-- the matrix length
 abbrev pub long : List ℕ → ℕ
-long t = tri (nodes t)
-
-abbrev pub roomy : List ℕ → List ℤ → Bool
-roomy t xs = leb (long t) (length xs)
-
-unfoldable pub opened : Lent → Slices
-opened z =
-    let cut : List ℤ → List ℤ = take (long (z .table)) in
-    record { p = cut (z .slices .p); a = cut (z .slices .a); factor = cut (z .slices .factor) }
+long t = matrix (nodes t)
 
 unfoldable pub closed : Slices → Lent → Slices
 closed s z = record { p = over (s .p) (z .slices .p); a = over (s .a) (z .slices .a); factor = over (s .factor) (z .slices .factor) }
-
-unfoldable pub enough : Lent → Bool
-enough z = let t = z .table in roomy t (z .slices .p) && roomy t (z .slices .a) && roomy t (z .slices .factor)
 
 -- the work slice is zeroed on 0, 7 and 8
 abbrev pub worked : Bool → Lent → List ℤ
@@ -177,18 +166,18 @@ buildCall z =
     let t = z .table in
     leaves t true z
     (after (judged t)
-    (when (enough z && roomy t (z .work)) Short
+    (when (enough (nodes t) (z .slices) && roomy (nodes t) (z .work)) Short
     (build t)))
 
 unfoldable pub replaceCall : Lent → ℕ → List ℕ → Exit
 replaceCall z card new =
     let t = z .table in
+    let n = nodes t in
     leaves (put t (card - 1) new) (stirs t (card - 1)) z
     (after (judged t)
     (after (newJudged t card new)
-    (when (enough z && roomy t (z .work)) Short
-    (when (not (foreign (nodes t) (opened z))) Foreign
-    (replaced t (opened z) (card - 1) new)))))
+    (after (lentJudged n (z .slices) (roomy n (z .work)))
+    (replaced t (opened n (z .slices)) (card - 1) new))))
 
 abbrev pub endsStep : Lent → Outcome Settling → StepExit
 endsStep z (done s) = record {
@@ -206,10 +195,9 @@ unfoldable pub stepCall : Lent → StepExit
 stepCall z =
     let t = z .table in
     let n = nodes t in
-    let s = opened z in
+    let s = opened n (z .slices) in
     endsStep z
     (after (judged t)
-    (when (enough z && leb n (length (z .temperatures))) Short
-    (when (not (foreign n s)) Foreign
+    (after (lentJudged n (z .slices) (leb n (length (z .temperatures))))
     (unlessAt (offScale n (z .temperatures)) OffScale
-    (stepped (boardOf t (s .p) (s .a) (take n (z .temperatures))) (s .factor))))))
+    (stepped (boardOf t (s .p) (s .a) (take n (z .temperatures))) (s .factor)))))
