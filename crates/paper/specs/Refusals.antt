@@ -15,7 +15,7 @@ use Rattle.paper.specs.declared.Ran.the-variants as runAnswer
 abbrev pub given : ℕ → ℕ → Given
 given number place = record { number = number; place = place }
 
-unfoldable pub givenBy : Refusal → Given
+abbrev pub givenBy : Refusal → Given
 givenBy Length = given 1 0
 givenBy Trailer = given 2 0
 givenBy (Form card) = given 3 card
