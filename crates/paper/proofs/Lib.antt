@@ -15,3 +15,5 @@ pub mod Fields
 pub mod CardText
 pub mod Judging
 pub mod Judged
+pub mod Kept
+pub mod NewCard
