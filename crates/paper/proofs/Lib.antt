@@ -17,3 +17,8 @@ pub mod Judging
 pub mod Judged
 pub mod Kept
 pub mod NewCard
+pub mod InTurn
+pub mod Elements
+pub mod Weights
+pub mod Built
+pub mod Lent

@@ -15,7 +15,7 @@ use Rattle.paper.specs.Kinds.{kindOf}
 use Rattle.paper.specs.Cards.{rowAt, rows, letter}
 use Rattle.paper.specs.Corners.{Body, square, mass, spread}
 use Rattle.paper.specs.Triangle.{b, c, pair}
-use Rattle.paper.specs.Elements.{Element, bodyOf, elementOf, elementAt}
+use Rattle.paper.specs.Elements.{Element, bodyOf, elementOf}
 use Rattle.paper.specs.Parts.{Part, nothing, nowhere, bulk, partOf, partAt}
 use Rattle.paper.specs.Matrices.{addsP, addsA, P, A}
 use Rattle.paper.specs.declared.Kind.{Kind}
@@ -68,9 +68,9 @@ pub pair-symmetric : (e : Body) (i j : ℕ) → pair e i j ≡ pair e j i
 unfolding pair
 pair-symmetric e i j = rw (*ℤ-comm (b (e .shape) i) (b (e .shape) j), *ℤ-comm (c (e .shape) i) (c (e .shape) j))
 
-pub element-symmetric : (t : List ℕ) (row i j : ℕ) → elementAt t row .between i j ≡ elementAt t row .between j i
+pub between-symmetric : (t card : List ℕ) (i j : ℕ) → elementOf t card .between i j ≡ elementOf t card .between j i
 unfolding elementOf
-element-symmetric t row i j = pair-symmetric (bodyOf t (rowAt t row)) i j
+between-symmetric t card i j = pair-symmetric (bodyOf t card) i j
 
 -- ---- what a card adds
 
@@ -91,21 +91,21 @@ plain x e = record {
   balanced = λ a l. ap (λ (q : ℕ → ℕ → ℤ). sum (length (x .corners)) (λ b. q a b)) e ∙ sum-zero (length (x .corners));
 }
 
--- THEOREM. The card in any row of any table.
-pub part-sound : (t : List ℕ) (row : ℕ) → Sound (partAt t row)
+-- THEOREM. Any card, in any table.
+pub card-sound : (t card : List ℕ) (kind : Kind) → Sound (partOf t card kind)
 unfolding partOf
-part-sound t row = by-kind (kindOf (letter t row))
-  where
-    by-kind : (kind : Kind) → Sound (partOf t (rowAt t row) kind)
-    by-kind D = plain nothing refl
-    by-kind N = plain nothing refl
-    by-kind M = plain nothing refl
-    by-kind E = bulk-sound (elementAt t row) (element-symmetric t row)
-    by-kind H = plain (partOf t (rowAt t row) H) refl
-    by-kind F = plain (partOf t (rowAt t row) F) refl
-    by-kind T = plain nothing refl
-    by-kind Z = plain nothing refl
-    by-kind Other = plain nothing refl
+card-sound t card D = plain nothing refl
+card-sound t card N = plain nothing refl
+card-sound t card M = plain nothing refl
+card-sound t card E = bulk-sound (elementOf t card) (between-symmetric t card)
+card-sound t card H = plain (partOf t card H) refl
+card-sound t card F = plain (partOf t card F) refl
+card-sound t card T = plain nothing refl
+card-sound t card Z = plain nothing refl
+card-sound t card Other = plain nothing refl
+
+pub part-sound : (t : List ℕ) (row : ℕ) → Sound (partAt t row)
+part-sound t row = card-sound t (rowAt t row) (kindOf (letter t row))
 
 -- THEOREM. P and A of any table are symmetric.
 pub P-symmetric : (t : List ℕ) (i j : ℕ) → P t i j ≡ P t j i
