@@ -22,3 +22,6 @@ pub mod Elements
 pub mod Weights
 pub mod Built
 pub mod Lent
+pub mod Reading
+pub mod Printing
+pub mod RoundTrip
