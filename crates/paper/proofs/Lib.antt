@@ -25,3 +25,5 @@ pub mod Lent
 pub mod Reading
 pub mod Printing
 pub mod RoundTrip
+pub mod Changed
+pub mod Least
