@@ -27,3 +27,4 @@ pub mod Printing
 pub mod RoundTrip
 pub mod Changed
 pub mod Least
+pub mod Assembled

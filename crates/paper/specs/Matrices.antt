@@ -26,6 +26,13 @@ P t i j = sum (rows t) (λ row. addsP (partAt t row) i j)
 unfoldable pub A : List ℕ → ℕ → ℕ → ℤ
 A t i j = sum (rows t) (λ row. addsA (partAt t row) i j)
 
+-- the conductances alone, and the films alone
+abbrev pub K : List ℕ → ℕ → ℕ → ℤ
+K t i j = sum (rows t) (λ row. spread (partAt t row .corners) (partAt t row .conductance) i j)
+
+abbrev pub Film : List ℕ → ℕ → ℕ → ℤ
+Film t i j = sum (rows t) (λ row. spread (partAt t row .corners) (mass (partAt t row .film)) i j)
+
 -- the loads of node i
 unfoldable pub loadOf : List ℕ → ℕ → ℤ
 loadOf t i = sum (rows t) (λ row. addsLoad (partAt t row) i)
