@@ -28,3 +28,7 @@ pub mod RoundTrip
 pub mod Changed
 pub mod Least
 pub mod Assembled
+pub mod Refused
+pub mod Checked
+pub mod Edges
+pub mod Orders
