@@ -32,3 +32,5 @@ pub mod Refused
 pub mod Checked
 pub mod Edges
 pub mod Orders
+pub mod Replaced
+pub mod Demand3

@@ -23,13 +23,17 @@ formOf t row = elementJudged t (nameAt (countsAt t) (rowAt t) row)
 unfoldable pub moved : ℕ → List ℤ → (ℕ → ℕ → ℤ) → (ℕ → ℕ → ℤ) → List ℤ
 moved n xs new old = lower n (λ i j. entry xs i j +ℤ (new i j -ℤ old i j))
 
--- the new form, its places of P and A, the factor from the least corner's row
+-- the least corner's row: the factor is redone from it
+abbrev pub firstRow : List ℕ → ℕ → List ℕ → ℕ
+firstRow t row card = leastRow (partAt (put t row card) row)
+
+-- the new form, its places of P and A, the factor from the first row on
 unfoldable pub redone : List ℕ → Slices → ℕ → List ℕ → Outcome Slices
 redone t s row card =
     let new = put t row card in
     let n = nodes t in
     let x = partAt new row in
-    let m = leastRow x in
+    let m = firstRow t row card in
     let p′ = moved n (s .p) (addsP x) (addsP (partAt t row)) in
     let a′ = moved n (s .a) (addsA x) (addsA (partAt t row)) in
     after (formOf new row)
