@@ -34,3 +34,4 @@ pub mod Edges
 pub mod Orders
 pub mod Replaced
 pub mod Demand3
+pub mod Settled

@@ -13,7 +13,7 @@ use Rattle.paper.specs.Building.{Slices, build}
 use Rattle.whole.specs.Packed.{matrix}
 use Rattle.paper.specs.Replacing.{stirs, replaced}
 use Rattle.paper.specs.Lent.{roomy, enough, opened, lentJudged}
-use Rattle.paper.specs.Step.{Settling, boardOf, stepped, offScale}
+use Rattle.paper.specs.Step.{Board, Settling, boardOf, stepped, offScale}
 use Rattle.paper.specs.declared.Counts.{Counts}
 use Rattle.paper.specs.declared.Answer.{Answer}
 use Rattle.paper.specs.declared.Answer.the-variants.{Done, Refused}
@@ -191,13 +191,18 @@ endsStep z (done s) = record {
 }
 endsStep z (refused r) = record { answer = stepAnswer.Refused r; lent = z }
 
+-- what a step of lent slices works from
+abbrev pub boardAt : Lent → Board
+boardAt z =
+    let n = nodes (z .table) in
+    let s = opened n (z .slices) in
+    boardOf (z .table) (s .p) (s .a) (take n (z .temperatures))
+
 unfoldable pub stepCall : Lent → StepExit
 stepCall z =
-    let t = z .table in
-    let n = nodes t in
-    let s = opened n (z .slices) in
+    let n = nodes (z .table) in
     endsStep z
-    (after (judged t)
+    (after (judged (z .table))
     (after (lentJudged n (z .slices) (leb n (length (z .temperatures))))
     (unlessAt (offScale n (z .temperatures)) OffScale
-    (stepped (boardOf t (s .p) (s .a) (take n (z .temperatures))) (s .factor)))))
+    (stepped (boardAt z) (opened n (z .slices) .factor)))))
