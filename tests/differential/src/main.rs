@@ -10,6 +10,7 @@ mod decks;
 mod archive;
 mod case;
 mod face;
+mod figures;
 mod plan;
 mod show;
 mod shrink;
@@ -30,6 +31,8 @@ fn main() -> ExitCode {
             return ExitCode::from(2);
         }
     };
+    figures::all();
+    println!("P1 to P12 out of the archive: as the paper has them");
     println!("seed {seed}");
     let mut trial = trial::Trial::new(seed, MOST);
     for (name, part) in plan::PARTS {
@@ -44,6 +47,10 @@ fn main() -> ExitCode {
     if !trial.report() {
         return ExitCode::FAILURE;
     }
-    println!("{} cases, and every number agrees", trial.cases());
+    println!(
+        "{} cases, and every number agrees; {} decks after replacements, each as a fresh build",
+        trial.cases(),
+        trial.fresh()
+    );
     ExitCode::SUCCESS
 }

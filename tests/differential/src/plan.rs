@@ -367,7 +367,11 @@ fn replacements(trial: &mut Trial) {
             if trial.chance.one_in(8) {
                 trial.call(&mut lent, Call::Step);
             }
+            if trial.chance.one_in(10) {
+                trial.as_built(&lent);
+            }
         }
+        trial.as_built(&lent);
     }
 }
 
