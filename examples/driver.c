@@ -81,9 +81,14 @@ static uint64_t panel_case(struct panel *panel, int open)
 
 static int refused(const char *what, uint64_t answer)
 {
-	if (GORMULAST_NUMBER(answer))
-		printf("%s refused: %u, place %u\n", what, GORMULAST_NUMBER(answer), GORMULAST_PLACE(answer));
-	return GORMULAST_NUMBER(answer) != 0;
+	unsigned number = GORMULAST_NUMBER(answer);
+
+	if (!number)
+		return 0;
+	printf("%s refused: ", what);
+	printf(gormulast_words(number), GORMULAST_PLACE(answer));
+	printf("\n");
+	return 1;
 }
 
 /* In hundredths of a degree, rounded. */
