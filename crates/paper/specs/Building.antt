@@ -17,6 +17,9 @@ pub record Slices : Type 0 where
   pub a : List ℤ
   pub factor : List ℤ
 
+abbrev pub slices : List ℤ → List ℤ → List ℤ → Slices
+slices p a factor = record { p = p; a = a; factor = factor }
+
 -- refusals 5 and 6: n elements in turn from number e
 unfoldable pub elementsFrom : ℕ → ℕ → List ℕ → Answer
 elementsFrom zero e t = Done
