@@ -140,6 +140,10 @@ worked b z = cond b (over (replicate (long (z .table)) (pos 0)) (z .work)) (z .w
 abbrev pub inFactor : Refusal → Bool
 inFactor r = eqb (numberOf r) 7 || eqb (numberOf r) 8
 
+-- after a refusal: as it was lent, but for the work slice
+abbrev pub asLent : Bool → Refusal → Lent → Lent
+asLent works r z = record { table = z .table; slices = z .slices; work = worked (works && inFactor r) z; temperatures = z .temperatures }
+
 -- works: whether the call has use for the work slice; new: the table on acceptance
 unfoldable pub leaves : List ℕ → Bool → Lent → Outcome Slices → Exit
 leaves new works z (done s) = record {
@@ -151,15 +155,7 @@ leaves new works z (done s) = record {
     temperatures = z .temperatures;
   };
 }
-leaves new works z (refused r) = record {
-  answer = Refused r;
-  lent = record {
-    table = z .table;
-    slices = z .slices;
-    work = worked (works && inFactor r) z;
-    temperatures = z .temperatures;
-  };
-}
+leaves new works z (refused r) = record { answer = Refused r; lent = asLent works r z }
 
 unfoldable pub buildCall : Lent → Exit
 buildCall z =
