@@ -1,5 +1,6 @@
 -- P1 to P12 of document 01, of the definitions: one theorem over one list.
 use mathlib.Core.Path.{_≡_, refl}
+use mathlib.Core.Bool.{true}
 use mathlib.Core.List.{List, [], _∷_, _++_, map}
 use Prim.Native.Nat.{ℕ, _+_, _*_}
 use lib.IntN.{ℤ, pos, negsuc}
@@ -25,6 +26,7 @@ use Rattle.paper.specs.Calls.{closed, leaves, buildCall, replaceCall, st
 use Rattle.paper.specs.declared.Answer.{Answer}
 use Rattle.paper.specs.declared.Answer.the-variants.{Done, Refused}
 use Rattle.paper.specs.declared.Kind.the-variants.{D, N, M, E, H, Z}
+use Rattle.paper.proofs.Cases.{same, eqZ, figures-told}
 
 -- a deck of one element over nodes 1, 2, 3, k the same both ways: step, three nodes, k, capacity, the E card, the loads
 abbrev pub deck : ℕ → List ℕ → ℕ → ℕ → List ℕ → List ℕ → ℕ → List ℕ
@@ -90,7 +92,7 @@ case n g w = record { name = n; got = g; want = w }
 abbrev numbers : List ℕ → List ℤ
 numbers ns = map pos ns
 
-abbrev pub cases : List Case
+unfoldable pub cases : List Case
 cases =
     let e = elementAt base 5 in
     case 1 (pos (e .size) ∷ lower 3 (partAt base 5 .conductance)) (pos 10000 ∷ pos 1000 ∷ negsuc 499 ∷ pos 500 ∷ negsuc 499 ∷ pos 0 ∷ pos 500 ∷ [])
@@ -109,6 +111,9 @@ cases =
     ∷ case 12 (seen (replaceCall (built base .lent) 6 (element 1 2 3 2000)) a) (numbers (12000 ∷ 4000 ∷ 11000 ∷ 4000 ∷ 5000 ∷ 11000 ∷ 77 ∷ []))
     ∷ []
 
+run : same (same eqZ) (map (λ (k : Case). k .got) cases) (map (λ (k : Case). k .want) cases) ≡ true
+unfolding cases same eqZ nearestN nearest sum sumN any firstFrom table tri place lower toldStep packed about kindOf before columns used zeros inRange agree field nodes materials elements put stands clean rises nameAt formed ranged judgeCard judgeFrom trailer judgeRows judged answers newJudged square mass spread share shapeOf area b c S pair u faceFilm bodyOf elementOf fair formJudged elementJudged heatShare partOf least addsP addsA addsLoad P A loadOf fixed held cleared w l rowFrom rowsFrom elementsFrom build moved redone replaced rowSize heavy badRow noFactor foreign enough opened lentJudged boardOf rightSide residual residuals rowBound yAt forwardFrom xAt backFrom warmed addFrom correct unsettled attempts stepped offScale closed leaves buildCall replaceCall stepCall
+run = refl
+
 pub all-checked : map (λ (k : Case). k .got) cases ≡ map (λ (k : Case). k .want) cases
-unfolding nearestN nearest sum sumN any firstFrom table tri place lower toldStep packed about kindOf before columns used zeros inRange agree field nodes materials elements put stands clean rises nameAt formed ranged judgeCard judgeFrom trailer judgeRows judged answers newJudged square mass spread share shapeOf area b c S pair u faceFilm bodyOf elementOf fair formJudged elementJudged heatShare partOf least addsP addsA addsLoad P A loadOf fixed held cleared w l rowFrom rowsFrom elementsFrom build moved redone replaced rowSize heavy badRow noFactor foreign enough opened lentJudged boardOf rightSide residual residuals rowBound yAt forwardFrom xAt backFrom warmed addFrom correct unsettled attempts stepped offScale closed leaves buildCall replaceCall stepCall
-all-checked = refl
+all-checked = figures-told (map (λ (k : Case). k .got) cases) (map (λ (k : Case). k .want) cases) run

@@ -3,6 +3,7 @@ use mathlib.Core.Path.{_≡_, refl}
 use mathlib.Core.Bool.{Bool, true, false}
 use mathlib.Core.List.{List, [], _∷_, _++_, map}
 use Prim.Native.Nat.{ℕ, _+_, _^_}
+use lib.Dec.{eqb}
 use lib.IntN.{pos, natAbs}
 use Rattle.whole.specs.Nearest.{nearestN, nearest}
 use Rattle.whole.specs.Sums.{sum, sumN, any, firstFrom, table}
@@ -16,6 +17,7 @@ use Rattle.paper.specs.Lent.{rowSize, heavy, badRow, noFactor}
 use Rattle.paper.specs.Refusals.{Outcome, refused, done, numberOf}
 use Rattle.paper.specs.declared.Answer.{Answer}
 use Rattle.paper.specs.declared.Answer.the-variants.{Done, Refused}
+use Rattle.paper.proofs.Cases.{same, numbers-told}
 use Rattle.paper.proofs.Checked.{deck, node, element, right}
 
 -- a refusal's number, 0 for none
@@ -62,7 +64,7 @@ storedIn t = elementAt t 5 .stored
 abbrev betweenIn : List ℕ → ℕ
 betweenIn t = natAbs (elementAt t 5 .between 1 0)
 
-abbrev pub edges : List Edge
+unfoldable pub edges : List Edge
 edges =
     edge (ends (rowsFrom 1 0 (pos 16 ∷ []))) (ends (rowsFrom 1 0 (pos 15 ∷ []))) 7
     ∷ edge (ends (rowsFrom 1 0 (pos (2 ^ 38) ∷ []))) (ends (rowsFrom 1 0 (pos (2 ^ 38 + 1) ∷ []))) 8
@@ -77,9 +79,12 @@ edges =
     ∷ edge (foreign (noFactor 2 (pos 16 ∷ pos (2 ^ 24) ∷ pos 16 ∷ []))) (foreign (noFactor 2 (pos 16 ∷ pos (2 ^ 24 + 1) ∷ pos 16 ∷ []))) 10
     ∷ []
 
+run : same (same eqb) (map (λ (e : Edge). e .passes ∷ e .fails ∷ []) edges) (map (λ (e : Edge). 0 ∷ e .number ∷ []) edges) ≡ true
+unfolding edges same nearestN nearest sum sumN any firstFrom table tri place lower field nodes materials elements square mass spread share shapeOf area b c S pair u bodyOf elementOf fair formJudged elementJudged w l rowFrom rowsFrom rowSize heavy badRow noFactor
+run = refl
+
 pub at-the-edges : map (λ (e : Edge). e .passes ∷ e .fails ∷ []) edges ≡ map (λ (e : Edge). 0 ∷ e .number ∷ []) edges
-unfolding nearestN nearest sum sumN any firstFrom table tri place lower field nodes materials elements square mass spread share shapeOf area b c S pair u bodyOf elementOf fair formJudged elementJudged w l rowFrom rowsFrom rowSize heavy badRow noFactor
-at-the-edges = refl
+at-the-edges = numbers-told (map (λ (e : Edge). e .passes ∷ e .fails ∷ []) edges) (map (λ (e : Edge). 0 ∷ e .number ∷ []) edges) run
 
 -- the decks above that limit 6 tells apart have just these values
 pub limit-6 : map storedIn (full 3200 ∷ full 3198 ∷ []) ++ map betweenIn (tight 100000 40 ∷ tight 97561 41 ∷ []) ≡ 4000000 ∷ 4000001 ∷ 4000000 ∷ 4000001 ∷ []

@@ -29,6 +29,7 @@ pub mod Changed
 pub mod Least
 pub mod Assembled
 pub mod Refused
+pub mod Cases
 pub mod Checked
 pub mod Edges
 pub mod Orders

@@ -1,7 +1,9 @@
 -- The paper's order of refusals, at inputs that two of them fit: the first is given, with its place. One theorem over one list.
 use mathlib.Core.Path.{_≡_, refl}
+use mathlib.Core.Bool.{true}
 use mathlib.Core.List.{List, [], _∷_, _++_, map}
 use Prim.Native.Nat.{ℕ, _-_, _*_, _^_}
+use lib.Dec.{eqb}
 use lib.IntN.{ℤ, pos, negsuc}
 use lib.ListN.{replicate}
 use Rattle.whole.specs.Nearest.{nearestN, nearest}
@@ -25,6 +27,7 @@ use Rattle.paper.specs.Calls.{closed, leaves, buildCall, replaceCall, st
 use Rattle.paper.specs.declared.Answer.{Answer}
 use Rattle.paper.specs.declared.Stepped.{Stepped}
 use Rattle.paper.specs.declared.Kind.the-variants.{D, N, M, H, Z}
+use Rattle.paper.proofs.Cases.{same, numbers-told}
 use Rattle.paper.proofs.Checked.{node, element, right, base, heated}
 
 -- number and place, 0 and 0 for none
@@ -80,7 +83,7 @@ pub record Both : Type 0 where
 abbrev both : List ℕ → ℕ → ℕ → Both
 both got number place = record { got = got; want = number ∷ place ∷ [] }
 
-abbrev pub cases : List Both
+unfoldable pub cases : List Both
 cases =
     -- a card: 3, 4; the deck before 9
     both (says (judged (wide 7))) 3 2
@@ -106,6 +109,9 @@ cases =
     ∷ both (steps base 6 16 (pos 0 ∷ pos 33554433 ∷ pos 33554433 ∷ [])) 11 2
     ∷ []
 
+run : same (same eqb) (map (λ (x : Both). x .got) cases) (map (λ (x : Both). x .want) cases) ≡ true
+unfolding cases same nearestN nearest sum sumN any firstFrom table tri place lower told toldStep about kindOf before columns used zeros inRange agree field nodes materials elements put stands clean rises nameAt formed ranged judgeCard judgeFrom trailer judgeRows judged answers newJudged square mass spread share shapeOf area b c S pair u faceFilm bodyOf elementOf fair formJudged elementJudged partOf least addsP addsA P A fixed cleared w l rowFrom rowsFrom elementsFrom build moved redone replaced rowSize heavy badRow noFactor foreign enough opened lentJudged offScale closed leaves buildCall replaceCall stepCall
+run = refl
+
 pub in-order : map (λ (x : Both). x .got) cases ≡ map (λ (x : Both). x .want) cases
-unfolding nearestN nearest sum sumN any firstFrom table tri place lower told toldStep about kindOf before columns used zeros inRange agree field nodes materials elements put stands clean rises nameAt formed ranged judgeCard judgeFrom trailer judgeRows judged answers newJudged square mass spread share shapeOf area b c S pair u faceFilm bodyOf elementOf fair formJudged elementJudged partOf least addsP addsA P A fixed cleared w l rowFrom rowsFrom elementsFrom build moved redone replaced rowSize heavy badRow noFactor foreign enough opened lentJudged offScale closed leaves buildCall replaceCall stepCall
-in-order = refl
+in-order = numbers-told (map (λ (x : Both). x .got) cases) (map (λ (x : Both). x .want) cases) run
