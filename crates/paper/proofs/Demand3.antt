@@ -4,11 +4,11 @@ use mathlib.Core.Bool.{Bool, true, false}
 use mathlib.Core.List.{List, _++_}
 use Prim.Native.Nat.{ℕ, _-_, _≤_}
 use native.Mathlib.Omega.{arith}
-use lib.ListN.{length, take, drop}
+use lib.ListN.{length, take, drop, length-append, length-drop}
 use lib.Seq.{take-at, length-take-le}
 use Rattle.whole.specs.Packed.{tri, lower, entry}
 use Rattle.whole.proofs.Tests.{cond-true, cond-false}
-use Rattle.whole.proofs.Packed.{tri-le}
+use Rattle.whole.proofs.Packed.{tri-le, length-lower}
 use Rattle.paper.specs.Refusals.{done}
 use Rattle.paper.specs.Cards.{nodes, put}
 use Rattle.paper.specs.Parts.{partAt}
@@ -19,7 +19,7 @@ use Rattle.paper.specs.Replacing.{formOf, moved, firstRow, redone, stirs
 use Rattle.paper.proofs.Outcomes.{after-done, then-done, done-inj}
 use Rattle.paper.proofs.Decks.{Deck, Change}
 use Rattle.paper.proofs.Update.{Kept, rows-keep}
-use Rattle.paper.proofs.Built.{own, sized}
+use Rattle.paper.proofs.Built.{own, Sized, sized}
 use Rattle.paper.proofs.Replaced.{from-fits, redone-is, kept-is}
 
 module _ (t : List ℕ) (c : ℕ) (card : List ℕ) (s : Slices) where
@@ -56,3 +56,21 @@ module _ (t : List ℕ) (c : ℕ) (card : List ℕ) (s : Slices) where
   own-rows-stay d g s′ b st e =
       rows-above-stay s′ (omega (arith, sized t s (own t s b) .longF, tri-le (firstRow t c card) (nodes t) (from-fits t c card d g)))
       (sym (cond-true (stirs t c) (redone t s c card) (done s) st) ∙ e)
+
+  -- THEOREM. What is redone has the matrix length, whatever the slices.
+  pub redone-sized : (s′ : Slices) → firstRow t c card ≤ nodes t → tri (firstRow t c card) ≤ length (s .factor) → redone t s c card ≡ done s′ → Sized (tri (nodes t)) s′
+  unfolding redone moved
+  redone-sized s′ l h e =
+      let m = firstRow t c card in
+      let n = nodes t in
+      let B = lower n (cleared (fixed (put t c card)) (entry (moved n (s .a) (addsA (partAt (put t c card) c)) (addsA (partAt t c))))) in
+      let X = take (tri m) (s .factor) ++ drop (tri m) B in
+      let long : length X ≡ tri n = omega (arith, length-append (take (tri m) (s .factor)) (drop (tri m) B), length-take-le (tri m) (s .factor) h, length-drop (tri m) B, length-lower n (cleared (fixed (put t c card)) (entry (moved n (s .a) (addsA (partAt (put t c card) c)) (addsA (partAt t c))))), tri-le m n l) in
+      let (eJ, e₁) = after-done (formOf (put t c card) c) _ s′ e in
+      let (f, eR, e₂, k) = then-done (Kept (tri m) X) (rowsFrom (n - m) m X) _ s′ (rows-keep (tri m) (n - m) m X (omega arith)) e₁ in
+      let is = done-inj e₂ in
+      record {
+        longP = ap (λ (z : Slices). length (z .p)) (sym is) ∙ length-lower n _;
+        longA = ap (λ (z : Slices). length (z .a)) (sym is) ∙ length-lower n _;
+        longF = ap (λ (z : Slices). length (z .factor)) (sym is) ∙ k .long ∙ long;
+      }

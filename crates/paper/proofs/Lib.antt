@@ -36,3 +36,5 @@ pub mod Orders
 pub mod Replaced
 pub mod Demand3
 pub mod Settled
+pub mod Calls
+pub mod Left
