@@ -38,3 +38,4 @@ pub mod Demand3
 pub mod Settled
 pub mod Calls
 pub mod Left
+pub mod Running

@@ -1,10 +1,13 @@
 -- The run: D's steps.
-use Prim.Native.Nat.{ℕ, zero, suc}
-use Rattle.paper.specs.Cards.{stepsOf}
+use mathlib.Core.Path.{_≡_}
+use Prim.Native.Nat.{ℕ, zero, suc, _≤_}
+use lib.ListN.{drop}
+use Rattle.paper.specs.Cards.{nodes, stepsOf}
 use Rattle.paper.specs.Judge.{judged}
 use Rattle.paper.specs.Calls.{Lent, Exit, StepExit, stepCall}
 use Rattle.paper.specs.declared.Answer.{Answer}
 use Rattle.paper.specs.declared.Answer.the-variants.{Done, Refused}
+use Rattle.paper.specs.declared.Refusal.{Refusal}
 use Rattle.paper.specs.declared.Stepped.{Stepped}
 use Rattle.paper.specs.declared.Stepped.the-variants as stepAnswer
 use Rattle.paper.specs.declared.Ran.{Ran}
@@ -48,3 +51,19 @@ runCall z = ends (onward (record { answer = judged (z .table); lent = z }) (runF
 
     ends : Exit → RunExit
     ends x = record { answer = said (x .answer); lent = x .lent }
+
+-- ---- what a step and a run leave
+
+-- all is as it was but the nodes' temperatures
+pub record Untouched (z z′ : Lent) : Type 0 where
+  pub table : z′ .table ≡ z .table
+  pub slices : z′ .slices ≡ z .slices
+  pub work : z′ .work ≡ z .work
+  pub beyond : drop (nodes (z .table)) (z′ .temperatures) ≡ drop (nodes (z .table)) (z .temperatures)
+
+-- a run that a refusal ended: what is left is that of the accepted steps, and the next one is refused
+pub record Stopped (most : ℕ) (z : Lent) (r : Refusal) (rest : Lent) : Type 0 where
+  pub steps : ℕ
+  pub few : steps ≤ most
+  pub accepted : runFrom steps z ≡ record { answer = Done; lent = rest }
+  pub next : stepCall rest .answer ≡ stepAnswer.Refused r
