@@ -6,7 +6,7 @@ use Prim.Native.Nat.{ℕ, _-_, _≤_}
 use native.Mathlib.Omega.{arith}
 use lib.IntN.{ℤ, pos}
 use lib.ListN.{length, take, drop, replicate, length-replicate, take-append-drop}
-use lib.Seq.{drop-at, take-append-le, length-take-le}
+use lib.Seq.{take-at, drop-at, take-append-le, length-take-le}
 use Rattle.whole.specs.Packed.{tri, matrix}
 use Rattle.whole.proofs.Tests.{cond-true}
 use Rattle.whole.proofs.Packed.{tri-le}
@@ -67,6 +67,10 @@ drop-over n front xs e = drop-at front (drop (length front) xs) n e ∙ ap (λ (
 worked-beyond : (b : Bool) (z : Lent) → drop (long (z .table)) (worked b z) ≡ drop (long (z .table)) (z .work)
 worked-beyond true z = drop-over (long (z .table)) (replicate (long (z .table)) (pos 0)) (z .work) (length-replicate (long (z .table)) (pos 0))
 worked-beyond false z = refl
+
+-- THEOREM. What is zeroed of the work slice is its matrix length.
+pub work-zeroed : (z : Lent) → take (long (z .table)) (worked true z) ≡ replicate (long (z .table)) (pos 0)
+work-zeroed z = take-at (replicate (long (z .table)) (pos 0)) (drop (length (replicate (long (z .table)) (pos 0))) (z .work)) (long (z .table)) (length-replicate (long (z .table)) (pos 0))
 
 leaves-beyond : (new : List ℕ) (b : Bool) (z : Lent) (o : Outcome Slices) → Ends (Sized (long (z .table))) o → Beyond z (leaves new b z o .lent)
 unfolding leaves closed
