@@ -28,8 +28,8 @@ use Rattle.paper.specs.Refusals.{when}
 use Rattle.paper.specs.Factor.{R, small}
 use Rattle.paper.specs.Step.{yAt, xAt, forwardFrom, backFrom}
 use Rattle.paper.specs.declared.Refusal.the-variants.{Bound}
-use Rattle.lent.specs.Rows.{Sound}
-use Rattle.lent.proofs.Told.{sound-above}
+use Rattle.lent.specs.Rows.{Factored}
+use Rattle.lent.proofs.Told.{factored-above}
 use Rattle.correction.specs.Asks.{Forth, Back, Left, leftTerm, downTerm, Forwarded, Backed}
 
 -- ---- one turn of a sum
@@ -59,7 +59,7 @@ module _ {l ys : List ℤ} {at n : ℕ} (q : Left l at ys n) where
       let v = turned (leftTerm l at ys) (2 ^ 56) n k (lit< tt) h left-terms s z es (term-is (cell l (at + k)) (cell ys k) z (q .low k h) (q .each k h) ez) in
       record { eq = v .eq; size = omega (arith, v .size, q .few) }
 
-pub left-of : {l ys : List ℤ} {i n : ℕ} (at : ℕ) → at ≡ tri i → i < n → Sound l n → Forth ys i n → Left l at ys i
+pub left-of : {l ys : List ℤ} {i n : ℕ} (at : ℕ) → at ≡ tri i → i < n → Factored l n → Forth ys i n → Left l at ys i
 left-of {l} {ys} {i} {n} at e h q y =
     subst (λ (k : ℕ). Left l k ys i) (sym e)
     (record {
@@ -70,7 +70,7 @@ left-of {l} {ys} {i} {n} at e h q y =
       each = y .below;
     })
 
-module _ {l ys : List ℤ} {i n : ℕ} (at : ℕ) (e : at ≡ tri i) (h : i < n) (q : Sound l n) (y : Forth ys i n) (s : ℤ) (es : s ≡ sum i (leftTerm l at ys)) where
+module _ {l ys : List ℤ} {i n : ℕ} (at : ℕ) (e : at ≡ tri i) (h : i < n) (q : Factored l n) (y : Forth ys i n) (s : ℤ) (es : s ≡ sum i (leftTerm l at ys)) where
   left-is : Is (rd s) (sum i (leftTerm l (tri i) ys)) (95 * 2 ^ 56)
   left-is =
       let b : natAbs (sum i (leftTerm l at ys)) ≤ 95 * 2 ^ 56 = omega (arith, sum-size-each i (leftTerm l at ys) (2 ^ 56) (left-terms (left-of at e h q y)), q .rows .few) in
@@ -163,7 +163,7 @@ quotient-size y d h k =
     rw (nearest-size (pos 256 *ℤ y) (natAbs d))
     (omega (arith, nearestN-le (natAbs (pos 256 *ℤ y)) (natAbs d) (above-zero k), natAbs-times (pos 256) y))
 
-module _ {l xs : List ℤ} {i n : ℕ} (h : i < n) (q : Sound l n) (y : Back xs (i + 1) n) where
+module _ {l xs : List ℤ} {i n : ℕ} (h : i < n) (q : Factored l n) (y : Back xs (i + 1) n) where
   down-terms : (m : ℕ) → m < n - suc i → natAbs (downTerm l i xs m) ≤ 2 ^ 42
   down-terms m k =
       scaled-size (cell l (tri (suc i + m) + i)) (cell xs (suc i + m)) (q .low (suc i + m) i (omega arith) (omega arith))
@@ -199,7 +199,7 @@ module _ {l xs : List ℤ} {i n : ℕ} (h : i < n) (q : Sound l n) (y : Back xs 
     own-ok = y .below i (omega arith)
 
     diag-ok : pos 0 <ℤ cell l (at + i)
-    diag-ok = subst (λ (p : ℕ). pos 0 <ℤ cell l (p + i)) (sym ea) (sound-above q i h)
+    diag-ok = subst (λ (p : ℕ). pos 0 <ℤ cell l (p + i)) (sym ea) (factored-above q i h)
 
     pub x-z-asks : SFits w64 (cell l (at + i)) → (natAbs (rd (cell xs i)) ≤ 2 ^ 52) × (pos 0 <ℤ rd (cell l (at + i)))
     x-z-asks f = (size-of (num (cell xs i) own-ok (lit< tt)), subst (λ (z : ℤ). pos 0 <ℤ z) (sym (toZ-ofZ f)) diag-ok)
@@ -209,7 +209,7 @@ module _ {l xs : List ℤ} {i n : ℕ} (h : i < n) (q : Sound l n) (y : Back xs 
       first-is =
           let x : rd (cell xs i) ≡ cell xs i = num (cell xs i) own-ok (lit< tt) .eq in
           let d : rd (cell l (at + i)) ≡ cell l (tri i + i) = toZ-ofZ fd ∙ ap (λ (p : ℕ). cell l (p + i)) ea in
-          again (is (er ∙ (λ w. nearest (pos 256 *ℤ x w) (natAbs (d w)))) (quotient-size (cell xs i) (cell l (tri i + i)) own-ok (sound-above q i h))) (lit< tt)
+          again (is (er ∙ (λ w. nearest (pos 256 *ℤ x w) (natAbs (d w)))) (quotient-size (cell xs i) (cell l (tri i + i)) own-ok (factored-above q i h))) (lit< tt)
 
       below-is : Is (rd s) (sum (n - suc i) (downTerm l i xs)) (95 * 2 ^ 42)
       below-is = again (is es (omega (arith, sum-size-each (n - suc i) (downTerm l i xs) (2 ^ 42) down-terms, q .rows .few))) (lit< tt)

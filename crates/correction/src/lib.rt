@@ -9,7 +9,7 @@ ghost use lib.Signed.{_<ℤ_};
 ghost use Rattle.whole.specs.Nearest.{nearest};
 ghost use Rattle.whole.specs.Sums.{sum};
 ghost use Rattle.paper.specs.Step.{yAt, xAt};
-ghost use Rattle.lent.specs.Rows.{Sound, Mild};
+ghost use Rattle.lent.specs.Rows.{Factored, Mild};
 ghost use Rattle.correction.specs.Asks.{Forth, Back, Left, leftTerm, downTerm, Forwarded, Backed, Added, Corrected};
 
 // ---- forward
@@ -29,7 +29,7 @@ fn left(l: &[i64], at: usize, y: &[i64], n: usize) -> i64
 }
 
 fn y_at(l: &[i64], y: &[i64], i: usize, n: usize) -> i64
-    requires { ⌜ (i < n) × Sound (now l) n × Forth (now y) i n ⌝ }
+    requires { ⌜ (i < n) × Factored (now l) n × Forth (now y) i n ⌝ }
     ensures { λ r. ⌜ r ≡ yAt (now (l .entry)) i (now (y .entry)) ⌝ }
 {
     whole::minus(y[i], left(l, whole::start(i), y, i))
@@ -37,7 +37,7 @@ fn y_at(l: &[i64], y: &[i64], i: usize, n: usize) -> i64
 
 // y in place of r. The row whose y passes 2^52, from 1, or 0.
 fn forward(l: &[i64], y: &mut [i64], n: usize) -> u32
-    requires { ⌜ Sound (now l) n × Forth (now y) 0 n ⌝ }
+    requires { ⌜ Factored (now l) n × Forth (now y) 0 n ⌝ }
     ensures { λ row. ⌜ Forwarded row (now (l .entry)) n (now (y .entry)) (now (y .exit)) ⌝ }
 {
     let mut i = 0;
@@ -56,7 +56,7 @@ fn forward(l: &[i64], y: &mut [i64], n: usize) -> u32
 
 // The sum over k from i + 1 to n of R(l(k, i)·x(k)).
 fn down(l: &[i64], x: &[i64], i: usize, n: usize) -> i64
-    requires { ⌜ (i < n) × Sound (now l) n × Back (now x) (i + 1) n ⌝ }
+    requires { ⌜ (i < n) × Factored (now l) n × Back (now x) (i + 1) n ⌝ }
     ensures { λ r. ⌜ r ≡ sum (n - suc i) (downTerm (now (l .entry)) i (now (x .entry))) ⌝ }
 {
     let mut sum: i64 = 0;
@@ -79,7 +79,7 @@ fn z_of(y: i64, d: i64) -> i64
 }
 
 fn x_at(l: &[i64], x: &[i64], i: usize, n: usize) -> i64
-    requires { ⌜ (i < n) × Sound (now l) n × Back (now x) (i + 1) n ⌝ }
+    requires { ⌜ (i < n) × Factored (now l) n × Back (now x) (i + 1) n ⌝ }
     ensures { λ r. ⌜ r ≡ xAt (now (l .entry)) n i (now (x .entry)) ⌝ }
 {
     let d = l[whole::start(i) + i];
@@ -88,7 +88,7 @@ fn x_at(l: &[i64], x: &[i64], i: usize, n: usize) -> i64
 
 // x in place of y, from the last row. The row whose x passes 2^36, from 1, or 0.
 fn back(l: &[i64], x: &mut [i64], n: usize) -> u32
-    requires { ⌜ Sound (now l) n × Back (now x) n n ⌝ }
+    requires { ⌜ Factored (now l) n × Back (now x) n n ⌝ }
     ensures { λ row. ⌜ Backed row (now (l .entry)) n (now (x .entry)) (now (x .exit)) ⌝ }
 {
     let mut i = n;
@@ -131,7 +131,7 @@ fn add(t: &mut [i64], x: &[i64], n: usize) -> u32
 
 // One correction of t, whose residuals are r. What t holds after a refusal, and r after any answer, is scratch.
 pub fn correct(l: &[i64], t: &mut [i64], r: &mut [i64], n: usize) -> Answer
-    requires { ⌜ Sound (now l) n × Mild (now t) n × Forth (now r) 0 n ⌝ }
+    requires { ⌜ Factored (now l) n × Mild (now t) n × Forth (now r) 0 n ⌝ }
     ensures { λ v. ⌜ Corrected v (now (l .entry)) n (now (t .entry)) (now (r .entry)) (now (t .exit)) ⌝ }
 {
     let i = forward(l, &mut r[..], n);
