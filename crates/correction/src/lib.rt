@@ -105,15 +105,15 @@ fn back(l: &[i64], x: &mut [i64], n: usize) -> u32
 
 // ---- the adding
 
-fn warmed(t: i64, x: i64) -> i64
+fn warmed(t: i32, x: i64) -> i64
     requires { ⌜ (natAbs t ≤ 2 ^ 25) × (natAbs x ≤ 2 ^ 36) ⌝ }
     ensures { λ r. ⌜ r ≡ t +ℤ nearest x 256 ⌝ }
 {
-    whole::plus(t, whole::nearest(x, 256))
+    whole::plus(t as i64, whole::nearest(x, 256))
 }
 
 // The lowest node that leaves the scale, from 1, or 0.
-fn add(t: &mut [i64], x: &[i64], n: usize) -> u32
+fn add(t: &mut [i32], x: &[i64], n: usize) -> u32
     requires { ⌜ (n ≤ 96) × Mild (now t) n × Back (now x) 0 n ⌝ }
     ensures { λ node. ⌜ Added node (now (x .entry)) n (now (t .entry)) (now (t .exit)) ⌝ }
 {
@@ -123,14 +123,15 @@ fn add(t: &mut [i64], x: &[i64], n: usize) -> u32
         if !Ticks::on_scale(v) {
             return (i + 1) as u32;
         }
-        t[i] = v;
+        let w = v as i32;
+        t[i] = w;
         i += 1;
     }
     0
 }
 
 // One correction of t, whose residuals are r. What t holds after a refusal, and r after any answer, is scratch.
-pub fn correct(l: &[i64], t: &mut [i64], r: &mut [i64], n: usize) -> Answer
+pub fn correct(l: &[i64], t: &mut [i32], r: &mut [i64], n: usize) -> Answer
     requires { ⌜ Factored (now l) n × Mild (now t) n × Forth (now r) 0 n ⌝ }
     ensures { λ v. ⌜ Corrected v (now (l .entry)) n (now (t .entry)) (now (r .entry)) (now (t .exit)) ⌝ }
 {
