@@ -1,8 +1,8 @@
 -- What each call leaves, of any deck and any slices: after a refusal, past the matrix length, above the least corner.
 use mathlib.Core.Path.{_≡_, refl, sym, ap, subst, _∙_}
 use mathlib.Core.Bool.{Bool, true, false, _&&_}
-use mathlib.Core.List.{List, _++_}
-use Prim.Native.Nat.{ℕ, _-_, _≤_}
+use mathlib.Core.List.{List, [], _++_}
+use Prim.Native.Nat.{ℕ, _+_, _*_, _-_, _≤_}
 use native.Mathlib.Omega.{arith}
 use lib.IntN.{ℤ, pos}
 use lib.ListN.{length, take, drop, replicate, length-replicate, take-append-drop}
@@ -11,19 +11,24 @@ use Rattle.whole.specs.Packed.{tri, matrix}
 use Rattle.whole.proofs.Tests.{cond-true}
 use Rattle.whole.proofs.Packed.{tri-le}
 use Rattle.paper.specs.Refusals.{Outcome, refused, done, when, after, answerOf}
-use Rattle.paper.specs.Cards.{nodes, put}
+use Rattle.paper.specs.Cards.{cards, countsOf, rowAt, rows, nodes, put}
 use Rattle.paper.specs.Judge.{judged, newJudged}
 use Rattle.paper.specs.Building.{Slices, build}
 use Rattle.paper.specs.Lent.{roomy, opened, lentJudged}
 use Rattle.paper.specs.Replacing.{stirs, firstRow, redone, replaced}
 use Rattle.paper.specs.Step.{Settling}
+use Rattle.paper.specs.Calls.{whenDone, joined, textAt, writes, written, writeCall, lastCard, startOf, cardAt, reads, readTable, readCall}
 use Rattle.paper.specs.Calls.{Lent, Exit, StepExit, over, long, closed, worked, inFactor, asLent, leaves, endsStep, buildCall, replaceCall, stepCall}
 use Rattle.paper.specs.Replacements.{ready, on, present, Beyond}
+use Rattle.paper.specs.declared.Answer.{Answer}
 use Rattle.paper.specs.declared.Answer.the-variants.{Done, Refused}
 use Rattle.paper.specs.declared.Refusal.{Refusal}
 use Rattle.paper.specs.declared.Refusal.the-variants.{Short}
 use Rattle.paper.specs.declared.Stepped.the-variants as stepAnswer
 use Rattle.paper.proofs.Outcomes.{done-refused, done-inj, after-done, when-done, Ends}
+use Rattle.paper.proofs.Joined.{joined-length}
+use Rattle.paper.proofs.CardText.{length-card, length-textOf}
+use Rattle.paper.proofs.Reading.{table-kept, part-none}
 use Rattle.paper.proofs.Judged.{deck}
 use Rattle.paper.proofs.NewCard.{change}
 use Rattle.paper.proofs.Built.{own, Sized, sized}
@@ -221,3 +226,33 @@ step-beyond z = go (stepOutcome z) refl
     go : (o : Outcome Settling) → stepOutcome z ≡ o → Beyond z (endsStep z o .lent)
     go (refused r) e = record { p = refl; a = refl; factor = refl; work = refl; temperatures = refl }
     go (done s) e = record { p = refl; a = refl; factor = refl; work = refl; temperatures = drop-over (nodes (z .table)) (s .temperatures) (z .temperatures) (made-long z s (settled.made z s e)) }
+
+-- ---- reading and writing
+
+-- THEOREMS. A refused writer leaves every byte, a refused reader every number of the table and an empty part.
+pub write-refused : (t b : List ℕ) (r : Refusal) → writeCall t b .answer ≡ Refused r → writeCall t b .bytes ≡ b
+unfolding written
+write-refused t b r e = rw e
+
+pub read-refused : (b t : List ℕ) (r : Refusal) → readCall b t .answer ≡ Refused r → readCall b t ≡ record { answer = Refused r; part = []; table = t }
+read-refused b t r e = λ i. record { answer = e i; part = sym (part-none b (length t) r e) i; table = sym (table-kept b t r e) i }
+
+-- THEOREMS. Past the deck's cards nothing is written, accepted or refused.
+pub write-beyond : (t b : List ℕ) → drop (rows t * 42) (writeCall t b .bytes) ≡ drop (rows t * 42) b
+unfolding written
+write-beyond t b = go (writes t (length b))
+  where
+    go : (a : Answer) → drop (rows t * 42) (whenDone a (joined (textAt t) (rows t) 0 ++ drop (rows t * 42) b) b) ≡ drop (rows t * 42) b
+    go Done = drop-at (joined (textAt t) (rows t) 0) (drop (rows t * 42) b) (rows t * 42) (joined-length 42 (textAt t) (λ i. length-textOf (rowAt t i)) (rows t) 0)
+    go (Refused r) = refl
+
+pub read-beyond : (b t : List ℕ) → let room = (cards (countsOf (lastCard b)) + 1) * 6 in drop room (readCall b t .table) ≡ drop room t
+unfolding readTable
+read-beyond b t = go (reads b (length t))
+  where
+    n : ℕ
+    n = cards (countsOf (lastCard b)) + 1
+
+    go : (a : Answer) → drop (n * 6) (whenDone a (joined (cardAt b (startOf b (lastCard b))) n 0 ++ drop (n * 6) t) t) ≡ drop (n * 6) t
+    go Done = drop-at (joined (cardAt b (startOf b (lastCard b))) n 0) (drop (n * 6) t) (n * 6) (joined-length 6 (cardAt b (startOf b (lastCard b))) (λ i. length-card (take 42 (drop (startOf b (lastCard b) + i * 42) b))) n 0)
+    go (Refused r) = refl

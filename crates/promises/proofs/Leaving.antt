@@ -1,13 +1,13 @@
--- What each call leaves, accepted or refused, of any deck and any slices. Decks has reading and writing.
+-- What each call leaves, accepted or refused, of any bytes, any table and any slices.
 use mathlib.Core.Path.{_≡_}
 use mathlib.Core.Bool.{true}
-use mathlib.Core.List.{List}
-use Prim.Native.Nat.{ℕ, _-_}
+use mathlib.Core.List.{List, []}
+use Prim.Native.Nat.{ℕ, _+_, _*_, _-_}
 use lib.IntN.{pos}
 use lib.ListN.{length, take, drop, replicate}
-use Rattle.paper.specs.Cards.{stepsOf}
+use Rattle.paper.specs.Cards.{cards, countsOf, rows, stepsOf}
 use Rattle.paper.specs.Replacing.{stirs}
-use Rattle.paper.specs.Calls.{Lent, long, worked, asLent, buildCall, replaceCall, stepCall}
+use Rattle.paper.specs.Calls.{lastCard, readCall, writeCall, Lent, long, worked, asLent, buildCall, replaceCall, stepCall}
 use Rattle.paper.specs.Replacements.{Beyond}
 use Rattle.paper.specs.Running.{runCall, Untouched, Stopped}
 use Rattle.paper.specs.declared.Answer.the-variants.{Refused}
@@ -18,6 +18,13 @@ use Rattle.paper.proofs.Left as leaves
 use Rattle.paper.proofs.Running as runs
 
 -- ---- after a refusal
+
+-- a reader leaves the table and gives an empty part, a writer leaves every byte
+pub read-refused : (bytes table : List ℕ) (r : Refusal) → readCall bytes table .answer ≡ Refused r → readCall bytes table ≡ record { answer = Refused r; part = []; table = table }
+read-refused = leaves.read-refused
+
+pub write-refused : (table bytes : List ℕ) (r : Refusal) → writeCall table bytes .answer ≡ Refused r → writeCall table bytes .bytes ≡ bytes
+write-refused = leaves.write-refused
 
 -- a build and a replacement leave all as it was lent, the work slice too unless a factor was begun: 7 and 8
 pub build-refused : (z : Lent) (r : Refusal) → buildCall z .answer ≡ Refused r → buildCall z .lent ≡ asLent true r z
@@ -40,6 +47,13 @@ pub run-refused : (z : Lent) (r : Refusal) → runCall z .answer ≡ runAnswer.R
 run-refused = runs.run-stopped
 
 -- ---- accepted or refused
+
+-- no number past the deck's cards is written, no byte past their text
+pub read-beyond : (bytes table : List ℕ) → let room = (cards (countsOf (lastCard bytes)) + 1) * 6 in drop room (readCall bytes table .table) ≡ drop room table
+read-beyond = leaves.read-beyond
+
+pub write-beyond : (table bytes : List ℕ) → drop (rows table * 42) (writeCall table bytes .bytes) ≡ drop (rows table * 42) bytes
+write-beyond = leaves.write-beyond
 
 -- no number past the matrix length is written, no temperature past the nodes'
 pub build-beyond : (z : Lent) → Beyond z (buildCall z .lent)

@@ -4,6 +4,7 @@ use mathlib.Core.Bool.{false}
 use mathlib.Core.List.{List}
 use Prim.Native.Nat.{ℕ, _<_}
 use lib.IntN.{ℤ, pos, _+ℤ_}
+use lib.ListN.{length, getD}
 use Rattle.whole.specs.Sums.{sum}
 use Rattle.paper.specs.Refusals.{done}
 use Rattle.paper.specs.Cards.{rows, nodes}
@@ -17,7 +18,6 @@ use Rattle.paper.specs.declared.Answer.the-variants.{Done}
 use Rattle.paper.proofs.Square.{square-symmetric, square-rows, P-symmetric, A-symmetric}
 use Rattle.paper.proofs.Assembled.{three-kinds, K-symmetric, conducted}
 use Rattle.paper.proofs.Judged.{deck}
-use Rattle.paper.proofs.Sizes.{Distinct}
 use Rattle.paper.proofs.Elements.{part-distinct}
 use Rattle.paper.proofs.Built.{own}
 use Rattle.paper.proofs.Lent.{own-pass}
@@ -57,5 +57,6 @@ pub own-slices-pass : (t : List ℕ) (s : Slices) → judged t ≡ Done → buil
 own-slices-pass t s ok b = own-pass t s (deck t ok) (own t s b)
 
 -- and no card of it has two corners at one node
-pub corners-apart : (t : List ℕ) (s : Slices) (row : ℕ) → judged t ≡ Done → build t ≡ done s → row < rows t → Distinct (partAt t row .corners)
+pub corners-apart : (t : List ℕ) (s : Slices) (row : ℕ) → judged t ≡ Done → build t ≡ done s → row < rows t
+    → let ns = partAt t row .corners in (a b : ℕ) → a < length ns → b < length ns → getD ns a 0 ≡ getD ns b 0 → a ≡ b
 corners-apart t s row ok b = part-distinct t (deck t ok) (own t s b .passed) row
