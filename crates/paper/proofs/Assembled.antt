@@ -1,5 +1,5 @@
 -- The matrices of a whole deck: A the sum of its three kinds, and the conductances' rows sum to zero, whatever the corners of each card.
-use mathlib.Core.Path.{_≡_, refl, ap, _∙_}
+use mathlib.Core.Path.{_≡_, refl, sym, ap, _∙_}
 use mathlib.Core.Bool.{Bool, true, false, cond, _&&_, _||_, or-comm}
 use mathlib.Core.List.{List}
 use Prim.Native.Nat.{ℕ, suc, _-_, _^_, _<_}
@@ -21,16 +21,12 @@ use Rattle.paper.proofs.Square.{spread-symmetric, part-sound}
 use Rattle.paper.proofs.Decks.{In}
 use Rattle.paper.proofs.Spans.{inside-each, part-corners}
 use Rattle.paper.proofs.Judged.{deck}
+use Rattle.paper.proofs.Places.{first}
+use Rattle.paper.proofs.Places as places
 
 pub spread-plus : (ns : List ℕ) (q q′ : ℕ → ℕ → ℤ) (i j : ℕ) → spread ns (λ a b. q a b +ℤ q′ a b) i j ≡ spread ns q i j +ℤ spread ns q′ i j
-unfolding spread
-spread-plus ns q q′ i j =
-    let n = length ns in
-    sum-ext n _ _ (λ a l. sum-ext n _ _ (λ b k. each (eqb (getD ns a 0) (suc i) && eqb (getD ns b 0) (suc j)) (q a b) (q′ a b)) ∙ sum-plus n _ _) ∙ sum-plus n _ _
-  where
-    each : (t : Bool) (x y : ℤ) → cond t (x +ℤ y) (pos 0) ≡ cond t x (pos 0) +ℤ cond t y (pos 0)
-    each true x y = refl
-    each false x y = refl
+unfolding spread first
+spread-plus ns q q′ i j = sym (places.spread-plus (length ns) ns q q′ i j)
 
 -- THEOREM. A is conductance, capacity and film, entry by entry.
 pub three-kinds : (t : List ℕ) (i j : ℕ) → A t i j ≡ K t i j +ℤ P t i j +ℤ Film t i j
