@@ -10,6 +10,7 @@ mod decks;
 mod archive;
 mod case;
 mod face;
+mod limits;
 mod plan;
 mod show;
 mod shrink;
@@ -32,7 +33,7 @@ fn main() -> ExitCode {
     };
     println!("seed {seed}");
     let mut trial = trial::Trial::new(seed, MOST);
-    for (name, part) in plan::PARTS {
+    for (name, part) in plan::LENT.into_iter().chain(plan::DAMAGED) {
         let (cases, seconds) = (trial.cases(), trial.seconds());
         part(&mut trial);
         println!(
