@@ -5,6 +5,7 @@
  *
  * The buffers of a case lie side by side, so a number written outside of one is seen in the next.
  */
+#include <linux/fs.h>
 #include <linux/miscdevice.h>
 #include <linux/module.h>
 #include <linux/uaccess.h>
@@ -13,7 +14,7 @@
 
 #define ROOM (8 << 20)
 
-enum { READ, WRITE, BUILD, REPLACE, STEP };
+enum { CALL_READ, CALL_WRITE, CALL_BUILD, CALL_REPLACE, CALL_STEP };
 enum { P, A, FACTOR, WORK, TEMPERATURES, TABLE, BYTES, BUFFERS };
 
 /* Then the buffers in their order, the last one filled up to a multiple of 8 bytes. */
@@ -36,16 +37,16 @@ static uint64_t answer_of(struct lent *lent, void **at)
 	const uint32_t *n = lent->lengths, *new = lent->new;
 
 	switch (lent->call) {
-	case READ:
+	case CALL_READ:
 		return gormulast_read(at[BYTES], n[BYTES], at[TABLE], n[TABLE], &lent->start, &lent->end);
-	case WRITE:
+	case CALL_WRITE:
 		return gormulast_write(at[TABLE], n[TABLE], at[BYTES], n[BYTES]);
-	case BUILD:
+	case CALL_BUILD:
 		return gormulast_build(at[TABLE], n[TABLE], at[P], n[P], at[A], n[A], at[FACTOR], n[FACTOR], at[WORK], n[WORK]);
-	case REPLACE:
+	case CALL_REPLACE:
 		return gormulast_replace(at[TABLE], n[TABLE], at[P], n[P], at[A], n[A], at[FACTOR], n[FACTOR], at[WORK], n[WORK],
 					 lent->card, new[0], new[1], new[2], new[3], new[4], new[5]);
-	case STEP:
+	case CALL_STEP:
 		return gormulast_step(at[TABLE], n[TABLE], at[P], n[P], at[A], n[A], at[FACTOR], n[FACTOR],
 				      at[TEMPERATURES], n[TEMPERATURES]);
 	}

@@ -22,6 +22,7 @@ pub fn all(record: &mut Record) {
     lengths(record);
     nonsense(record);
     enough(record);
+    record.traced = small();
 }
 
 fn before_any_deck(record: &mut Record) {
@@ -410,7 +411,7 @@ pub fn lent(trial: &mut Trial) {
         part(trial);
     }
     let met = trial.met;
-    assert!(met.iter().all(|met| met[0] >= 10 && met[9] > 0));
+    assert!(met.iter().all(|met| met[0] >= 5 && met[9] > 0));
     let [.., replace, step] = met;
     assert!([7, 8, 10, 13].iter().all(|&number| replace[number] > 0));
     assert!([8, 10, 11, 12].iter().all(|&number| step[number] > 0));

@@ -15,6 +15,8 @@ pub struct Record {
     answer: String,
     commands: Vec<String>,
     decks: Vec<Vec<u8>>,
+    /// The deck that stack traces are taken with.
+    pub traced: Vec<u8>,
     shown: Vec<String>,
     /// Accepted calls, and refused ones by number: decks, replacements, writes of steps.
     pub met: [[u32; 14]; 3],
@@ -32,6 +34,7 @@ impl Record {
             answer: "no answer".to_string(),
             commands: vec![],
             decks: vec![],
+            traced: vec![],
             shown: vec![],
             met: [[0; 14]; 3],
         }
@@ -102,6 +105,7 @@ impl Record {
         for (number, bytes) in self.decks.iter().enumerate() {
             fs::write(plan.join(number.to_string()), bytes)?;
         }
+        fs::write(plan.join("traced"), &self.traced)?;
         fs::write(plan.join("commands"), self.commands.join("\n") + "\n")?;
         let files = trial.write(&plan)?;
         self.shown

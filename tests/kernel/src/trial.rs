@@ -6,7 +6,7 @@ use std::path::Path;
 use std::{fs, io};
 
 /// One of so many of the differential test's rounds.
-const SHARE: u32 = 100;
+const SHARE: u32 = 50;
 /// A file of cases ends after so many bytes.
 const ENOUGH: usize = 2 << 20;
 
