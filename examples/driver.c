@@ -1,3 +1,4 @@
+// SPDX-License-Identifier: GPL-2.0-only OR MIT
 /* driver DECK: an e-reader's page loop over Gormulast, as a panel driver has it.
  *
  * After each page the model takes one step. The reading light and the case are cards of the deck: switching the light

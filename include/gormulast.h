@@ -1,3 +1,4 @@
+/* SPDX-License-Identifier: GPL-2.0-only OR MIT */
 /* Gormulast: a heat model of a board, all in whole numbers.
  *
  * Compiles as C99, as C++ and in a Linux kernel, on 64-bit machines. No call allocates, prints, waits or keeps state; each

@@ -31,8 +31,8 @@ fn main() {
         show("read", board, reads(board));
         show("write", board, writes(board));
         show("build", board, builds(board));
-        // In the first quarter of the nodes, in the middle and as near to the last as a board has one.
-        for eighths in [1, 4, 7] {
+        // In each quarter of the nodes, and in the middle.
+        for eighths in [1, 3, 4, 5, 7] {
             let (least, card, even) = board.element_near(board.nodes as u32 * eighths / 8);
             show(
                 &format!("replace at {least}"),
@@ -40,9 +40,20 @@ fn main() {
                 replaces(board, card, even),
             );
         }
-        show("step", board, steps(board));
+        // As with its own factor, and the most that a step can do.
+        for corrections in [1, 4] {
+            if let Some(factor) = board.factor_for(corrections) {
+                show(
+                    &format!("step by {corrections}"),
+                    board,
+                    steps(board, &factor),
+                );
+            }
+        }
     }
-    growth(&boards);
+    if boards.len() > 1 {
+        growth(&boards);
+    }
 }
 
 fn show(call: &str, board: &Board, times: Times) {
@@ -175,8 +186,8 @@ fn replaces(board: &Board, card: u32, even: Card) -> Times {
 }
 
 /// Always the first step of the deck.
-fn steps(board: &Board) -> Times {
-    let [p, a, factor, _] = &board.built();
+fn steps(board: &Board, factor: &[i64]) -> Times {
+    let [p, a, ..] = &board.built();
     let table = &board.table;
     let start = vec![i64::from(table[2]); board.nodes];
     let (mut right, mut ours) = (start.clone(), start.clone());

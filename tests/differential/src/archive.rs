@@ -1,6 +1,6 @@
 //! Calls of the archive. The only unsafe code here.
 
-use crate::case::{Call, Lent};
+use crate::case::{Call, Case, Lent, Outcome};
 use crate::face::*;
 
 /// A slice with marks before and after it, to see a number written outside of what was lent.
@@ -43,7 +43,19 @@ impl<A: Copy + PartialEq> Fenced<A> {
     }
 }
 
-pub fn call(call: Call, lent: &mut Lent) -> u64 {
+impl Case {
+    pub fn by_archive(&self) -> Outcome {
+        let mut lent = self.lent.clone();
+        let answer = call(self.call, &mut lent);
+        Outcome { answer, lent }
+    }
+
+    pub fn differs(&self) -> bool {
+        self.by_reference() != self.by_archive()
+    }
+}
+
+fn call(call: Call, lent: &mut Lent) -> u64 {
     let mut bytes = Fenced::new(&lent.bytes, 0xA5);
     let mut table = Fenced::new(&lent.table, 0xA5A5_A5A5);
     let mut temperatures = Fenced::new(&lent.temperatures, MARK);

@@ -11,6 +11,7 @@ mod archive;
 mod case;
 mod face;
 mod figures;
+mod limits;
 mod plan;
 mod show;
 mod shrink;
@@ -35,7 +36,7 @@ fn main() -> ExitCode {
     println!("P1 to P12 out of the archive: as the paper has them");
     println!("seed {seed}");
     let mut trial = trial::Trial::new(seed, MOST);
-    for (name, part) in plan::PARTS {
+    for (name, part) in plan::LENT.into_iter().chain(plan::DAMAGED) {
         let (cases, seconds) = (trial.cases(), trial.seconds());
         part(&mut trial);
         println!(

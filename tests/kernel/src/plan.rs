@@ -1,7 +1,9 @@
 //! What is tried, part by part.
 
+use crate::cases;
 use crate::decks::{bytes_of, Chance, Groups, D, E, F, H, M, N, T, TOP, Z};
 use crate::record::Record;
+use crate::trial::Trial;
 use reference::{Card, MAX_BYTES};
 
 pub fn all(record: &mut Record) {
@@ -20,6 +22,7 @@ pub fn all(record: &mut Record) {
     lengths(record);
     nonsense(record);
     enough(record);
+    record.traced = small();
 }
 
 fn before_any_deck(record: &mut Record) {
@@ -400,4 +403,16 @@ fn enough(record: &Record) {
         .iter()
         .all(|&number| replacements[number] > 0));
     assert!([1, 8, 11].iter().all(|&number| steps[number] > 0));
+}
+
+/// The differential test's cases of own and foreign buffers.
+pub fn lent(trial: &mut Trial) {
+    for (_, part) in cases::LENT {
+        part(trial);
+    }
+    let met = trial.met;
+    assert!(met.iter().all(|met| met[0] >= 5 && met[9] > 0));
+    let [.., replace, step] = met;
+    assert!([7, 8, 10, 13].iter().all(|&number| replace[number] > 0));
+    assert!([8, 10, 11, 12].iter().all(|&number| step[number] > 0));
 }
