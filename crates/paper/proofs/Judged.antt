@@ -1,6 +1,6 @@
 -- What the judge of a table tells of a deck that it accepts: places by section, fields by column, for all kinds at once.
 use mathlib.Core.Path.{_≡_, refl, sym, ap, subst, _∙_}
-use mathlib.Core.Bool.{Bool, true, false, not, _&&_, _||_}
+use mathlib.Core.Bool.{true, not, _&&_, _||_}
 use mathlib.Core.List.{List}
 use Prim.Native.Nat.{ℕ, zero, suc, _+_, _*_, _-_, _%_, _≤_, _<_}
 use native.Mathlib.Decide.{ℕ-discrete}
@@ -9,9 +9,9 @@ use borrow.Author.Tests.{leb-true, ltb-true, ltb-false, le-ltb, eqb-true, eq-eqb
 use lib.Dec.{eqb, leb, ltb}
 use lib.ListN.{length, getD}
 use Rattle.whole.specs.Sums.{sumN}
-use Rattle.whole.proofs.Tests.{never, and-told, nor-told}
+use Rattle.whole.proofs.Tests.{and-told, nor-told}
 use Rattle.paper.specs.Kinds.{about, aboutOf, letterOf, kindOf, kindAt, isA}
-use Rattle.paper.specs.Cards.{Column, _⋯_, within, before, columns, columnsOf, inRange, orderOf, rank, countsOf, countsAt, mostRows, rowAt, field, letter, rows, nodes, materials, elements}
+use Rattle.paper.specs.Cards.{Column, _⋯_, within, before, columns, columnsOf, inRange, orderOf, rank, countsAt, mostRows, rowAt, field, letter, rows, nodes, materials, elements}
 use Rattle.paper.specs.Judge.{stands, clean, rises, formed, ranged, judgeCard, judgeFrom, trailer, judgeRows, judged}
 use Rattle.paper.specs.declared.About.{About}
 use Rattle.paper.specs.declared.Answer.{Answer}
@@ -241,8 +241,8 @@ module _ (t : List ℕ) (ok : judged t ≡ Done) where
           row-field t row 1 (omega arith),
           row-field t (suc row) 1 (omega arith),
           rises-told (orderOf (rowAt t row)) (rank (rowAt t row)) (aboutOf (rowAt t (suc row))) (rowAt t (suc row)) (told (suc row) h .rise)
-          (subst (λ (x : Kind). 1 ≤ about x .keys) (same-order (kindIn t row) (kindIn t (suc row)) q ∙ sym (kind-row (suc row))) k)
-          (was ∙ q ∙ ap (λ (x : Kind). about x .order) (sym (kind-row (suc row)))),
+              (subst (λ (x : Kind). 1 ≤ about x .keys) (same-order (kindIn t row) (kindIn t (suc row)) q ∙ sym (kind-row (suc row))) k)
+              (was ∙ q ∙ ap (λ (x : Kind). about x .order) (sym (kind-row (suc row)))),
         );
   }
     where

@@ -1,16 +1,16 @@
 -- What the judge accepts can be printed: a letter of the eight, no field of more than eight digits, unused fields 0.
 use mathlib.Core.Path.{_≡_, refl, sym, ap, subst, _∙_}
-use mathlib.Core.Bool.{Bool, true, false, cond}
+use mathlib.Core.Bool.{Bool, true, false}
 use mathlib.Core.List.{List, [], _∷_}
 use Prim.Native.Nat.{ℕ, zero, suc, _+_, _-_, _≤_, _<_}
 use native.Mathlib.Omega.{arith}
 use borrow.Author.Tests.{eqb-true, eqb-false, leb-true}
-use lib.Dec.{leb, ltb, eqb}
+use lib.Dec.{leb, eqb}
 use lib.ListN.{length, getD}
-use Rattle.whole.proofs.Tests.{never, and-told}
+use Rattle.whole.proofs.Tests.{and-told}
 use Rattle.whole.specs.Sums.{sumN}
-use Rattle.paper.specs.Kinds.{about, aboutOf, kindOf, kindAt}
-use Rattle.paper.specs.Cards.{Column, _⋯_, before, cards, columns, columnsOf, used, zeros, inRange, countsOf, mostRows}
+use Rattle.paper.specs.Kinds.{about, kindOf, kindAt}
+use Rattle.paper.specs.Cards.{Column, _⋯_, before, cards, columns, used, zeros, inRange, countsOf, mostRows}
 use Rattle.paper.specs.Judge.{stands, clean, judgeCard, trailer}
 use Rattle.paper.specs.declared.Answer.the-variants.{Done}
 use Rattle.paper.specs.declared.Counts.{Counts}

@@ -5,7 +5,7 @@ use mathlib.Core.List.{List, [], _++_}
 use Prim.Native.Nat.{ℕ, suc, _+_, _-_, _*_, _≤_, _<_}
 use native.Mathlib.Omega.{arith}
 use borrow.Author.Tests.{eqb-true, ltb-false, leb-true, lt-ltb, le-ltb, le-leb, lt-leb}
-use lib.Dec.{leb, ltb, eqb}
+use lib.Dec.{leb, ltb}
 use lib.ListN.{length, getD, drop}
 use Rattle.whole.proofs.Tests.{and-told, nor-told}
 use Rattle.whole.specs.Sums.{sumN}
@@ -13,7 +13,6 @@ use Rattle.paper.specs.Kinds.{letterOf, kindAt, isA}
 use Rattle.paper.specs.Cards.{before, cards, columns, columnsOf, inRange, within, _⋯_, countsOf, mostRows}
 use Rattle.paper.specs.Judge.{judgeFrom, trailer}
 use Rattle.paper.specs.Calls.{joined, lastCard, cardAt, startOf, readsFrom, reads, readPart, readTable}
-use Rattle.paper.specs.declared.Answer.{Answer}
 use Rattle.paper.specs.declared.Answer.the-variants.{Done, Refused}
 use Rattle.paper.specs.declared.Counts.{Counts}
 use Rattle.paper.specs.declared.Kind.{Kind}
