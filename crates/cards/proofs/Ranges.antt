@@ -1,5 +1,5 @@
--- The test of a card's ranges over two arrays, field by field, and that it is the paper's.
-use mathlib.Core.Path.{_≡_, refl, ap, _∙_}
+-- The test of a card's ranges over two arrays, field by field, and that it is the paper's; and that of its unused fields.
+use mathlib.Core.Path.{_≡_, refl, sym, ap, _∙_}
 use mathlib.Core.Bool.{true, false}
 use mathlib.Core.List.{List}
 use Prim.Native.Nat.{ℕ, suc, _+_, _-_, _≤_, _<_}
@@ -7,10 +7,16 @@ use native.Mathlib.Numerals.{add-one}
 use native.Mathlib.Omega.{arith}
 use borrow.Author.Tests.{le-leb, lt-leb}
 use lib.ListN.{getD}
-use Rattle.paper.specs.Cards.{Between, inRange, fields}
+use Rattle.paper.specs.Kinds.{kindAt}
+use Rattle.paper.specs.Cards.{Column, columns, columnsOf, used, zeros, inRange}
+use Rattle.paper.specs.Judge.{clean}
 use Rattle.paper.specs.declared.Kind.{Kind}
 use Rattle.paper.specs.declared.Counts.{Counts}
-use Rattle.cards.specs.Asks.{Bounded, leasts, mosts, inBounds}
+use Rattle.paper.proofs.Judging.{clean-start}
+use Rattle.kinds.specs.Laid.{laid}
+use Rattle.kinds.specs.declared.Columns.{Columns}
+use Rattle.kinds.proofs.Ranges.{laid-used, used-any, used-few}
+use Rattle.cards.specs.Asks.{inBounds}
 
 module _ (ls ms card : List ℕ) where
   pub bounds-on : (k : ℕ) → k < 5 → getD ls k 0 ≤ getD card (k + 1) 0 → getD card (k + 1) 0 ≤ getD ms k 0
@@ -38,14 +44,21 @@ module _ (ls ms card : List ℕ) where
       let m : 5 - k ≡ 0 = omega arith in
       rw m
 
-same-bounds : (bs : List Between) (card : List ℕ) → inBounds (leasts bs) (mosts bs) card 5 0 ≡ inRange bs card 5 0
-unfolding inBounds inRange leasts mosts
-same-bounds bs card = refl
+same-bounds : (cs : List Column) (card : List ℕ) → inBounds (laid cs .least) (laid cs .most) card 5 0 ≡ inRange cs card 5 0
+unfolding inBounds inRange laid
+same-bounds cs card = refl
 
--- the two arrays say what the list of bounds says
-pub bounds-are : {bs : List Between} {ls ms : List ℕ} (card : List ℕ) → Bounded bs ls ms → inBounds ls ms card 5 0 ≡ inRange bs card 5 0
-bounds-are {bs} {ls} {ms} card h =
-    ap (λ (l : List ℕ). inBounds l ms card 5 0) (h .least) ∙ ap (λ (m : List ℕ). inBounds (leasts bs) m card 5 0) (h .most) ∙ same-bounds bs card
+-- a card of kind k: what its columns, as the code lays them out, say of it
+module _ (z : Counts) {k : Kind} (card : List ℕ) (e : k ≡ kindAt card) {b : Columns} (l : b ≡ laid (columns z k)) where
+  pub card-range : inBounds (b .least) (b .most) card 5 0 ≡ inRange (columnsOf z card) card 5 0
+  card-range =
+      ap (λ (b : Columns). inBounds (b .least) (b .most) card 5 0) l ∙ same-bounds (columns z k) card ∙ ap (λ (k : Kind). inRange (columns z k) card 5 0) e
 
-pub bounded-as : (z : Counts) {k k′ : Kind} {ls ms : List ℕ} → k ≡ k′ → Bounded (fields z k′) ls ms → Bounded (fields z k) ls ms
-bounded-as z e h = rw e h
+  laid-few : b .used ≡ used k
+  laid-few = laid-used b (columns z k) l ∙ used-any z k
+
+  pub few : b .used ≤ 5
+  few = omega (arith, laid-few, used-few k)
+
+  pub card-clean : zeros card (6 - (1 + b .used)) (1 + b .used) ≡ clean card
+  card-clean = sym (clean-start card (b .used) (laid-few ∙ ap used e) few)

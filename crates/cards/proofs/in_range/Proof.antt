@@ -38,7 +38,7 @@ returns : tie.Need-returns Inv-loop μ-loop
 returns c =
     let a = c .before .before .before .before .before .before .args in
     let l = c .before .before .before .loop in
-    bounds-low (a .b .least) (a .b .most) (a .card .now) (l .k) (omega arith) (omega arith) ∙ sym (l .inv .0)
+    bounds-low (a .columns .least) (a .columns .most) (a .card .now) (l .k) (omega arith) (omega arith) ∙ sym (l .inv .0)
 
 mul-if2 : tie.Need-mul-if2 Inv-loop μ-loop
 mul-if2 c = search needs
@@ -50,7 +50,7 @@ returns-2 : tie.Need-returns-2 Inv-loop μ-loop
 returns-2 c =
     let a = c .before .before .before .before .before .before .before .args in
     let l = c .before .before .before .before .loop in
-    bounds-high (a .b .least) (a .b .most) (a .card .now) (l .k) (omega arith) (omega arith) (omega arith) ∙ sym (l .inv .0)
+    bounds-high (a .columns .least) (a .columns .most) (a .card .now) (l .k) (omega arith) (omega arith) (omega arith) ∙ sym (l .inv .0)
 
 add-k : tie.Need-add-k Inv-loop μ-loop
 add-k c = search needs
@@ -62,13 +62,13 @@ loop-again : tie.Need-loop-again Inv-loop μ-loop
 loop-again c =
     let a = c .before .before .before .before .before .before .before .args in
     let l = c .before .before .before .before .loop in
-    (l .inv .0 ∙ bounds-on (a .b .least) (a .b .most) (a .card .now) (l .k) (omega arith) (omega arith) (omega arith), search needs)
+    (l .inv .0 ∙ bounds-on (a .columns .least) (a .columns .most) (a .card .now) (l .k) (omega arith) (omega arith) (omega arith), search needs)
 
 returns-3 : tie.Need-returns-3 Inv-loop μ-loop
 returns-3 c =
     let a = c .before .before .before .before .args in
     let l = c .before .loop in
-    bounds-end (a .b .least) (a .b .most) (a .card .now) (l .k) (omega arith) ∙ sym (l .inv .0)
+    bounds-end (a .columns .least) (a .columns .most) (a .card .now) (l .k) (omega arith) ∙ sym (l .inv .0)
 
 pub in-range-spec : {M : Type 1} → statement M
 in-range-spec =

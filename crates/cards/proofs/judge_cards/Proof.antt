@@ -1,51 +1,70 @@
 use Rattle.cards.proofs.judge_cards.Statement.{statement}
 use Rattle.cards.proofs.judge_cards.Tie as tie
+use Rattle.cards.proofs.judge_cards.Reads as reads
+use Rattle.cards.proofs.judge_cards.Lts as lts
+use Rattle.cards.proofs.judge_card.Reads as judge-card-reads
+use Rattle.cards.proofs.rank.Reads as rank-reads
+use Rattle.kinds.proofs.about.Reads as about-reads
+use Rattle.kinds.proofs.kind.Reads as kind-reads
 use borrow.Author.Needs.{needs}
 use mathlib.Core.Path.{_≡_, sym, ap, _∙_}
 use Prim.Native.Nat.{_-_, _≤_}
 use native.Mathlib.Omega.{arith}
 use native.Mathlib.Nat.{sub-zero}
-use Rattle.paper.specs.Cards.{order, kindAt, rowAt}
-use Rattle.paper.specs.Judge.{judgeFrom, judgeCard}
-use Rattle.cards.proofs.Rows.{lent, at-row, letter-at}
+use Rattle.paper.specs.Kinds.{about, kindAt}
+use Rattle.paper.specs.Cards.{rowAt, rank}
+use Rattle.paper.specs.Judge.{judgeFrom}
+use Rattle.paper.specs.declared.About.{About}
 use Rattle.paper.proofs.Judging.{judge-on, judge-here, judge-end}
+use Rattle.cards.proofs.Rows.{lent, letter-at, lent-card}
 
 abbrev Inv-loop : tie.InvT-loop
-Inv-loop z t rows i₀ p₀ key₀ i p key = (i ≤ rows) × (judgeFrom z (rowAt t) rows 0 0 0 ≡ judgeFrom z (rowAt t) (rows - i) i p key)
+Inv-loop counts t rows i₀ group₀ key₀ i group key = (i ≤ rows) × (judgeFrom counts (rowAt t) rows 0 0 0 ≡ judgeFrom counts (rowAt t) (rows - i) i group key)
 
 abbrev μ-loop : tie.MeasureT-loop
-μ-loop z t rows i₀ p₀ key₀ i p key = rows - i
+μ-loop counts t rows i₀ group₀ key₀ i group key = rows - i
 
+-- src/lib.rt:128:5
 loop-holds : tie.Need-loop-holds Inv-loop μ-loop
 loop-holds c = (search needs, rw sub-zero)
 
+-- src/lib.rt:129:18
 mul-at : tie.Need-mul-at Inv-loop μ-loop
 mul-at c = search needs
 
+-- src/lib.rt:130:19
 add-end : tie.Need-add-end Inv-loop μ-loop
 add-end c = search needs
 
+-- src/lib.rt:131:29
 mul-kind : tie.Need-mul-kind Inv-loop μ-loop
 mul-kind c = search needs
 
+-- src/lib.rt:131:29
 shared-slice-read-kind : tie.Need-shared-slice-read-kind Inv-loop μ-loop
 shared-slice-read-kind c = search needs
 
+-- src/lib.rt:131:13
 kind-requires : tie.Need-kind-requires Inv-loop μ-loop
 kind-requires c κs = search needs
 
+-- src/lib.rt:132:54
 mul-judge-card : tie.Need-mul-judge-card Inv-loop μ-loop
 mul-judge-card c = search needs
 
+-- src/lib.rt:132:54
 sub-judge-card : tie.Need-sub-judge-card Inv-loop μ-loop
 sub-judge-card c = search needs
 
+-- src/lib.rt:132:54
 part-judge-card-start : tie.Need-part-judge-card-start Inv-loop μ-loop
 part-judge-card-start c = search needs
 
+-- src/lib.rt:132:54
 part-judge-card-end : tie.Need-part-judge-card-end Inv-loop μ-loop
 part-judge-card-end c = search needs
 
+-- src/lib.rt:132:13
 judge-card-requires : tie.Need-judge-card-requires Inv-loop μ-loop
 judge-card-requires c κs =
     let t = c .before .before .before .before .before .before .args .t .now in
@@ -55,50 +74,69 @@ judge-card-requires c κs =
 enum-told : tie.Need-enum-told Inv-loop μ-loop
 enum-told c = search needs
 
+-- src/lib.rt:134:13
 enum-told-2 : tie.Need-enum-told-2 Inv-loop μ-loop
 enum-told-2 c = search needs
 
+-- src/lib.rt:134:13
 returns : tie.Need-returns Inv-loop μ-loop
 returns c =
     let a = c .before .before .before .before .before .before .before .before .before .args in
+    let t = a .t .now in
     let l = c .before .before .before .before .before .before .before .loop in
-    let e = sym (c .before .before .judge-card .ensures ∙ ap (judgeCard (a .z) (l .i) (l .p) (l .key)) (lent (a .t .now) (l .i))) ∙ c .enum-told2 .given .1 in
-    c .enum-told2 .given .1 ∙ judge-here (a .z) (rowAt (a .t .now)) (a .rows) (l .i) (l .p) (l .key) _ (omega arith) e ∙ sym (l .inv .1)
+    let e = sym (c .before .before .judge-card .ensures ∙ lent-card (a .counts) t (l .i) (l .group) (l .key)) ∙ c .enum-told2 .given .1 in
+    c .enum-told2 .given .1 ∙ judge-here (a .counts) (rowAt t) (a .rows) (l .i) (l .group) (l .key) _ (omega arith) e ∙ sym (l .inv .1)
 
-order-of-requires : tie.Need-order-of-requires Inv-loop μ-loop
-order-of-requires c κs = search needs
+-- src/lib.rt:136:17
+about-requires : tie.Need-about-requires Inv-loop μ-loop
+about-requires c κs = search needs
 
-add-key : tie.Need-add-key Inv-loop μ-loop
-add-key c = search needs
+-- src/lib.rt:137:20
+mul-rank : tie.Need-mul-rank Inv-loop μ-loop
+mul-rank c = search needs
 
-mul-key : tie.Need-mul-key Inv-loop μ-loop
-mul-key c = search needs
+-- src/lib.rt:137:20
+sub-rank : tie.Need-sub-rank Inv-loop μ-loop
+sub-rank c = search needs
 
-shared-slice-read-key : tie.Need-shared-slice-read-key Inv-loop μ-loop
-shared-slice-read-key c = search needs
+-- src/lib.rt:137:20
+part-rank-start : tie.Need-part-rank-start Inv-loop μ-loop
+part-rank-start c = search needs
 
+-- src/lib.rt:137:20
+part-rank-end : tie.Need-part-rank-end Inv-loop μ-loop
+part-rank-end c = search needs
+
+-- src/lib.rt:137:9
+rank-requires : tie.Need-rank-requires Inv-loop μ-loop
+rank-requires c κs = search needs
+
+-- src/lib.rt:138:9
 add-i : tie.Need-add-i Inv-loop μ-loop
 add-i c = search needs
 
+-- src/lib.rt:128:5
 loop-less : tie.Need-loop-less Inv-loop μ-loop
 loop-less c = search needs
 
+-- src/lib.rt:128:5
 loop-again : tie.Need-loop-again Inv-loop μ-loop
 loop-again c =
-    let a = c .before .before .before .before .before .before .before .before .before .before .before .args in
-    let l = c .before .before .before .before .before .before .before .before .before .loop in
+    let a = c .before .before .before .before .before .before .before .before .before .before .before .before .args in
     let t = a .t .now in
-    let e = sym (c .before .before .before .before .judge-card .ensures ∙ ap (judgeCard (a .z) (l .i) (l .p) (l .key)) (lent t (l .i))) ∙ c .before .before .enum-told .given .1 in
-    let o = c .before .order-of .ensures ∙ ap order (c .before .before .before .before .before .before .kind .ensures ∙ letter-at t (l .i)) in
-    let k = at-row t (l .i) 1 (omega arith) in
-    let g = judge-on (a .z) (rowAt t) (a .rows) (l .i) (l .p) (l .key) (omega arith) e in
+    let l = c .before .before .before .before .before .before .before .before .before .before .loop in
+    let e = sym (c .before .before .before .before .before .judge-card .ensures ∙ lent-card (a .counts) t (l .i) (l .group) (l .key)) ∙ c .before .before .before .enum-told .given .1 in
+    let o = ap (λ (b : About). b .order) (c .before .before .about .ensures ∙ ap about (c .before .before .before .before .before .before .before .kind .ensures ∙ letter-at t (l .i))) in
+    let k = c .rank .ensures ∙ ap rank (lent t (l .i)) in
+    let g = judge-on (a .counts) (rowAt t) (a .rows) (l .i) (l .group) (l .key) (omega arith) e in
     (omega arith, cc (l .inv .1))
 
+-- src/lib.rt:121:1
 returns-2 : tie.Need-returns-2 Inv-loop μ-loop
 returns-2 c =
     let a = c .before .before .before .args in
     let l = c .before .loop in
-    judge-end (a .z) (rowAt (a .t .now)) (a .rows) (l .i) (l .p) (l .key) (omega arith) ∙ sym (l .inv .1)
+    judge-end (a .counts) (rowAt (a .t .now)) (a .rows) (l .i) (l .group) (l .key) (omega arith) ∙ sym (l .inv .1)
 
 pub judge-cards-spec : {M : Type 1} → statement M
 judge-cards-spec =
@@ -120,10 +158,12 @@ judge-cards-spec =
     enum-told
     enum-told-2
     returns
-    order-of-requires
-    add-key
-    mul-key
-    shared-slice-read-key
+    about-requires
+    mul-rank
+    sub-rank
+    part-rank-start
+    part-rank-end
+    rank-requires
     add-i
     loop-less
     loop-again

@@ -1,5 +1,5 @@
-use Rattle.cards.proofs.row_to.Statement.{statement}
-use Rattle.cards.proofs.row_to.Tie as tie
+use Rattle.kinds.proofs.row_to.Statement.{statement}
+use Rattle.kinds.proofs.row_to.Tie as tie
 use borrow.Author.Needs.{needs}
 use mathlib.Core.Path.{_≡_, refl}
 use mathlib.Core.List.{_++_}
