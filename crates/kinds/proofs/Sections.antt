@@ -27,17 +27,18 @@ module _ (z : Counts) where
 
 -- how large the numbers about a kind are
 pub record Small (a : About) : Type 0 where
+  pub letter : a .letter ≤ 255
   pub section : a .section ≤ 6
   pub keeps : a .keeps ≤ 4
 
 pub small : (k : Kind) → Small (about k)
 unfolding about
-small D = record { section = omega arith; keeps = omega arith }
-small N = record { section = omega arith; keeps = omega arith }
-small M = record { section = omega arith; keeps = omega arith }
-small E = record { section = omega arith; keeps = omega arith }
-small H = record { section = omega arith; keeps = omega arith }
-small F = record { section = omega arith; keeps = omega arith }
-small T = record { section = omega arith; keeps = omega arith }
-small Z = record { section = omega arith; keeps = omega arith }
-small Other = record { section = omega arith; keeps = omega arith }
+small D = record { letter = omega arith; section = omega arith; keeps = omega arith }
+small N = record { letter = omega arith; section = omega arith; keeps = omega arith }
+small M = record { letter = omega arith; section = omega arith; keeps = omega arith }
+small E = record { letter = omega arith; section = omega arith; keeps = omega arith }
+small H = record { letter = omega arith; section = omega arith; keeps = omega arith }
+small F = record { letter = omega arith; section = omega arith; keeps = omega arith }
+small T = record { letter = omega arith; section = omega arith; keeps = omega arith }
+small Z = record { letter = omega arith; section = omega arith; keeps = omega arith }
+small Other = record { letter = omega arith; section = omega arith; keeps = omega arith }
