@@ -12,7 +12,7 @@ use Rattle.whole.specs.Sums.{sumN}
 use Rattle.paper.specs.Kinds.{letterOf, kindAt, isA}
 use Rattle.paper.specs.Cards.{before, cards, columns, columnsOf, inRange, within, _⋯_, countsOf, mostRows}
 use Rattle.paper.specs.Judge.{judgeFrom, trailer}
-use Rattle.paper.specs.Calls.{joined, lastCard, cardAt, startOf, readsFrom, reads, readPart, readTable}
+use Rattle.paper.specs.Calls.{joined, lastCard, cardAt, startOf, readsFrom, reads, readPart, readTable, readStart, readEnd}
 use Rattle.paper.specs.declared.Answer.the-variants.{Done, Refused}
 use Rattle.paper.specs.declared.Counts.{Counts}
 use Rattle.paper.specs.declared.Kind.{Kind}
@@ -149,3 +149,19 @@ module _ (b : List ℕ) (room : ℕ) where
   pub part-none : (r : Refusal) → reads b room ≡ Refused r → [] ≡ readPart b room
   unfolding readPart
   part-none r h = simp h
+
+  pub start-read : reads b room ≡ Done → startOf b (lastCard b) ≡ readStart b room
+  unfolding readStart
+  start-read h = simp h
+
+  pub end-read : reads b room ≡ Done → length b ≡ readEnd b room
+  unfolding readEnd
+  end-read h = simp h
+
+  pub start-none : (r : Refusal) → reads b room ≡ Refused r → 0 ≡ readStart b room
+  unfolding readStart
+  start-none r h = simp h
+
+  pub end-none : (r : Refusal) → reads b room ≡ Refused r → 0 ≡ readEnd b room
+  unfolding readEnd
+  end-none r h = simp h

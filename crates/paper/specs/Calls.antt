@@ -5,7 +5,7 @@ use Prim.Native.Nat.{ℕ, zero, suc, _+_, _-_, _*_}
 use lib.Dec.{ltb, leb, eqb}
 use lib.IntN.{ℤ, pos}
 use lib.ListN.{length, getD, take, drop, replicate}
-use Rattle.paper.specs.Refusals.{Outcome, refused, done, when, unlessAt, after, andThen, numberOf}
+use Rattle.paper.specs.Refusals.{Outcome, refused, done, when, unlessAt, after, andThen, numberOf, told, packed}
 use Rattle.paper.specs.Cards.{cards, countsOf, countsAt, rowAt, rows, nodes, put}
 use Rattle.paper.specs.Text.{cardOf, textOf}
 use Rattle.paper.specs.Judge.{judgeFrom, judged, trailer, newJudged}
@@ -93,6 +93,40 @@ pub record Read : Type 0 where
 
 abbrev pub readCall : List ℕ → List ℕ → Read
 readCall b t = record { answer = reads b (length t); part = readPart b (length t); table = readTable b t }
+
+-- where the part lies: from D to the bytes' end, or from 0 to 0 on a refusal
+unfoldable pub readStart : List ℕ → ℕ → ℕ
+readStart b room = whenDone (reads b room) (startOf b (lastCard b)) 0
+
+unfoldable pub readEnd : List ℕ → ℕ → ℕ
+readEnd b room = whenDone (reads b room) (length b) 0
+
+-- what the reader hands back of bytes that lie at a place, a block of memory and an offset there: the answer as one number, the part's place, the part, the table
+pub record Handed : Type 0 where
+  pub answer : ℕ
+  pub place : ℕ × ℕ
+  pub part : List ℕ
+  pub table : List ℕ
+
+abbrev pub handed : ℕ → ℕ × ℕ → List ℕ → List ℕ → Handed
+handed answer place part table = record { answer = answer; place = place; part = part; table = table }
+
+abbrev pub handBack : ℕ × ℕ → List ℕ → List ℕ → Handed
+handBack place b t =
+    handed (packed (told (reads b (length t)))) (place .0, place .1 + readStart b (length t)) (readPart b (length t)) (readTable b t)
+
+-- and to C: the answer, where the part starts and where it ends, the table
+pub record Marked : Type 0 where
+  pub answer : ℕ
+  pub start : ℕ
+  pub end : ℕ
+  pub table : List ℕ
+
+abbrev pub marked : ℕ → ℕ → ℕ → List ℕ → Marked
+marked answer start end table = record { answer = answer; start = start; end = end; table = table }
+
+abbrev pub readMarked : List ℕ → List ℕ → Marked
+readMarked b t = marked (packed (told (reads b (length t)))) (readStart b (length t)) (readEnd b (length t)) (readTable b t)
 
 -- ---- build, replace and step
 
