@@ -39,3 +39,4 @@ pub mod Settled
 pub mod Calls
 pub mod Left
 pub mod Running
+pub mod Redone
