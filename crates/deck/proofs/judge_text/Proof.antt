@@ -1,105 +1,138 @@
 use Rattle.deck.proofs.judge_text.Statement.{statement}
 use Rattle.deck.proofs.judge_text.Tie as tie
+use Rattle.deck.proofs.judge_text.Reads as reads
+use Rattle.deck.proofs.judge_text.Lts as lts
+use Rattle.cards.proofs.judge_card.Reads as judge-card-reads
+use Rattle.cards.proofs.rank.Reads as rank-reads
+use Rattle.kinds.proofs.about.Reads as about-reads
+use Rattle.kinds.proofs.kind.Reads as kind-reads
+use Rattle.text.proofs.card_of.Reads as card-of-reads
 use borrow.Author.Needs.{needs}
 use mathlib.Core.Path.{_≡_, sym, ap, _∙_}
-use mathlib.Core.List.{List}
-use Prim.Native.Nat.{ℕ, _-_, _≤_}
+use Prim.Native.Nat.{_-_, _≤_}
 use native.Mathlib.Nat.{sub-zero}
 use native.Mathlib.Omega.{arith}
-use lib.ListN.{length, getD}
-use Rattle.paper.specs.Cards.{order, orderOf}
-use Rattle.paper.specs.Judge.{judgeCard, judgeFrom}
+use lib.ListN.{length}
+use Rattle.paper.specs.Kinds.{about, aboutOf}
+use Rattle.paper.specs.Cards.{orderOf, rank}
+use Rattle.paper.specs.Judge.{judgeFrom}
 use Rattle.paper.specs.Calls.{cardAt}
+use Rattle.paper.specs.declared.About.{About}
 use Rattle.paper.proofs.Judging.{judge-on, judge-here, judge-end}
-use Rattle.deck.proofs.InRows.{lent}
+use Rattle.deck.proofs.InRows.{lent, read-card}
 
 abbrev Inv-loop : tie.InvT-loop
-Inv-loop z s start rows card₀ i₀ p₀ key₀ card i p key = (i ≤ rows) × (length card ≡ 6) × (judgeFrom z (cardAt s start) rows 0 0 0 ≡ judgeFrom z (cardAt s start) (rows - i) i p key)
+Inv-loop counts s start rows card₀ i₀ group₀ key₀ card i group key = (i ≤ rows) × (length card ≡ 6) × (judgeFrom counts (cardAt s start) rows 0 0 0 ≡ judgeFrom counts (cardAt s start) (rows - i) i group key)
 
 abbrev μ-loop : tie.MeasureT-loop
-μ-loop z s start rows card₀ i₀ p₀ key₀ card i p key = rows - i
+μ-loop counts s start rows card₀ i₀ group₀ key₀ card i group key = rows - i
 
+-- src/lib.rt:59:5
 loop-holds : tie.Need-loop-holds Inv-loop μ-loop
 loop-holds c = (search needs, search needs, rw sub-zero)
 
+-- src/lib.rt:60:26
 mul-at : tie.Need-mul-at Inv-loop μ-loop
 mul-at c = search needs
 
+-- src/lib.rt:60:18
 add-at : tie.Need-add-at Inv-loop μ-loop
 add-at c = search needs
 
+-- src/lib.rt:61:19
 add-end : tie.Need-add-end Inv-loop μ-loop
 add-end c = search needs
 
+-- src/lib.rt:62:23
 sub-card-of : tie.Need-sub-card-of Inv-loop μ-loop
 sub-card-of c = search needs
 
+-- src/lib.rt:62:23
 part-card-of-start : tie.Need-part-card-of-start Inv-loop μ-loop
 part-card-of-start c = search needs
 
+-- src/lib.rt:62:23
 part-card-of-end : tie.Need-part-card-of-end Inv-loop μ-loop
 part-card-of-end c = search needs
 
+-- src/lib.rt:62:36
 slice-aggregate-card-of : tie.Need-slice-aggregate-card-of Inv-loop μ-loop
 slice-aggregate-card-of c = search needs
 
+-- src/lib.rt:62:9
 card-of-requires : tie.Need-card-of-requires Inv-loop μ-loop
 card-of-requires c κs = search needs
 
+-- src/lib.rt:63:29
 array-read-kind : tie.Need-array-read-kind Inv-loop μ-loop
 array-read-kind c = search needs
 
+-- src/lib.rt:63:13
 kind-requires : tie.Need-kind-requires Inv-loop μ-loop
 kind-requires c κs = search needs
 
+-- src/lib.rt:64:61
 slice-aggregate-judge-card : tie.Need-slice-aggregate-judge-card Inv-loop μ-loop
 slice-aggregate-judge-card c = search needs
 
+-- src/lib.rt:64:13
 judge-card-requires : tie.Need-judge-card-requires Inv-loop μ-loop
 judge-card-requires c κs = search needs
 
 enum-told : tie.Need-enum-told Inv-loop μ-loop
 enum-told c = search needs
 
+-- src/lib.rt:66:13
 enum-told-2 : tie.Need-enum-told-2 Inv-loop μ-loop
 enum-told-2 c = search needs
 
+-- src/lib.rt:66:13
 returns : tie.Need-returns Inv-loop μ-loop
 returns c =
     let a = c .before .before .before .before .before .before .before .before .before .before .before .before .args in
     let l = c .before .before .before .before .before .before .before .before .before .before .loop in
     let row = c .before .before .before .before .before .before .card-of .ensures ∙ lent (a .s .now) (a .start) (l .i) in
-    let e = sym (c .before .before .judge-card .ensures ∙ ap (judgeCard (a .z) (l .i) (l .p) (l .key)) row) ∙ c .enum-told2 .given .1 in
-    c .enum-told2 .given .1 ∙ judge-here (a .z) (cardAt (a .s .now) (a .start)) (a .rows) (l .i) (l .p) (l .key) _ (omega arith) e ∙ sym (l .inv .2)
+    let e = sym (c .before .before .judge-card .ensures ∙ read-card (a .counts) (a .s .now) (a .start) (l .i) (l .group) (l .key) row) ∙ c .enum-told2 .given .1 in
+    c .enum-told2 .given .1 ∙ judge-here (a .counts) (cardAt (a .s .now) (a .start)) (a .rows) (l .i) (l .group) (l .key) _ (omega arith) e ∙ sym (l .inv .2)
 
-order-of-requires : tie.Need-order-of-requires Inv-loop μ-loop
-order-of-requires c κs = search needs
+-- src/lib.rt:68:17
+about-requires : tie.Need-about-requires Inv-loop μ-loop
+about-requires c κs = search needs
 
-array-read-key : tie.Need-array-read-key Inv-loop μ-loop
-array-read-key c = search needs
+-- src/lib.rt:69:27
+slice-aggregate-rank : tie.Need-slice-aggregate-rank Inv-loop μ-loop
+slice-aggregate-rank c = search needs
 
+-- src/lib.rt:69:9
+rank-requires : tie.Need-rank-requires Inv-loop μ-loop
+rank-requires c κs = search needs
+
+-- src/lib.rt:70:9
 add-i : tie.Need-add-i Inv-loop μ-loop
 add-i c = search needs
 
+-- src/lib.rt:59:5
 loop-less : tie.Need-loop-less Inv-loop μ-loop
 loop-less c = search needs
 
+-- src/lib.rt:59:5
 loop-again : tie.Need-loop-again Inv-loop μ-loop
 loop-again c =
-    let a = c .before .before .before .before .before .before .before .before .before .before .before .before .before .args in
-    let l = c .before .before .before .before .before .before .before .before .before .before .before .loop in
-    let row = c .before .before .before .before .before .before .before .card-of .ensures ∙ lent (a .s .now) (a .start) (l .i) in
-    let e = sym (c .before .before .before .judge-card .ensures ∙ ap (judgeCard (a .z) (l .i) (l .p) (l .key)) row) ∙ c .before .enum-told .given .1 in
-    let o = c .order-of .ensures ∙ ap order (c .before .before .before .before .before .kind .ensures) ∙ ap orderOf row in
-    let k = ap (λ (r : List ℕ). getD r 1 0) row in
-    let g = judge-on (a .z) (cardAt (a .s .now) (a .start)) (a .rows) (l .i) (l .p) (l .key) (omega arith) e in
-    (omega arith, c .before .before .before .before .before .before .before .card-of .kept .1 .0 ∙ l .inv .1, cc (l .inv .2))
+    let a = c .before .before .before .before .before .before .before .before .before .before .before .before .before .before .before .args in
+    let l = c .before .before .before .before .before .before .before .before .before .before .before .before .before .loop in
+    let row = c .before .before .before .before .before .before .before .before .before .card-of .ensures ∙ lent (a .s .now) (a .start) (l .i) in
+    let e = sym (c .before .before .before .before .before .judge-card .ensures ∙ read-card (a .counts) (a .s .now) (a .start) (l .i) (l .group) (l .key) row) ∙ c .before .before .before .enum-told .given .1 in
+    let o = ap (λ (b : About). b .order) (c .before .before .about .ensures ∙ ap about (c .before .before .before .before .before .before .before .kind .ensures)) ∙ ap orderOf row in
+    let k = c .rank .ensures ∙ ap rank row in
+    let g = judge-on (a .counts) (cardAt (a .s .now) (a .start)) (a .rows) (l .i) (l .group) (l .key) (omega arith) e in
+    (omega arith, c .before .before .before .before .before .before .before .before .before .card-of .kept .1 .0 ∙ l .inv .1, cc (l .inv .2))
 
+-- src/lib.rt:51:1
 returns-2 : tie.Need-returns-2 Inv-loop μ-loop
 returns-2 c =
     let a = c .before .before .before .args in
     let l = c .before .loop in
-    judge-end (a .z) (cardAt (a .s .now) (a .start)) (a .rows) (l .i) (l .p) (l .key) (omega arith) ∙ sym (l .inv .2)
+    judge-end (a .counts) (cardAt (a .s .now) (a .start)) (a .rows) (l .i) (l .group) (l .key) (omega arith) ∙ sym (l .inv .2)
 
 pub judge-text-spec : {M : Type 1} → statement M
 judge-text-spec =
@@ -123,8 +156,9 @@ judge-text-spec =
     enum-told
     enum-told-2
     returns
-    order-of-requires
-    array-read-key
+    about-requires
+    slice-aggregate-rank
+    rank-requires
     add-i
     loop-less
     loop-again

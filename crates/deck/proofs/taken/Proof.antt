@@ -1,6 +1,11 @@
 use borrow.Author.Needs.{needs}
 use Rattle.deck.proofs.taken.Statement.{statement}
 use Rattle.deck.proofs.taken.Tie as tie
+use Rattle.deck.proofs.taken.Reads as reads
+use Rattle.deck.proofs.taken.Lts as lts
+use Rattle.deck.proofs.last_card.Reads as last-card-reads
+use Rattle.deck.proofs.rows_to.Reads as rows-to-reads
+-- src/lib.rt:147:13
 use mathlib.Core.Path.{_≡_, ap, _∙_}
 use mathlib.Core.List.{List, _++_}
 use Prim.Native.Nat.{ℕ, _+_, _-_, _*_, _/_}
@@ -8,37 +13,43 @@ use native.Mathlib.Omega.{arith}
 use lib.ListN.{length, getD, take, drop, length-drop}
 use lib.Seq.{take-all}
 use Rattle.paper.specs.Cards.{cards, countsOf}
-use Rattle.paper.specs.Calls.{joined, cardAt, lastCard, startOf}
-use Rattle.paper.proofs.Reading.{trailer-told, accepted, table-read, part-read}
+use Rattle.paper.specs.Calls.{joined, cardAt, lastCard, startOf, readStart}
+use Rattle.paper.proofs.Reading.{trailer-told, accepted, table-read, part-read, start-read}
 
 last-card-requires : tie.Need-last-card-requires
 last-card-requires c κs =
     let a = accepted (c .before .before .args .bytes .now) (length (c .before .before .args .table .now)) (c .before .before .pre) in
     omega (arith, a .least)
 
+-- src/lib.rt:149:16
 array-read-back : tie.Need-array-read-back
 array-read-back c = search needs
 
+-- src/lib.rt:149:16
 cast-back : tie.Need-cast-back
 cast-back c = search needs
 
+-- src/lib.rt:150:16
 sub-last : tie.Need-sub-last
 sub-last c =
     let a = accepted (c .before .before .before .args .bytes .now) (length (c .before .before .before .args .table .now)) (c .before .before .before .pre) in
     omega (arith, a .least)
 
+-- src/lib.rt:151:17
 sub-start : tie.Need-sub-start
 sub-start c =
     let a = accepted (c .before .before .before .args .bytes .now) (length (c .before .before .before .args .table .now)) (c .before .before .before .pre) in
     let k = ap (λ (r : List ℕ). getD r 1 0) (c .last-card .ensures) in
     omega (arith, a .within, k)
 
+-- src/lib.rt:152:27
 add-rows-to : tie.Need-add-rows-to
 add-rows-to c =
     let a = accepted (c .before .before .before .args .bytes .now) (length (c .before .before .before .args .table .now)) (c .before .before .before .pre) in
     let k = ap (λ (r : List ℕ). getD r 1 0) (c .last-card .ensures) in
     omega (arith, a .within, a .most, k)
 
+-- src/lib.rt:152:5
 rows-to-requires : tie.Need-rows-to-requires
 rows-to-requires c κs =
     let a = accepted (c .before .before .before .before .args .bytes .now) (length (c .before .before .before .before .args .table .now)) (c .before .before .before .before .pre) in
@@ -46,21 +57,27 @@ rows-to-requires c κs =
     let s = trailer-told (lastCard (c .before .before .before .before .args .bytes .now)) (a .trails) in
     (omega (arith, a .least, a .within, k, s .back), omega (arith, k, s .back, a .fits), omega (arith, k, s .back, s .few))
 
+-- src/lib.rt:153:5
 sub-result : tie.Need-sub-result
 sub-result c = search needs
 
+-- src/lib.rt:153:5
 part-result-start : tie.Need-part-result-start
 part-result-start c = search needs
 
+-- src/lib.rt:153:5
 part-result-end : tie.Need-part-result-end
 part-result-end c = search needs
 
+-- src/lib.rt:141:1
 same-length : tie.Need-same-length
 same-length c = search needs
 
+-- src/lib.rt:141:1
 returns : tie.Need-returns
 returns c =
     let b = c .before .before .before .before .before .before .before .before .args .bytes .now in
+    let p = c .before .before .before .before .before .before .before .before .args .bytes .ptr in
     let t = c .before .before .before .before .before .before .before .before .args .table .now in
     let z = lastCard b in
     let v = c .before .before .before .before .before .last-card .result in
@@ -68,10 +85,14 @@ returns c =
     let k : getD v 1 0 ≡ getD z 1 0 = ap (λ (r : List ℕ). getD r 1 0) (c .before .before .before .before .before .last-card .ensures) in
     let s = trailer-told z (a .trails) in
     let n : getD v 1 0 / 42 + 1 ≡ cards (countsOf z) + 1 = omega (arith, k, s .back) in
-    let st : length b - 42 - getD v 1 0 ≡ startOf b z = omega (arith, k) in (
-      ap (λ (j : ℕ). take (length b - j) (drop j b)) st ∙ take-all (length b - startOf b z) (drop (startOf b z) b) (simp length-drop (omega arith)) ∙ part-read b (length t) (c .before .before .before .before .before .before .before .before .pre),
-      c .before .before .before .rows-to .ensures ∙ ap (λ (j : ℕ). joined (cardAt b j) (getD v 1 0 / 42 + 1) 0 ++ drop ((getD v 1 0 / 42 + 1) * 6) t) st
-          ∙ ap (λ (m : ℕ). joined (cardAt b (startOf b z)) m 0 ++ drop (m * 6) t) n ∙ table-read b t (c .before .before .before .before .before .before .before .before .pre),
+    let st : length b - 42 - getD v 1 0 ≡ startOf b z = omega (arith, k) in
+    let o : (length b - 42 - getD v 1 0) + p .1 ≡ p .1 + readStart b (length t) = omega (arith, st, start-read b (length t) (c .before .before .before .before .before .before .before .before .pre)) in (
+      λ i. (p .0, o i),
+      (
+        ap (λ (j : ℕ). take (length b - j) (drop j b)) st ∙ take-all (length b - startOf b z) (drop (startOf b z) b) (simp length-drop (omega arith)) ∙ part-read b (length t) (c .before .before .before .before .before .before .before .before .pre),
+        c .before .before .before .rows-to .ensures ∙ ap (λ (j : ℕ). joined (cardAt b j) (getD v 1 0 / 42 + 1) 0 ++ drop ((getD v 1 0 / 42 + 1) * 6) t) st
+            ∙ ap (λ (m : ℕ). joined (cardAt b (startOf b z)) m 0 ++ drop (m * 6) t) n ∙ table-read b t (c .before .before .before .before .before .before .before .before .pre),
+      ),
     )
 
 pub taken-spec : {M : Type 1} → statement M

@@ -7,7 +7,6 @@ use Rattle.kinds.proofs.about.Reads as about-reads
 use Rattle.kinds.proofs.kind.Reads as kind-reads
 use Rattle.kinds.proofs.used_of.Reads as used-of-reads
 use Rattle.text.proofs.fields_to.Reads as fields-to-reads
-
 -- src/lib.rt:189:25
 use mathlib.Core.Path.{ap, _∙_}
 use native.Mathlib.Omega.{arith}
