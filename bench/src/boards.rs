@@ -3,6 +3,7 @@
 use reference::{Answer, Card, MAX_ROWS};
 
 const E: u32 = b'E' as u32;
+const H: u32 = b'H' as u32;
 
 pub struct Board {
     pub bytes: Vec<u8>,
@@ -51,6 +52,15 @@ impl Board {
             let answer = reference::step(&self.table, &p, &a, &factor, &mut temperatures).packed();
             (answer == 256 * corrections).then_some(factor)
         })
+    }
+
+    /// The first H card: its number, the card.
+    pub fn heat(&self) -> (u32, Card) {
+        let mut cards = (1..).zip(self.table.chunks_exact(6));
+        let (number, card) = cards
+            .find(|(_, card)| card[0] == H)
+            .expect("a board is heated");
+        (number, card.try_into().unwrap())
     }
 
     /// The E card whose least corner is nearest to a node: that corner, the card's number, the card.

@@ -37,18 +37,15 @@ fn main() {
             show(
                 &format!("replace at {least}"),
                 board,
-                replaces(board, card, even),
+                replaces(board, card, even, 5),
             );
         }
-        // As with its own factor, and the most that a step can do.
-        for corrections in [1, 4] {
-            if let Some(factor) = board.factor_for(corrections) {
-                show(
-                    &format!("step by {corrections}"),
-                    board,
-                    steps(board, &factor),
-                );
-            }
+        let (card, even) = board.heat();
+        show("replace H", board, replaces(board, card, even, 2));
+        show("step", board, steps(board, &board.built()[2]));
+        // The most that a step can do.
+        if let Some(factor) = board.factor_for(4) {
+            show("step by 4", board, steps(board, &factor));
         }
     }
     if boards.len() > 1 {
@@ -141,10 +138,10 @@ fn builds(board: &Board) -> Times {
     )
 }
 
-/// An element a micrometre thicker and back.
-fn replaces(board: &Board, card: u32, even: Card) -> Times {
+/// A field one more and back: an element's thickness, a heat.
+fn replaces(board: &Board, card: u32, even: Card, field: usize) -> Times {
     let mut odd = even;
-    odd[5] += 1;
+    odd[field] += 1;
     let ([mut p, mut a, mut factor, mut work], mut ours) = (board.built(), board.built());
     let (mut right_table, mut our_table) = (board.table.clone(), board.table.clone());
     let (mut right_turn, mut our_turn) = (false, false);

@@ -74,6 +74,18 @@ pub fn unsettled(trial: &mut Trial) {
     }
 }
 
+/// A held node some ticks off, and a pivot so large that no correction moves it: one tick is settled, two are not.
+pub fn off_the_card(trial: &mut Trial) {
+    let mut groups = Groups::base();
+    groups.fixed.push([1, 19_660_800]);
+    for off in [-2, -1, 1, 2] {
+        let mut lent = built(trial, groups.table());
+        lent.matrices[FACTOR][0] = 1 << 38;
+        lent.temperatures[0] += off;
+        trial.call(&mut lent, Call::Step);
+    }
+}
+
 /// Refusal 10, and 7 and 8 of a replacement's factor.
 pub fn lent_numbers(trial: &mut Trial) {
     let whole = built(trial, one_of_each());

@@ -9,7 +9,7 @@ use reference::Card;
 pub type Part = (&'static str, fn(&mut Trial));
 
 /// Decks, own buffers and foreign ones.
-pub const LENT: [Part; 10] = [
+pub const LENT: [Part; 11] = [
     ("decks read and written back", valid_decks),
     ("builds over slices short, exact and long", builds),
     ("the paper's checked decks", checked_decks),
@@ -19,6 +19,7 @@ pub const LENT: [Part; 10] = [
     ("steps on foreign buffers", foreign_steps),
     ("each buffer one too short", limits::short_buffers),
     ("pivots too large to settle by", limits::unsettled),
+    ("held nodes a tick or two off", limits::off_the_card),
     (
         "each limit of lent numbers, and one past it",
         limits::lent_numbers,
