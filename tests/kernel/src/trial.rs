@@ -55,6 +55,15 @@ impl Trial {
         right.answer
     }
 
+    /// A build of the deck as it is, into buffers that held something else.
+    pub fn as_built(&mut self, lent: &Lent) {
+        let mut anew = lent.clone();
+        anew.matrices[..3]
+            .iter_mut()
+            .for_each(|matrix| matrix.fill(0));
+        self.call(&mut anew, Call::Build);
+    }
+
     pub fn cases(&self) -> u32 {
         self.met.iter().flatten().sum()
     }
