@@ -1,43 +1,53 @@
--- A card of another letter adds nothing.
 use borrow.Author.Needs.{needs}
 use Rattle.loads.proofs.add_card.Statement.{statement}
 use Rattle.loads.proofs.add_card.Tie as tie
-use mathlib.Core.Path.{_∙_}
-use Rattle.loads.proofs.Walk.{none-is}
+use Rattle.loads.proofs.add_card.Reads as reads
+use Rattle.loads.proofs.add_card.Lts as lts
+use Rattle.element.proofs.card_at.Reads as card-at-reads
+use Rattle.loads.proofs.spread.Reads as spread-reads
+use Rattle.part.proofs.corners_of.Reads as corners-of-reads
+use Rattle.part.proofs.load.Reads as load-reads
 
-field-requires : tie.Need-field-requires
-field-requires c κs = search needs
+-- src/lib.rt:60:9
+use mathlib.Core.Path.{_≡_, sym, subst}
+use mathlib.Core.List.{List}
+use Prim.Native.Nat.{ℕ}
+use native.Mathlib.Omega.{arith}
+use Rattle.part.specs.Forms.{cornersOf}
+use Rattle.part.specs.Asks.{Card}
+use Rattle.part.proofs.Parts.{card-at}
+use Rattle.loads.proofs.Walk.{card-ready, card-spread, card-adds}
 
-add-heat-requires : tie.Need-add-heat-requires
-add-heat-requires c κs = search needs
+card-at-requires : tie.Need-card-at-requires
+card-at-requires c κs = search needs
 
+-- src/lib.rt:61:9
+corners-of-requires : tie.Need-corners-of-requires
+corners-of-requires c κs = card-ready (c .before .before .pre) (c .card-at .result) (c .card-at .ensures)
+
+-- src/lib.rt:62:9
+load-requires : tie.Need-load-requires
+load-requires c κs = card-ready (c .before .before .before .pre) (c .before .card-at .result) (c .before .card-at .ensures)
+
+-- src/lib.rt:63:5
+spread-requires : tie.Need-spread-requires
+spread-requires c κs = (c .before .before .corners-of .ensures .0, card-spread (c .before .before .before .before .before .pre) (cornersOf (c .before .before .corners-of .result)) (c .before .load .result) (c .before .before .before .card-at .result) (c .before .before .before .card-at .ensures) (c .before .before .corners-of .ensures .1) (c .before .load .ensures))
+
+-- src/lib.rt:56:1
 same-length : tie.Need-same-length
 same-length c = search needs
 
+-- src/lib.rt:56:1
 returns : tie.Need-returns
-returns c = search needs
-
-add-film-requires : tie.Need-add-film-requires
-add-film-requires c κs = search needs
-
-same-length-2 : tie.Need-same-length-2
-same-length-2 c = search needs
-
-returns-2 : tie.Need-returns-2
-returns-2 c = search needs
-
-returns-3 : tie.Need-returns-3
-returns-3 c = none-is (c .before .before .before .before .pre .here) (λ e. c .before .if1 .left (c .before .before .field .ensures ∙ e)) (λ e. c .if2 .left (c .before .before .field .ensures ∙ e))
+returns c = card-adds (c .before .before .before .before .before .before .before .pre) (cornersOf (c .before .before .before .before .corners-of .result)) (c .before .before .before .load .result) (c .before .before .before .before .before .card-at .result) (c .before .before .before .before .before .card-at .ensures) (c .before .before .before .before .corners-of .ensures .1) (c .before .before .before .load .ensures) (c .before .spread .ensures)
 
 pub add-card-spec : {M : Type 1} → statement M
 add-card-spec =
     tie.close
     (tie.spec
-    field-requires
-    add-heat-requires
+    card-at-requires
+    corners-of-requires
+    load-requires
+    spread-requires
     same-length
-    returns
-    add-film-requires
-    same-length-2
-    returns-2
-    returns-3)
+    returns)
