@@ -9,11 +9,11 @@ use Rattle.whole.specs.Sums.{table}
 use Rattle.whole.proofs.Sums.{table-at, table-length}
 use Rattle.paper.specs.Cards.{rows, nodes}
 use Rattle.paper.specs.Matrices.{loadOf, held}
-use Rattle.paper.specs.Step.{Board, board, boardOf, residual, residuals}
+use Rattle.paper.specs.Step.{Board, boardOf, residual, residuals}
 use Rattle.paper.proofs.Decks.{Deck}
 use Rattle.lent.specs.Rows.{Light, Mild}
 use Rattle.correction.specs.Asks.{Forth}
-use Rattle.residual.specs.Asks.{Fair, Weighed}
+use Rattle.residual.specs.Asks.{board, Fair, Weighed}
 use Rattle.residual.proofs.Paper.{residual-size}
 use Rattle.loads.specs.Asks.{Each}
 use Rattle.loads.proofs.Walk.{load-size}
