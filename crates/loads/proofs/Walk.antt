@@ -110,7 +110,7 @@ abbrev pub upTo : List ℕ → ℕ → ℕ → ℤ
 upTo t row i = sum row (λ k. addsLoad (partAt t k) i)
 
 module _ {t : List ℕ} (d : Deck t) where
-  load-size : (i m : ℕ) → m ≤ rows t → natAbs (upTo t m i) ≤ 2 ^ 57
+  pub load-size : (i m : ℕ) → m ≤ rows t → natAbs (upTo t m i) ≤ 2 ^ 57
   load-size i m h =
       omega (arith, sum-size-each m (λ k. addsLoad (partAt t k) i) (3 * 2 ^ 46) (λ k l. adds-size d k (omega arith) i), d .few)
 
