@@ -51,7 +51,7 @@ fn size(x: u32) -> usize {
 
 // D's steps of a built model.
 fn stepped(table: &[u32], p: &[i64], a: &[i64], factor: &[i64], temperatures: &mut [i64]) {
-    match step::run(table, p, a, factor, &mut temperatures[..]) {
+    match run::run(table, p, a, factor, &mut temperatures[..]) {
         Ran::Finished(steps) => printed(&temperatures[..], steps),
         Ran::Refused(why) => refused(deck::packed_refusal(why)),
     }
