@@ -15,7 +15,7 @@ ghost use Rattle.paper.specs.Judge.{stands, rises, judgeCard, judgeFrom, traile
 ghost use Rattle.cards.specs.Asks.{inBounds};
 
 // The rows of the longest table.
-const MOST_ROWS: usize = 682;
+pub const MOST_ROWS: usize = 682;
 
 // ---- a card: where it may stand, refusal 3
 

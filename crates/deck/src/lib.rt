@@ -11,6 +11,12 @@ ghost use Rattle.paper.specs.Cards.{mostRows};
 ghost use Rattle.paper.specs.Judge.{judgeFrom};
 ghost use Rattle.paper.specs.Calls as paper;
 
+// The most bytes that are read.
+pub const BYTES: usize = 65_536;
+
+// The numbers of the longest table.
+pub const NUMBERS: usize = cards::MOST_ROWS * 6;
+
 // ---- the writer
 
 // The bytes of the first rows of a table.
@@ -106,7 +112,7 @@ fn reads_of(s: &[u8], room: usize) -> Answer
     if s.len() < 42 {
         return Answer::Refused(Refusal::Length);
     }
-    if s.len() > 65_536 {
+    if s.len() > BYTES {
         return Answer::Refused(Refusal::Length);
     }
     let z = last_card(s);

@@ -5,7 +5,7 @@ use Prim.Native.Nat.{ℕ, zero, suc, _+_, _-_, _*_}
 use lib.Dec.{ltb, leb, eqb}
 use lib.IntN.{ℤ, pos}
 use lib.ListN.{length, getD, take, drop, replicate}
-use Rattle.paper.specs.Refusals.{Outcome, refused, done, when, unlessAt, after, andThen, numberOf, told, packed}
+use Rattle.paper.specs.Refusals.{Outcome, refused, done, when, unlessAt, after, andThen, numberOf, told, toldStep, packed}
 use Rattle.paper.specs.Cards.{cards, countsOf, countsAt, rowAt, rows, nodes, put}
 use Rattle.paper.specs.Text.{cardOf, textOf}
 use Rattle.paper.specs.Judge.{judgeFrom, judged, trailer, newJudged}
@@ -115,19 +115,6 @@ abbrev pub handBack : ℕ × ℕ → List ℕ → List ℕ → Handed
 handBack place b t =
     handed (packed (told (reads b (length t)))) (place .0, place .1 + readStart b (length t)) (readPart b (length t)) (readTable b t)
 
--- and to C: the answer, where the part starts and where it ends, the table
-pub record Marked : Type 0 where
-  pub answer : ℕ
-  pub start : ℕ
-  pub end : ℕ
-  pub table : List ℕ
-
-abbrev pub marked : ℕ → ℕ → ℕ → List ℕ → Marked
-marked answer start end table = record { answer = answer; start = start; end = end; table = table }
-
-abbrev pub readMarked : List ℕ → List ℕ → Marked
-readMarked b t = marked (packed (told (reads b (length t)))) (readStart b (length t)) (readEnd b (length t)) (readTable b t)
-
 -- ---- build, replace and step
 
 -- all that may be lent; a call that is not lent a slice has no use for it
@@ -236,3 +223,34 @@ stepCall z =
     (after (lentJudged n (z .slices) (leb n (length (z .temperatures))))
     (unlessAt (offScale n (z .temperatures)) OffScale
     (stepped (boardAt z) (opened n (z .slices) .factor)))))
+
+-- ---- as C has them: the answer as one number, and what is left
+
+pub record ToC (X : Type 0) : Type 0 where
+  pub answer : ℕ
+  pub left : X
+
+abbrev pub gave : {X : Type 0} → ℕ → X → ToC X
+gave answer left = record { answer = answer; left = left }
+
+-- a read: where the part starts and where it ends, and the table
+pub record Marked : Type 0 where
+  pub start : ℕ
+  pub end : ℕ
+  pub table : List ℕ
+
+abbrev pub marked : ℕ → ℕ → List ℕ → Marked
+marked start end table = record { start = start; end = end; table = table }
+
+abbrev pub readToC : List ℕ → List ℕ → ToC Marked
+readToC b t = gave (packed (told (reads b (length t)))) (marked (readStart b (length t)) (readEnd b (length t)) (readTable b t))
+
+abbrev pub writeToC : List ℕ → List ℕ → ToC (List ℕ)
+writeToC t b = gave (packed (told (writes t (length b)))) (written t b)
+
+-- build and replace, and a step
+abbrev pub exitToC : Exit → ToC Lent
+exitToC x = gave (packed (told (x .answer))) (x .lent)
+
+abbrev pub stepToC : StepExit → ToC Lent
+stepToC x = gave (packed (toldStep (x .answer))) (x .lent)

@@ -7,17 +7,17 @@ ghost use lib.ListN.{length};
 
 // The table's deck as bytes.
 fn written(table: &[u32]) {
-    let mut bytes = [0u8; 65_536];
+    let mut bytes = [0u8; deck::BYTES];
     let k = table.len() / 6 * 42;
     let answer = deck::write(table, &mut bytes);
-    if k <= 65_536 {
+    if k <= deck::BYTES {
         io::write_all(STDOUT_FILENO, &bytes[0..k]);
     }
 }
 
 fn main() {
-    let mut bytes = [0u8; 65_537];
-    let mut table = [0u32; 4_092];
+    let mut bytes = [0u8; deck::BYTES + 1];
+    let mut table = [0u32; deck::NUMBERS];
     let mut answer: u64 = 0;
     let n = io::read_full(STDIN_FILENO, &mut bytes);
     let part = deck::read(&bytes[..n], &mut table, &mut answer);
@@ -26,7 +26,7 @@ fn main() {
         return;
     }
     let k = part.len() / 42 * 6;
-    if k <= 4_092 {
+    if k <= deck::NUMBERS {
         written(&table[0..k]);
     }
 }

@@ -1,20 +1,34 @@
 use borrow.Author.Needs.{needs}
 use Rattle.gormulast.proofs.gormulast_write.Statement.{statement}
 use Rattle.gormulast.proofs.gormulast_write.Tie as tie
+use Rattle.gormulast.proofs.gormulast_write.Reads as reads
+use Rattle.gormulast.proofs.gormulast_write.Lts as lts
+use Rattle.deck.proofs.write.Reads as write-reads
+use Rattle.paper.proofs.packed_answer.Reads as packed-answer-reads
+
+-- src/lib.rt:31:26
 use mathlib.Core.Path.{ap, _∙_}
-use Rattle.paper.specs.Calls.{packed}
+use Rattle.paper.specs.Refusals.{told, packed}
+use Rattle.paper.specs.Calls.{Written, gave}
 
 write-requires : tie.Need-write-requires
 write-requires c κs = search needs
 
+-- src/lib.rt:31:5
 packed-answer-requires : tie.Need-packed-answer-requires
 packed-answer-requires c κs = search needs
 
+-- src/lib.rt:27:1
 same-length : tie.Need-same-length
 same-length c = search needs
 
+-- src/lib.rt:27:1
 returns : tie.Need-returns
-returns c = (c .packed-answer .ensures ∙ ap packed (c .before .before .before .write .ensures .0), c .before .before .before .write .ensures .1)
+returns c =
+    let e = c .before .before .before .write .ensures in
+    let answer = c .packed-answer .ensures ∙ ap (λ (w : Written). packed (told (w .answer))) e in
+    let bytes = ap (λ (w : Written). w .bytes) e in
+    λ i. gave (answer i) (bytes i)
 
 pub gormulast-write-spec : {M : Type 1} → statement M
 gormulast-write-spec =
