@@ -1,8 +1,4 @@
-pub mod Changing
-pub mod Editing
-pub mod Forming
-pub mod Leaving
-pub mod Moving
-pub mod NewCard
-pub mod Redoing
-pub mod Stages
+-- What a build and a replacement leave, at each of their ends.
+mod Leaving
+mod Built
+mod Replacing

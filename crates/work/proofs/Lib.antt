@@ -1,0 +1,3 @@
+-- Laws of the stages in the work slice.
+pub mod Stages
+pub mod Redoing
