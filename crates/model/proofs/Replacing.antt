@@ -66,10 +66,25 @@ drop-at [] ys (suc n) e = absurd (omega arith)
 drop-at (x ∷ xs) ys zero e = absurd (omega arith)
 drop-at (x ∷ xs) ys (suc n) e = drop-at xs ys n (omega arith)
 
+-- a slice of which the first k numbers were lent twice
+pub twice-lent : (k : ℕ) (w x y : List ℤ) → k ≤ length w → length x ≡ length (take (k - 0) w) → length y ≡ length (take (k - 0) (x ++ drop (k - 0) w)) → length (y ++ drop (k - 0) (x ++ drop (k - 0) w)) ≡ length w
+twice-lent k w x y h ex ey =
+    let once = x ++ drop (k - 0) w in
+    let long-x : length x ≡ k - 0 = ex ∙ length-take-le (k - 0) w (omega arith) in
+    let long-once : length once ≡ length w = omega (arith, length-append x (drop (k - 0) w), length-drop (k - 0) w) in
+    let long-y : length y ≡ k - 0 = ey ∙ length-take-le (k - 0) once (omega arith) in
+    omega (arith, length-append y (drop (k - 0) once), length-drop (k - 0) once)
+
 -- ---- refusals but the factor's
 
-refusal-same : {X : Type 0} (q r : Refusal) → Refused q ≡ Refused r → refused {X = X} q ≡ refused r
+refusal-same : {X : Type 0} (q r : Refusal) → Refused q ≡ Refused r → _≡_ {A = Outcome X} (refused q) (refused r)
 refusal-same q r e = ap (λ (a : Answer). after a (refused r)) e
+
+refuses : {X : Type 0} (a : Answer) (o : Outcome X) (r : Refusal) → a ≡ Refused r → after a o ≡ refused r
+refuses a o r e = ap (λ (x : Answer). after x o) e
+
+passes : {X : Type 0} (a : Answer) (o : Outcome X) → a ≡ Done → after a o ≡ o
+passes a o e = ap (λ (x : Answer). after x o) e
 
 chain : {X : Type 0} (a b c d : Answer) (o : Outcome X) (r : Refusal) → (d ≡ Refused r → o ≡ refused r) → andThen a (andThen b (andThen c d)) ≡ Refused r → after a (after b (after c o)) ≡ refused r
 chain Done Done Done d o r f e = f e
@@ -141,6 +156,10 @@ allowed t p a f w card new six e g =
     let (lp, la, lf) = enough-told (nodes t) (slices p a f) (told .room) in
     record { ok = ok; fit = fit; own = own; form = form; changes = changes-of t card new six ok fit; place = new-place t card new fit; for-p = lp; for-a = la; for-f = lf; for-w = leb-true (matrix (nodes t)) (length w) (told .other) }
 
+-- as code tells it
+pub stirring : {b c : Bool} (t : List ℕ) (row : ℕ) (new : List ℕ) → Changes t row new → ((s x : List ℕ) → b ≡ partOf s x (kindOf (getD new 0 0)) .stirs) → b ≡ c → stirs t row ≡ c
+stirring t row new h f e = sym (stirs-new t row new h) ∙ sym (f t new) ∙ e
+
 -- ---- the call's ends
 
 module _ (t : List ℕ) (p a f w : List ℤ) (card : ℕ) (new : List ℕ) where
@@ -155,7 +174,7 @@ module _ (t : List ℕ) (p a f w : List ℤ) (card : ℕ) (new : List ℕ) where
 
   form-refused : (b : Bool) (r : Refusal) → stirs t row ≡ b → cond b (formOf t′ row) Done ≡ Refused r → replaced t (opened (nodes t) (slices p a f)) row new ≡ refused r
   unfolding replaced redone
-  form-refused true r st e = ap (λ (b : Bool). cond b (redone t (opened (nodes t) (slices p a f)) row new) (done (opened (nodes t) (slices p a f)))) st ∙ ap (λ (x : Answer). after x _) e
+  form-refused true r st e = ap (λ (b : Bool). cond b (redone t (opened (nodes t) (slices p a f)) row new) (done (opened (nodes t) (slices p a f)))) st ∙ refuses (formOf t′ row) _ r e
   form-refused false r st e = done-refused (sym e)
 
   pub replace-refused : {q : Answer} (r : Refusal) → q ≡ Refused r → q ≡ askedJudged t (slices p a f) w card new → left (Refused r) z ≡ replaceCall z card new
@@ -169,7 +188,7 @@ module _ (t : List ℕ) (p a f w : List ℤ) (card : ℕ) (new : List ℕ) where
     ends : {o : Outcome Slices} → replaced t (opened (nodes t) (slices p a f)) row new ≡ o → leaves t′ (stirs t row) z o ≡ replaceCall z card new
     ends {o} e =
         ap (leaves t′ (stirs t row) z) (sym (
-          ap (λ (x : Answer). after x _) (h .ok) ∙ ap (λ (x : Answer). after x _) (h .fit) ∙ ap (λ (x : Answer). after x _) (h .own) ∙ e))
+          passes (judged t) _ (h .ok) ∙ passes (newJudged t card new) _ (h .fit) ∙ passes (lentJudged (nodes t) (slices p a f) (roomy (nodes t) w)) _ (h .own) ∙ e))
         ∙ sym (replace-is z card new)
 
     -- the card alone
@@ -214,8 +233,8 @@ module _ (t : List ℕ) (p a f w : List ℤ) (card : ℕ) (new : List ℕ) where
       abbrev A₀ : List ℤ
       A₀ = take (matrix n) a
 
-      pub least-asks : Full c × ((1 ≤ c .count) × (1 ≤ least (cornersOf c) (getD (cornersOf c) 0 1)))
-      least-asks = (full, some-corners t row new (renews st) c full e)
+      pub least-asks : Full c × (1 ≤ c .count) × (1 ≤ least (cornersOf c) (getD (cornersOf c) 0 1))
+      least-asks = (full, some-corners t row new (renews st) c full e .0, some-corners t row new (renews st) c full e .1)
 
       module _ (m : ℕ) (em : m ≡ least (cornersOf c) (getD (cornersOf c) 0 1) - 1) where
         first-is : m ≡ firstRow t row new
@@ -323,20 +342,18 @@ module _ (t : List ℕ) (p a f w : List ℤ) (card : ℕ) (new : List ℕ) where
                 changes = h .changes;
                 cut = omega (arith, ap length again, long-x, above-room);
                 of-below = omega (arith, ap length again, long-x, above-room, length-take-le (k - s) (drop s f) (omega (arith, length-drop s f, h .for-f, above-room)));
-                to-P = subst (λ (y : ℕ). Takes′ (take y p) (storedSquare t row new)) (sym k-is) (takes-P t row new (renews st) c full e P₀ (long-cut p (h .for-p)) (small-entries P₀ light-p) (storedSquare t row new) refl);
-                to-A = subst (λ (y : ℕ). Takes′ (take y a) q) (sym k-is) (takes-A t row new (renews st) c full e A₀ (long-cut a (h .for-a)) (small-entries A₀ light-a) q sq);
+                to-P = subst (λ (y : ℕ). Takes (c .count) (take y p) (numbers (c .nodes)) (storedSquare t row new)) (sym k-is) (takes-P t row new (renews st) c full e P₀ (long-cut p (h .for-p)) (small-entries P₀ light-p) (storedSquare t row new) refl);
+                to-A = subst (λ (y : ℕ). Takes (c .count) (take y a) (numbers (c .nodes)) q) (sym k-is) (takes-A t row new (renews st) c full e A₀ (long-cut a (h .for-a)) (small-entries A₀ light-a) q sq);
               }
-                where
-                  abbrev Takes′ : List ℤ → List (List ℤ) → Type 0
-                  Takes′ xs r = Takes (c .count) xs (numbers (c .nodes)) r
 
-              pub replace-done : {p′ a′ f′ w′ : List ℤ} → p′ ≡ addSquare (c .count) (take (k - 0) p) (numbers (c .nodes)) (at (storedSquare t row new)) → a′ ≡ addSquare (c .count) (take (k - 0) a) (numbers (c .nodes)) (at q)
+              pub replace-done : {t″ : List ℕ} {p′ a′ f′ w′ : List ℤ} → t″ ≡ t′ → p′ ≡ addSquare (c .count) (take (k - 0) p) (numbers (c .nodes)) (at (storedSquare t row new)) → a′ ≡ addSquare (c .count) (take (k - 0) a) (numbers (c .nodes)) (at q)
                   → f′ ≡ drop s (take (k - 0) (x ++ drop (k - 0) w)) → w′ ≡ replicate (length (take (k - 0) (x ++ drop (k - 0) w))) (pos 0)
-                  → left Done (lent t′ (p′ ++ drop (k - 0) p) (a′ ++ drop (k - 0) a) (take s f ++ (f′ ++ drop (k - s) (drop s f))) (w′ ++ drop (k - 0) (x ++ drop (k - 0) w)) []) ≡ replaceCall z card new
-              replace-done {p′} {a′} {f′} {w′} ep ea ef ew =
+                  → left Done (lent t″ (p′ ++ drop (k - 0) p) (a′ ++ drop (k - 0) a) (take s f ++ (f′ ++ drop (k - s) (drop s f))) (w′ ++ drop (k - 0) (x ++ drop (k - 0) w)) []) ≡ replaceCall z card new
+              replace-done {t″} {p′} {a′} {f′} {w′} et ep ea ef ew =
                   let (y, is, xy) = made-told in
                   let sl : Slices = slices (addSquare (c .count) P₀ (numbers (c .nodes)) (at (storedSquare t row new))) (added A₀ c q) y in
-                  accepted t p a f w t′ sl (p′ ++ drop (k - 0) p) (a′ ++ drop (k - 0) a) (take s f ++ (f′ ++ drop (k - s) (drop s f))) (w′ ++ drop (k - 0) (x ++ drop (k - 0) w))
+                  ap (λ (v : List ℕ). left Done (lent v (p′ ++ drop (k - 0) p) (a′ ++ drop (k - 0) a) (take s f ++ (f′ ++ drop (k - s) (drop s f))) (w′ ++ drop (k - 0) (x ++ drop (k - 0) w)) [])) et
+                  ∙ accepted t p a f w t′ sl (p′ ++ drop (k - 0) p) (a′ ++ drop (k - 0) a) (take s f ++ (f′ ++ drop (k - s) (drop s f))) (w′ ++ drop (k - 0) (x ++ drop (k - 0) w))
                   (over-is p′ (sl .p) p (ep ∙ ap (λ (v : ℕ). addSquare (c .count) (take v p) (numbers (c .nodes)) (at (storedSquare t row new))) k-is) (length-square (c .count) P₀ (numbers (c .nodes)) (at (storedSquare t row new)) ∙ long-cut p (h .for-p)))
                   (over-is a′ (sl .a) a (ea ∙ ap (λ (v : ℕ). addSquare (c .count) (take v a) (numbers (c .nodes)) (at q)) k-is) (length-square (c .count) A₀ (numbers (c .nodes)) (at q) ∙ long-cut a (h .for-a)))
                   (factor-over y is xy)
@@ -356,7 +373,8 @@ module _ (t : List ℕ) (p a f w : List ℤ) (card : ℕ) (new : List ℕ) where
                   factor-over y is xy =
                       let long-y : length y ≡ matrix n = sym (ap length xy) ∙ long-x in
                       let low-part : f′ ≡ drop (tri m) y = ef ∙ (λ i. drop (es i) ((again ∙ xy) i)) in
-                      let rest : drop (k - s) (drop s f) ≡ drop (length y) f = drop-drop (k - s) s f ∙ ap (λ (v : ℕ). drop v f) (omega (arith, above-room)) in
+                      let all : s + (k - s) ≡ length y = omega (arith, above-room) in
+                      let rest : drop (k - s) (drop s f) ≡ drop (length y) f = drop-drop (k - s) s f ∙ ap (λ (v : ℕ). drop v f) all in
                       (λ i. take (es i) f ++ (low-part i ++ rest i))
                       ∙ sym (append-assoc (take (tri m) f) (drop (tri m) y) (drop (length y) f))
                       ∙ ap (λ (v : List ℤ). v ++ drop (length y) f) (put-below m n (take (tri m) f) (addedFixed t (added A₀ c q)) y low long-above (fixed-length t A₀ (take (tri m) f) (take (matrix n) w) c q m core) is)
