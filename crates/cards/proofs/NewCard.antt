@@ -1,36 +1,16 @@
 -- The judge of a new card, step by step.
-use mathlib.Core.Path.{_≡_, ap, _∙_}
+use mathlib.Core.Path.{_≡_}
 use mathlib.Core.Bool.{true, false}
 use mathlib.Core.List.{List}
-use Prim.Native.Nat.{ℕ, suc, _+_, _-_, _≤_, _<_}
+use Prim.Native.Nat.{ℕ, _+_, _-_, _≤_, _<_}
 use native.Mathlib.Omega.{arith}
-use borrow.Author.Tests.{eq-eqb, ne-eqb, lt-ltb, le-ltb, le-leb, lt-leb}
-use lib.ListN.{getD}
+use borrow.Author.Tests.{lt-ltb, le-ltb, le-leb, lt-leb}
 use Rattle.paper.specs.Kinds.{about, aboutOf}
 use Rattle.paper.specs.Cards.{columnsOf, inRange, agree, orderOf, countsAt, rowAt, rows}
 use Rattle.paper.specs.Judge.{clean, answers, newJudged}
 use Rattle.paper.specs.declared.Answer.the-variants.{Done, Refused}
 use Rattle.paper.specs.declared.Refusal.the-variants.{Form, Range, Replacement}
 use Rattle.paper.specs.declared.Kind.the-variants.{Other}
-
--- two cards' first numbers, from the last of them down
-module _ (x y : List ℕ) where
-  pub agree-on : (k : ℕ) → 0 < k → getD x (k - 1) 0 ≡ getD y (k - 1) 0 → agree x y k ≡ agree x y (k - 1)
-  unfolding agree
-  agree-on k l e =
-      let m : k ≡ suc (k - 1) = omega arith in
-      ap (agree x y) m ∙ simp (eq-eqb (getD x (k - 1) 0) (getD y (k - 1) 0) e)
-
-  pub agree-here : (k : ℕ) → 0 < k → (getD x (k - 1) 0 ≡ getD y (k - 1) 0 → ⊥) → false ≡ agree x y k
-  unfolding agree
-  agree-here k l e =
-      let m : suc (k - 1) ≡ k = omega arith in
-      let q : false ≡ agree x y (suc (k - 1)) = simp (ne-eqb (getD x (k - 1) 0) (getD y (k - 1) 0) e) in
-      q ∙ ap (agree x y) m
-
-  pub agree-end : (k : ℕ) → k ≡ 0 → true ≡ agree x y k
-  unfolding agree
-  agree-end k e = rw e
 
 module _ (t : List ℕ) (card : ℕ) (new : List ℕ) where
   pub answers-none : card ≡ 0 → false ≡ answers t card new

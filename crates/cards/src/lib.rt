@@ -1,5 +1,4 @@
 // The judge of a card, of a table of cards and of a new card: it asks the tables of kinds, and names no kind but Z and Other.
-use kinds::Columns;
 use paper::About;
 use paper::Answer;
 use paper::Counts;
@@ -12,14 +11,13 @@ ghost use lib.ListN.{length, getD};
 ghost use Rattle.paper.specs.Kinds.{kindAt, aboutOf};
 ghost use Rattle.paper.specs.Cards as paper;
 ghost use Rattle.paper.specs.Judge.{stands, rises, judgeCard, judgeFrom, trailer, judgeRows, judged, answers, newJudged};
-ghost use Rattle.cards.specs.Asks.{inBounds};
 
 // The rows of the longest table.
 pub const MOST_ROWS: usize = 682;
 
-// ---- a card: where it may stand, refusal 3
+// ---- a card
 
-// After i cards, the last of them of the group of this order.
+// Whether it may stand after i cards, the last of them of the group of this order.
 fn stands_at(counts: Counts, i: usize, group: u32, a: About) -> bool
     requires { ⌜ a .section ≤ 6 ⌝ }
     ensures { λ r. ⌜ r ≡ stands counts i group a ⌝ }
@@ -33,44 +31,6 @@ fn stands_at(counts: Counts, i: usize, group: u32, a: About) -> bool
         return false;
     }
     group <= a.order
-}
-
-// Whether the fields after those used are 0.
-fn is_clean(used: usize, card: &[u32]) -> bool
-    requires { ⌜ (used ≤ 5) × (length (now card) ≡ 6) ⌝ }
-    ensures { λ r. ⌜ r ≡ paper.zeros (now (card .entry)) (6 - (1 + used)) (1 + used) ⌝ }
-{
-    let mut k = 1 + used;
-    while k < 6 {
-        if card[k] != 0 {
-            return false;
-        }
-        k += 1;
-    }
-    true
-}
-
-// ---- its fields, refusal 4
-
-// Whether a card's five fields lie within their columns.
-fn in_range(columns: Columns, card: &[u32]) -> bool
-    requires { ⌜ length (now card) ≡ 6 ⌝ }
-    ensures { λ r. ⌜ r ≡ inBounds (columns .least) (columns .most) (now (card .entry)) 5 0 ⌝ }
-{
-    let least = columns.least;
-    let most = columns.most;
-    let mut k = 0;
-    while k < 5 {
-        let v = card[k + 1] as u64;
-        if v < least[k] {
-            return false;
-        }
-        if most[k] < v {
-            return false;
-        }
-        k += 1;
-    }
-    true
 }
 
 // What rises within a group.
@@ -106,10 +66,10 @@ pub fn judge_card(counts: Counts, i: usize, group: u32, key: u32, k: Kind, card:
         return Answer::Refused(Refusal::Form((i + 1) as u32));
     }
     let columns = kinds::columns_of(counts, k);
-    if !is_clean(columns.used, card) {
+    if !kinds::is_clean(columns.used, card) {
         return Answer::Refused(Refusal::Form((i + 1) as u32));
     }
-    if !in_range(columns, card) {
+    if !kinds::in_range(columns, card) {
         return Answer::Refused(Refusal::Range((i + 1) as u32));
     }
     if !rises_from(group, key, a, card) {
@@ -147,7 +107,7 @@ pub fn is_trailer(card: &[u32]) -> bool
     if card[0] != kinds::about(Kind::Z).letter {
         return false;
     }
-    in_range(kinds::columns_of(kinds::counts_of(card), Kind::Z), card)
+    kinds::in_range(kinds::columns_of(kinds::counts_of(card), Kind::Z), card)
 }
 
 // A table of `rows` cards and a trailer.
@@ -185,21 +145,6 @@ pub fn judge(table: &[u32]) -> Answer
 
 // ---- a new card
 
-// Whether the first n numbers of two cards are the same.
-fn agree(x: &[u32], y: &[u32], n: usize) -> bool
-    requires { ⌜ (length (now x) ≡ 6) × (length (now y) ≡ 6) × (n ≤ 6) ⌝ }
-    ensures { λ r. ⌜ r ≡ paper.agree (now (x .entry)) (now (y .entry)) n ⌝ }
-{
-    let mut k = n;
-    while 0 < k {
-        if x[k - 1] != y[k - 1] {
-            return false;
-        }
-        k -= 1;
-    }
-    true
-}
-
 // Whether it may take the place of the card asked for: else refusal 13.
 fn answers_to(table: &[u32], card: u32, keeps: usize, new: &[u32]) -> bool
     requires { ⌜ (length (now new) ≡ 6) × (keeps ≡ aboutOf (now new) .keeps) × (keeps ≤ 4) ⌝ }
@@ -217,7 +162,7 @@ fn answers_to(table: &[u32], card: u32, keeps: usize, new: &[u32]) -> bool
     }
     let at = (c - 1) * 6;
     let end = at + 6;
-    agree(new, &table[at..end], 1 + keeps)
+    kinds::agree(new, &table[at..end], 1 + keeps)
 }
 
 // What a table's Z counts.
@@ -240,13 +185,13 @@ fn judge_change(table: &[u32], card: u32, new: &[u32]) -> Answer
         return Answer::Refused(Refusal::Form(card));
     }
     let columns = kinds::columns_of(counts_at(table), k);
-    if !is_clean(columns.used, new) {
+    if !kinds::is_clean(columns.used, new) {
         return Answer::Refused(Refusal::Form(card));
     }
     if !answers_to(table, card, a.keeps, new) {
         return Answer::Refused(Refusal::Replacement(card));
     }
-    if !in_range(columns, new) {
+    if !kinds::in_range(columns, new) {
         return Answer::Refused(Refusal::Range(card));
     }
     Answer::Done

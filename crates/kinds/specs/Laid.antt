@@ -1,6 +1,8 @@
 -- The tables as the code lays them out. No reader need believe these: public contracts of the crates above speak of crate paper alone.
+use mathlib.Core.Bool.{Bool, true, _&&_}
 use mathlib.Core.List.{List, [], _∷_}
-use Prim.Native.Nat.{ℕ, _+_}
+use Prim.Native.Nat.{ℕ, zero, suc, _+_}
+use lib.Dec.{leb}
 use lib.ListN.{length, getD}
 use Rattle.paper.specs.Cards.{Column, _⋯_}
 use Rattle.paper.specs.declared.Counts.{Counts}
@@ -28,3 +30,9 @@ laid cs = record {
   least = column cs 0 .least ∷ column cs 1 .least ∷ column cs 2 .least ∷ column cs 3 .least ∷ column cs 4 .least ∷ [];
   most = column cs 0 .most ∷ column cs 1 .most ∷ column cs 2 .most ∷ column cs 3 .most ∷ column cs 4 .most ∷ [];
 }
+
+-- `inRange` over the two arrays
+unfoldable pub inBounds : List ℕ → List ℕ → List ℕ → ℕ → ℕ → Bool
+inBounds ls ms card zero k = true
+inBounds ls ms card (suc n) k =
+    (leb (getD ls k 0) (getD card (suc k) 0) && leb (getD card (suc k) 0) (getD ms k 0)) && inBounds ls ms card n (suc k)

@@ -4,11 +4,11 @@ use paper::Counts;
 use paper::Kind;
 use paper::Ticks;
 ghost use mathlib.Core.Path.{_≡_};
-ghost use Prim.Native.Nat.{_≤_, _<_};
-ghost use lib.ListN.{length, getD};
+ghost use Prim.Native.Nat.{_+_, _-_, _≤_};
+ghost use lib.ListN.{length};
 ghost use Rattle.paper.specs.Kinds as kinds;
 ghost use Rattle.paper.specs.Cards as cards;
-ghost use Rattle.kinds.specs.Laid.{starts, columnsAs, laid};
+ghost use Rattle.kinds.specs.Laid.{starts, columnsAs, laid, inBounds};
 
 // ---- kinds
 
@@ -160,6 +160,57 @@ pub fn counts_of(card: &[u32]) -> Counts
         elements: card[4],
         loads: card[5],
     }
+}
+
+// Whether the fields after those used are 0.
+pub fn is_clean(used: usize, card: &[u32]) -> bool
+    requires { ⌜ (used ≤ 5) × (length (now card) ≡ 6) ⌝ }
+    ensures { λ r. ⌜ r ≡ cards.zeros (now (card .entry)) (6 - (1 + used)) (1 + used) ⌝ }
+{
+    let mut k = 1 + used;
+    while k < 6 {
+        if card[k] != 0 {
+            return false;
+        }
+        k += 1;
+    }
+    true
+}
+
+// Whether a card's five fields lie within their columns.
+pub fn in_range(columns: Columns, card: &[u32]) -> bool
+    requires { ⌜ length (now card) ≡ 6 ⌝ }
+    ensures { λ r. ⌜ r ≡ inBounds (columns .least) (columns .most) (now (card .entry)) 5 0 ⌝ }
+{
+    let least = columns.least;
+    let most = columns.most;
+    let mut k = 0;
+    while k < 5 {
+        let v = card[k + 1] as u64;
+        if v < least[k] {
+            return false;
+        }
+        if most[k] < v {
+            return false;
+        }
+        k += 1;
+    }
+    true
+}
+
+// Whether the first n numbers of two cards are the same.
+pub fn agree(x: &[u32], y: &[u32], n: usize) -> bool
+    requires { ⌜ (length (now x) ≡ 6) × (length (now y) ≡ 6) × (n ≤ 6) ⌝ }
+    ensures { λ r. ⌜ r ≡ cards.agree (now (x .entry)) (now (y .entry)) n ⌝ }
+{
+    let mut k = n;
+    while 0 < k {
+        if x[k - 1] != y[k - 1] {
+            return false;
+        }
+        k -= 1;
+    }
+    true
 }
 
 // A card's six numbers into a row of a table.

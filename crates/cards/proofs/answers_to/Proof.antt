@@ -1,10 +1,6 @@
 use borrow.Author.Needs.{needs}
 use Rattle.cards.proofs.answers_to.Statement.{statement}
 use Rattle.cards.proofs.answers_to.Tie as tie
-use Rattle.cards.proofs.answers_to.Reads as reads
-use Rattle.cards.proofs.answers_to.Lts as lts
-use Rattle.cards.proofs.agree.Reads as agree-reads
--- src/lib.rt:209:9
 use mathlib.Core.Path.{sym, ap, _∙_}
 use mathlib.Core.List.{List}
 use Prim.Native.Nat.{ℕ, _+_, _-_}
@@ -16,51 +12,39 @@ use Rattle.cards.proofs.NewCard.{answers-none, answers-past, answers-ke
 returns : tie.Need-returns
 returns c = answers-none (c .before .before .before .args .table .now) (c .before .before .before .args .card) (c .before .before .before .args .new .now) (c .if1 .taken)
 
--- src/lib.rt:213:9
 returns-2 : tie.Need-returns-2
 returns-2 c = answers-past (c .before .before .before .before .args .table .now) (c .before .before .before .before .args .card) (c .before .before .before .before .args .new .now) (omega arith) (omega arith)
 
--- src/lib.rt:216:9
 returns-3 : tie.Need-returns-3
 returns-3 c = answers-kept (c .before .before .before .before .before .args .table .now) (c .before .before .before .before .before .args .card) (c .before .before .before .before .before .args .new .now) (omega arith) (omega arith) (sym (c .before .before .before .before .before .pre .1) ∙ c .if3 .taken)
 
--- src/lib.rt:218:15
 sub-at : tie.Need-sub-at
 sub-at c = search needs
 
--- src/lib.rt:218:14
 mul-at : tie.Need-mul-at
 mul-at c = search needs
 
--- src/lib.rt:219:15
 add-end : tie.Need-add-end
 add-end c = search needs
 
--- src/lib.rt:220:16
 mul-agree : tie.Need-mul-agree
 mul-agree c = search needs
 
--- src/lib.rt:220:16
 sub-agree : tie.Need-sub-agree
 sub-agree c = search needs
 
--- src/lib.rt:220:16
 part-agree-start : tie.Need-part-agree-start
 part-agree-start c = search needs
 
--- src/lib.rt:220:16
 part-agree-end : tie.Need-part-agree-end
 part-agree-end c = search needs
 
--- src/lib.rt:220:33
 add-agree : tie.Need-add-agree
 add-agree c = search needs
 
--- src/lib.rt:220:5
 agree-requires : tie.Need-agree-requires
 agree-requires c κs = search needs
 
--- src/lib.rt:204:1
 returns-4 : tie.Need-returns-4
 returns-4 c =
     let a = c .before .before .before .before .before .before .before .args in

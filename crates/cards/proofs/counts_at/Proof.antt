@@ -1,10 +1,6 @@
 use borrow.Author.Needs.{needs}
 use Rattle.cards.proofs.counts_at.Statement.{statement}
 use Rattle.cards.proofs.counts_at.Tie as tie
-use Rattle.cards.proofs.counts_at.Reads as reads
-use Rattle.cards.proofs.counts_at.Lts as lts
-use Rattle.kinds.proofs.counts_of.Reads as counts-of-reads
--- src/lib.rt:227:15
 use mathlib.Core.Path.{ap, _∙_}
 use Prim.Native.Nat.{_-_}
 use Rattle.paper.specs.Cards.{countsOf, rows}
@@ -13,35 +9,27 @@ use Rattle.cards.proofs.Rows.{lent}
 sub-at : tie.Need-sub-at
 sub-at c = search needs
 
--- src/lib.rt:227:14
 mul-at : tie.Need-mul-at
 mul-at c = search needs
 
--- src/lib.rt:228:15
 add-end : tie.Need-add-end
 add-end c = search needs
 
--- src/lib.rt:229:22
 mul-counts-of : tie.Need-mul-counts-of
 mul-counts-of c = search needs
 
--- src/lib.rt:229:22
 sub-counts-of : tie.Need-sub-counts-of
 sub-counts-of c = search needs
 
--- src/lib.rt:229:22
 part-counts-of-start : tie.Need-part-counts-of-start
 part-counts-of-start c = search needs
 
--- src/lib.rt:229:22
 part-counts-of-end : tie.Need-part-counts-of-end
 part-counts-of-end c = search needs
 
--- src/lib.rt:229:5
 counts-of-requires : tie.Need-counts-of-requires
 counts-of-requires c κs = search needs
 
--- src/lib.rt:223:1
 returns : tie.Need-returns
 returns c =
     let t = c .before .before .before .args .t .now in

@@ -1,13 +1,6 @@
 use borrow.Author.Needs.{needs}
 use Rattle.cards.proofs.is_trailer.Statement.{statement}
 use Rattle.cards.proofs.is_trailer.Tie as tie
-use Rattle.cards.proofs.is_trailer.Reads as reads
-use Rattle.cards.proofs.is_trailer.Lts as lts
-use Rattle.cards.proofs.in_range.Reads as in-range-reads
-use Rattle.kinds.proofs.about.Reads as about-reads
-use Rattle.kinds.proofs.columns_of.Reads as columns-of-reads
-use Rattle.kinds.proofs.counts_of.Reads as counts-of-reads
--- src/lib.rt:147:8
 use mathlib.Core.Path.{_≡_, sym, ap, _∙_}
 use lib.ListN.{getD}
 use Rattle.paper.specs.Kinds.{letterOf}
@@ -15,33 +8,27 @@ use Rattle.paper.specs.Cards.{columnsOf, inRange}
 use Rattle.paper.specs.declared.About.{About}
 use Rattle.paper.specs.declared.Counts.{Counts}
 use Rattle.paper.specs.declared.Kind.the-variants.{Z}
-use Rattle.cards.proofs.Ranges.{card-range}
+use Rattle.kinds.proofs.Ranges.{card-range}
 use Rattle.cards.proofs.OneCard.{no-trailer, its-kind, a-trailer}
 
 shared-slice-read-if1 : tie.Need-shared-slice-read-if1
 shared-slice-read-if1 c = search needs
 
--- src/lib.rt:147:19
 about-requires : tie.Need-about-requires
 about-requires c κs = search needs
 
--- src/lib.rt:148:9
 returns : tie.Need-returns
 returns c = no-trailer (c .before .before .before .before .before .args .card .now) (λ e. c .if1 .taken (e ∙ sym (ap (λ (a : About). a .letter) (c .before .before .about .ensures))))
 
--- src/lib.rt:150:32
 counts-of-requires : tie.Need-counts-of-requires
 counts-of-requires c κs = search needs
 
--- src/lib.rt:150:14
 columns-of-requires : tie.Need-columns-of-requires
 columns-of-requires c κs = search needs
 
--- src/lib.rt:150:5
 in-range-requires : tie.Need-in-range-requires
 in-range-requires c κs = search needs
 
--- src/lib.rt:143:1
 returns-2 : tie.Need-returns-2
 returns-2 c =
     let card = c .before .before .before .before .before .before .before .before .args .card .now in

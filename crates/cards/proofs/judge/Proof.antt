@@ -1,10 +1,6 @@
 use borrow.Author.Needs.{needs}
 use Rattle.cards.proofs.judge.Statement.{statement}
 use Rattle.cards.proofs.judge.Tie as tie
-use Rattle.cards.proofs.judge.Reads as reads
-use Rattle.cards.proofs.judge.Lts as lts
-use Rattle.cards.proofs.judge_rows.Reads as judge-rows-reads
--- src/lib.rt:175:9
 use mathlib.Core.Path.{_∙_}
 use native.Mathlib.Omega.{arith}
 use Rattle.paper.proofs.Judging.{judged-sixes, judged-short, judged-long, judged-rows}
@@ -12,27 +8,21 @@ use Rattle.paper.proofs.Judging.{judged-sixes, judged-short, judged-long, judge
 returns : tie.Need-returns
 returns c = judged-sixes (c .before .before .args .table .now) (c .if1 .taken)
 
--- src/lib.rt:178:9
 returns-2 : tie.Need-returns-2
 returns-2 c = judged-short (c .before .before .before .args .table .now) (c .before .if1 .left) (omega arith)
 
--- src/lib.rt:180:8
 mul-if3 : tie.Need-mul-if3
 mul-if3 c = search needs
 
--- src/lib.rt:181:9
 returns-3 : tie.Need-returns-3
 returns-3 c = judged-long (c .before .before .before .before .args .table .now) (c .before .before .if1 .left) (omega arith) (omega arith)
 
--- src/lib.rt:183:23
 sub-judge-rows : tie.Need-sub-judge-rows
 sub-judge-rows c = search needs
 
--- src/lib.rt:183:5
 judge-rows-requires : tie.Need-judge-rows-requires
 judge-rows-requires c κs = search needs
 
--- src/lib.rt:170:1
 returns-4 : tie.Need-returns-4
 returns-4 c = c .judge-rows .ensures ∙ judged-rows (c .before .before .before .before .before .args .table .now) (c .before .before .before .if1 .left) (omega arith) (omega arith)
 

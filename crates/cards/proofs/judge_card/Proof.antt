@@ -1,15 +1,6 @@
 use borrow.Author.Needs.{needs}
 use Rattle.cards.proofs.judge_card.Statement.{statement}
 use Rattle.cards.proofs.judge_card.Tie as tie
-use Rattle.cards.proofs.judge_card.Reads as reads
-use Rattle.cards.proofs.judge_card.Lts as lts
-use Rattle.cards.proofs.in_range.Reads as in-range-reads
-use Rattle.cards.proofs.is_clean.Reads as is-clean-reads
-use Rattle.cards.proofs.rises_from.Reads as rises-from-reads
-use Rattle.cards.proofs.stands_at.Reads as stands-at-reads
-use Rattle.kinds.proofs.about.Reads as about-reads
-use Rattle.kinds.proofs.columns_of.Reads as columns-of-reads
--- src/lib.rt:104:9
 use mathlib.Core.Path.{_≡_, sym, ap, _∙_}
 use Prim.Native.Nat.{_≤_}
 use native.Mathlib.Omega.{arith}
@@ -18,27 +9,23 @@ use Rattle.paper.specs.Kinds.{about}
 use Rattle.paper.specs.Judge.{stands, rises}
 use Rattle.paper.specs.declared.About.{About}
 use Rattle.kinds.proofs.Sections.{small}
-use Rattle.cards.proofs.Ranges.{card-range, card-clean, few}
+use Rattle.kinds.proofs.Ranges.{card-range, card-clean, few}
 use Rattle.cards.proofs.OneCard.{misplaced, unclean, out-of-range, unrisen, in-order}
 
 about-requires : tie.Need-about-requires
 about-requires c κs = search needs
 
--- src/lib.rt:105:9
 stands-at-requires : tie.Need-stands-at-requires
 stands-at-requires c κs =
     let e = ap (λ (a : About). a .section) (c .about .ensures) in
     omega (arith, e, small (c .before .before .args .k) .section)
 
--- src/lib.rt:106:47
 add-t11 : tie.Need-add-t11
 add-t11 c = search needs
 
--- src/lib.rt:106:46
 cast-t12 : tie.Need-cast-t12
 cast-t12 c = search needs
 
--- src/lib.rt:106:9
 returns : tie.Need-returns
 returns c =
     let a = c .before .before .before .before .args in
@@ -46,23 +33,18 @@ returns c =
     let s = sym (c .before .stands-at .ensures ∙ ap (stands (a .counts) (a .i) (a .group)) e) in
     misplaced (a .counts) (a .card .now) (a .i) (a .group) (a .key) (s ∙ not-true _ (c .if1 .taken))
 
--- src/lib.rt:108:9
 columns-of-requires : tie.Need-columns-of-requires
 columns-of-requires c κs = search needs
 
--- src/lib.rt:109:9
 is-clean-requires : tie.Need-is-clean-requires
 is-clean-requires c κs = (few (c .before .before .before .before .before .args .counts) (c .before .before .before .before .before .args .card .now) (c .before .before .before .before .before .pre .1) (c .columns-of .ensures), search needs)
 
--- src/lib.rt:110:47
 add-t14 : tie.Need-add-t14
 add-t14 c = search needs
 
--- src/lib.rt:110:46
 cast-t15 : tie.Need-cast-t15
 cast-t15 c = search needs
 
--- src/lib.rt:110:9
 returns-2 : tie.Need-returns-2
 returns-2 c =
     let a = c .before .before .before .before .before .before .before .args in
@@ -71,19 +53,15 @@ returns-2 c =
     let q = sym (c .before .is-clean .ensures ∙ card-clean (a .counts) (a .card .now) (c .before .before .before .before .before .before .before .pre .1) (c .before .before .columns-of .ensures)) in
     unclean (a .counts) (a .card .now) (a .i) (a .group) (a .key) (s ∙ not-false _ (c .before .before .before .if1 .left)) (q ∙ not-true _ (c .if2 .taken))
 
--- src/lib.rt:112:9
 in-range-requires : tie.Need-in-range-requires
 in-range-requires c κs = search needs
 
--- src/lib.rt:113:48
 add-t17 : tie.Need-add-t17
 add-t17 c = search needs
 
--- src/lib.rt:113:47
 cast-t18 : tie.Need-cast-t18
 cast-t18 c = search needs
 
--- src/lib.rt:113:9
 returns-3 : tie.Need-returns-3
 returns-3 c =
     let a = c .before .before .before .before .before .before .before .before .before .args in
@@ -93,19 +71,15 @@ returns-3 c =
     let r = sym (c .before .in-range .ensures ∙ card-range (a .counts) (a .card .now) (c .before .before .before .before .before .before .before .before .before .pre .1) (c .before .before .before .before .columns-of .ensures)) in
     out-of-range (a .counts) (a .card .now) (a .i) (a .group) (a .key) (s ∙ not-false _ (c .before .before .before .before .before .if1 .left)) (q ∙ not-false _ (c .before .before .if2 .left)) (r ∙ not-true _ (c .if3 .taken))
 
--- src/lib.rt:115:9
 rises-from-requires : tie.Need-rises-from-requires
 rises-from-requires c κs = search needs
 
--- src/lib.rt:116:48
 add-t20 : tie.Need-add-t20
 add-t20 c = search needs
 
--- src/lib.rt:116:47
 cast-t21 : tie.Need-cast-t21
 cast-t21 c = search needs
 
--- src/lib.rt:116:9
 returns-4 : tie.Need-returns-4
 returns-4 c =
     let a = c .before .before .before .before .before .before .before .before .before .before .before .args in
@@ -116,7 +90,6 @@ returns-4 c =
     let u = sym (c .before .rises-from .ensures ∙ ap (λ (b : About). rises (a .group) (a .key) b (a .card .now)) e) in
     unrisen (a .counts) (a .card .now) (a .i) (a .group) (a .key) (s ∙ not-false _ (c .before .before .before .before .before .before .before .if1 .left)) (q ∙ not-false _ (c .before .before .before .before .if2 .left)) (r ∙ not-false _ (c .before .before .if3 .left)) (u ∙ not-true _ (c .if4 .taken))
 
--- src/lib.rt:100:1
 returns-5 : tie.Need-returns-5
 returns-5 c =
     let a = c .before .before .before .before .before .before .before .before .before .before .before .args in

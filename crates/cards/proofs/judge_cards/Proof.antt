@@ -1,11 +1,5 @@
 use Rattle.cards.proofs.judge_cards.Statement.{statement}
 use Rattle.cards.proofs.judge_cards.Tie as tie
-use Rattle.cards.proofs.judge_cards.Reads as reads
-use Rattle.cards.proofs.judge_cards.Lts as lts
-use Rattle.cards.proofs.judge_card.Reads as judge-card-reads
-use Rattle.cards.proofs.rank.Reads as rank-reads
-use Rattle.kinds.proofs.about.Reads as about-reads
-use Rattle.kinds.proofs.kind.Reads as kind-reads
 use borrow.Author.Needs.{needs}
 use mathlib.Core.Path.{_≡_, sym, ap, _∙_}
 use Prim.Native.Nat.{_-_, _≤_}
@@ -24,47 +18,36 @@ Inv-loop counts t rows i₀ group₀ key₀ i group key = (i ≤ rows) × (judge
 abbrev μ-loop : tie.MeasureT-loop
 μ-loop counts t rows i₀ group₀ key₀ i group key = rows - i
 
--- src/lib.rt:128:5
 loop-holds : tie.Need-loop-holds Inv-loop μ-loop
 loop-holds c = (search needs, rw sub-zero)
 
--- src/lib.rt:129:18
 mul-at : tie.Need-mul-at Inv-loop μ-loop
 mul-at c = search needs
 
--- src/lib.rt:130:19
 add-end : tie.Need-add-end Inv-loop μ-loop
 add-end c = search needs
 
--- src/lib.rt:131:29
 mul-kind : tie.Need-mul-kind Inv-loop μ-loop
 mul-kind c = search needs
 
--- src/lib.rt:131:29
 shared-slice-read-kind : tie.Need-shared-slice-read-kind Inv-loop μ-loop
 shared-slice-read-kind c = search needs
 
--- src/lib.rt:131:13
 kind-requires : tie.Need-kind-requires Inv-loop μ-loop
 kind-requires c κs = search needs
 
--- src/lib.rt:132:54
 mul-judge-card : tie.Need-mul-judge-card Inv-loop μ-loop
 mul-judge-card c = search needs
 
--- src/lib.rt:132:54
 sub-judge-card : tie.Need-sub-judge-card Inv-loop μ-loop
 sub-judge-card c = search needs
 
--- src/lib.rt:132:54
 part-judge-card-start : tie.Need-part-judge-card-start Inv-loop μ-loop
 part-judge-card-start c = search needs
 
--- src/lib.rt:132:54
 part-judge-card-end : tie.Need-part-judge-card-end Inv-loop μ-loop
 part-judge-card-end c = search needs
 
--- src/lib.rt:132:13
 judge-card-requires : tie.Need-judge-card-requires Inv-loop μ-loop
 judge-card-requires c κs =
     let t = c .before .before .before .before .before .before .args .t .now in
@@ -74,11 +57,9 @@ judge-card-requires c κs =
 enum-told : tie.Need-enum-told Inv-loop μ-loop
 enum-told c = search needs
 
--- src/lib.rt:134:13
 enum-told-2 : tie.Need-enum-told-2 Inv-loop μ-loop
 enum-told-2 c = search needs
 
--- src/lib.rt:134:13
 returns : tie.Need-returns Inv-loop μ-loop
 returns c =
     let a = c .before .before .before .before .before .before .before .before .before .args in
@@ -87,39 +68,30 @@ returns c =
     let e = sym (c .before .before .judge-card .ensures ∙ lent-card (a .counts) t (l .i) (l .group) (l .key)) ∙ c .enum-told2 .given .1 in
     c .enum-told2 .given .1 ∙ judge-here (a .counts) (rowAt t) (a .rows) (l .i) (l .group) (l .key) _ (omega arith) e ∙ sym (l .inv .1)
 
--- src/lib.rt:136:17
 about-requires : tie.Need-about-requires Inv-loop μ-loop
 about-requires c κs = search needs
 
--- src/lib.rt:137:20
 mul-rank : tie.Need-mul-rank Inv-loop μ-loop
 mul-rank c = search needs
 
--- src/lib.rt:137:20
 sub-rank : tie.Need-sub-rank Inv-loop μ-loop
 sub-rank c = search needs
 
--- src/lib.rt:137:20
 part-rank-start : tie.Need-part-rank-start Inv-loop μ-loop
 part-rank-start c = search needs
 
--- src/lib.rt:137:20
 part-rank-end : tie.Need-part-rank-end Inv-loop μ-loop
 part-rank-end c = search needs
 
--- src/lib.rt:137:9
 rank-requires : tie.Need-rank-requires Inv-loop μ-loop
 rank-requires c κs = search needs
 
--- src/lib.rt:138:9
 add-i : tie.Need-add-i Inv-loop μ-loop
 add-i c = search needs
 
--- src/lib.rt:128:5
 loop-less : tie.Need-loop-less Inv-loop μ-loop
 loop-less c = search needs
 
--- src/lib.rt:128:5
 loop-again : tie.Need-loop-again Inv-loop μ-loop
 loop-again c =
     let a = c .before .before .before .before .before .before .before .before .before .before .before .before .args in
@@ -131,7 +103,6 @@ loop-again c =
     let g = judge-on (a .counts) (rowAt t) (a .rows) (l .i) (l .group) (l .key) (omega arith) e in
     (omega arith, cc (l .inv .1))
 
--- src/lib.rt:121:1
 returns-2 : tie.Need-returns-2 Inv-loop μ-loop
 returns-2 c =
     let a = c .before .before .before .args in

@@ -1,16 +1,6 @@
 use borrow.Author.Needs.{needs}
 use Rattle.cards.proofs.judge_change.Statement.{statement}
 use Rattle.cards.proofs.judge_change.Tie as tie
-use Rattle.cards.proofs.judge_change.Reads as reads
-use Rattle.cards.proofs.judge_change.Lts as lts
-use Rattle.cards.proofs.answers_to.Reads as answers-to-reads
-use Rattle.cards.proofs.counts_at.Reads as counts-at-reads
-use Rattle.cards.proofs.in_range.Reads as in-range-reads
-use Rattle.cards.proofs.is_clean.Reads as is-clean-reads
-use Rattle.kinds.proofs.about.Reads as about-reads
-use Rattle.kinds.proofs.columns_of.Reads as columns-of-reads
-use Rattle.kinds.proofs.kind.Reads as kind-reads
--- src/lib.rt:237:25
 use mathlib.Core.Path.{_≡_, sym, ap, _∙_}
 use Prim.Native.Nat.{_≤_, _<_}
 use native.Mathlib.Omega.{arith}
@@ -21,25 +11,21 @@ use Rattle.paper.specs.declared.About.{About}
 use Rattle.paper.specs.declared.Counts.{Counts}
 use Rattle.paper.specs.declared.Kind.the-variants.{Other}
 use Rattle.kinds.proofs.Sections.{small}
-use Rattle.cards.proofs.Ranges.{card-range, card-clean, few}
+use Rattle.kinds.proofs.Ranges.{card-range, card-clean, few}
 use Rattle.cards.proofs.NewCard.{new-letter, new-unclean, new-other, new-range, new-done}
 
 shared-slice-read-kind : tie.Need-shared-slice-read-kind
 shared-slice-read-kind c = search needs
 
--- src/lib.rt:237:9
 kind-requires : tie.Need-kind-requires
 kind-requires c κs = search needs
 
--- src/lib.rt:238:9
 about-requires : tie.Need-about-requires
 about-requires c κs = search needs
 
--- src/lib.rt:239:8
 about-requires-2 : tie.Need-about-requires-2
 about-requires-2 c κs = search needs
 
--- src/lib.rt:240:9
 returns : tie.Need-returns
 returns c =
     let o = ap (λ (b : About). b .order) (c .before .before .before .before .about .ensures ∙ ap about (c .before .before .before .before .before .kind .ensures)) in
@@ -47,19 +33,15 @@ returns c =
     let l : about Other .order ≤ orderOf (c .before .before .before .before .before .before .before .before .before .args .new .now) = omega (arith, o, other, c .if1 .taken) in
     new-letter (c .before .before .before .before .before .before .before .before .before .args .table .now) (c .before .before .before .before .before .before .before .before .before .args .card) (c .before .before .before .before .before .before .before .before .before .args .new .now) l
 
--- src/lib.rt:242:37
 counts-at-requires : tie.Need-counts-at-requires
 counts-at-requires c κs = search needs
 
--- src/lib.rt:242:9
 columns-of-requires : tie.Need-columns-of-requires
 columns-of-requires c κs = search needs
 
--- src/lib.rt:243:9
 is-clean-requires : tie.Need-is-clean-requires
 is-clean-requires c κs = (few (c .before .counts-at .result) (c .before .before .before .before .before .before .before .before .before .before .before .args .new .now) (c .before .before .before .before .before .before .before .kind .ensures) (c .columns-of .ensures), search needs)
 
--- src/lib.rt:244:9
 returns-2 : tie.Need-returns-2
 returns-2 c =
     let new = c .before .before .before .before .before .before .before .before .before .before .before .before .before .args .new .now in
@@ -69,13 +51,11 @@ returns-2 c =
     let q = sym (c .before .is-clean .ensures ∙ card-clean (c .before .before .before .counts-at .result) new (c .before .before .before .before .before .before .before .before .before .kind .ensures) (c .before .before .columns-of .ensures)) in
     new-unclean (c .before .before .before .before .before .before .before .before .before .before .before .before .before .args .table .now) (c .before .before .before .before .before .before .before .before .before .before .before .before .before .args .card) new l (q ∙ not-true _ (c .if2 .taken))
 
--- src/lib.rt:246:9
 answers-to-requires : tie.Need-answers-to-requires
 answers-to-requires c κs =
     let k = ap (λ (b : About). b .keeps) (c .before .before .before .before .before .before .before .before .about .ensures) in
     (search needs, ap (λ (b : About). b .keeps) (c .before .before .before .before .before .before .before .before .about .ensures ∙ ap about (c .before .before .before .before .before .before .before .before .before .kind .ensures)), omega (arith, k, small (c .before .before .before .before .before .before .before .before .before .kind .result) .keeps))
 
--- src/lib.rt:247:9
 returns-3 : tie.Need-returns-3
 returns-3 c =
     let new = c .before .before .before .before .before .before .before .before .before .before .before .before .before .before .before .args .new .now in
@@ -85,11 +65,9 @@ returns-3 c =
     let q = sym (c .before .before .before .is-clean .ensures ∙ card-clean (c .before .before .before .before .before .counts-at .result) new (c .before .before .before .before .before .before .before .before .before .before .before .kind .ensures) (c .before .before .before .before .columns-of .ensures)) in
     new-other (c .before .before .before .before .before .before .before .before .before .before .before .before .before .before .before .args .table .now) (c .before .before .before .before .before .before .before .before .before .before .before .before .before .before .before .args .card) new l (q ∙ not-false _ (c .before .before .if2 .left)) (sym (c .before .answers-to .ensures) ∙ not-true _ (c .if3 .taken))
 
--- src/lib.rt:249:9
 in-range-requires : tie.Need-in-range-requires
 in-range-requires c κs = c .before .before .before .before .before .before .before .before .before .before .before .before .before .before .before .pre .1
 
--- src/lib.rt:250:9
 returns-4 : tie.Need-returns-4
 returns-4 c =
     let new = c .before .before .before .before .before .before .before .before .before .before .before .before .before .before .before .before .before .args .new .now in
@@ -100,7 +78,6 @@ returns-4 c =
     let r = sym (c .before .in-range .ensures ∙ card-range (c .before .before .before .before .before .before .before .counts-at .result) new (c .before .before .before .before .before .before .before .before .before .before .before .before .before .kind .ensures) (c .before .before .before .before .before .before .columns-of .ensures) ∙ ap (λ (z : Counts). inRange (columnsOf z new) new 5 0) (c .before .before .before .before .before .before .before .counts-at .ensures)) in
     new-range (c .before .before .before .before .before .before .before .before .before .before .before .before .before .before .before .before .before .args .table .now) (c .before .before .before .before .before .before .before .before .before .before .before .before .before .before .before .before .before .args .card) new l (q ∙ not-false _ (c .before .before .before .before .if2 .left)) (sym (c .before .before .before .answers-to .ensures) ∙ not-false _ (c .before .before .if3 .left)) (r ∙ not-true _ (c .if4 .taken))
 
--- src/lib.rt:233:1
 returns-5 : tie.Need-returns-5
 returns-5 c =
     let new = c .before .before .before .before .before .before .before .before .before .before .before .before .before .before .before .before .before .args .new .now in

@@ -1,12 +1,6 @@
 use borrow.Author.Needs.{needs}
 use Rattle.cards.proofs.judge_rows.Statement.{statement}
 use Rattle.cards.proofs.judge_rows.Tie as tie
-use Rattle.cards.proofs.judge_rows.Reads as reads
-use Rattle.cards.proofs.judge_rows.Lts as lts
-use Rattle.cards.proofs.is_trailer.Reads as is-trailer-reads
-use Rattle.cards.proofs.judge_cards.Reads as judge-cards-reads
-use Rattle.kinds.proofs.counts_of.Reads as counts-of-reads
--- src/lib.rt:158:14
 use mathlib.Core.Path.{sym, ap, _∙_}
 use Prim.Native.Nat.{_+_, _*_}
 use native.Mathlib.Omega.{arith}
@@ -20,88 +14,68 @@ use Rattle.cards.proofs.Rows.{lent, at-row}
 mul-at : tie.Need-mul-at
 mul-at c = search needs
 
--- src/lib.rt:159:15
 add-end : tie.Need-add-end
 add-end c = search needs
 
--- src/lib.rt:160:20
 mul-is-trailer : tie.Need-mul-is-trailer
 mul-is-trailer c = search needs
 
--- src/lib.rt:160:20
 sub-is-trailer : tie.Need-sub-is-trailer
 sub-is-trailer c = search needs
 
--- src/lib.rt:160:20
 part-is-trailer-start : tie.Need-part-is-trailer-start
 part-is-trailer-start c = search needs
 
--- src/lib.rt:160:20
 part-is-trailer-end : tie.Need-part-is-trailer-end
 part-is-trailer-end c = search needs
 
--- src/lib.rt:160:9
 is-trailer-requires : tie.Need-is-trailer-requires
 is-trailer-requires c κs = search needs
 
--- src/lib.rt:161:9
 returns : tie.Need-returns
 returns c =
     let a = c .before .before .before .before .args in
     rows-trailer (a .t .now) (a .rows) (sym (c .before .is-trailer .ensures ∙ ap trailer (lent (a .t .now) (a .rows))) ∙ not-true (c .before .is-trailer .result) (c .if1 .taken))
 
--- src/lib.rt:163:10
 add-if2 : tie.Need-add-if2
 add-if2 c = search needs
 
--- src/lib.rt:163:8
 mul-if2 : tie.Need-mul-if2
 mul-if2 c = search needs
 
--- src/lib.rt:163:8
 shared-slice-read-if2 : tie.Need-shared-slice-read-if2
 shared-slice-read-if2 c = search needs
 
--- src/lib.rt:163:8
 cast-if2 : tie.Need-cast-if2
 cast-if2 c = omega (arith, c .shared-slice-known2 .given (c .before .before .before .before .before .args .rows * 6 + 1))
 
--- src/lib.rt:163:30
 mul-if2-2 : tie.Need-mul-if2-2
 mul-if2-2 c = search needs
 
--- src/lib.rt:164:9
 returns-2 : tie.Need-returns-2
 returns-2 c =
     let a = c .before .before .before .before .before .before .args in
     let z = sym (c .before .before .before .is-trailer .ensures ∙ ap trailer (lent (a .t .now) (a .rows))) ∙ not-false (c .before .before .before .is-trailer .result) (c .before .before .if1 .left) in
     rows-back (a .t .now) (a .rows) z (λ e. c .if2 .taken (at-row (a .t .now) (a .rows) 1 (omega arith) ∙ e))
 
--- src/lib.rt:166:34
 mul-counts-of : tie.Need-mul-counts-of
 mul-counts-of c = search needs
 
--- src/lib.rt:166:34
 sub-counts-of : tie.Need-sub-counts-of
 sub-counts-of c = search needs
 
--- src/lib.rt:166:34
 part-counts-of-start : tie.Need-part-counts-of-start
 part-counts-of-start c = search needs
 
--- src/lib.rt:166:34
 part-counts-of-end : tie.Need-part-counts-of-end
 part-counts-of-end c = search needs
 
--- src/lib.rt:166:17
 counts-of-requires : tie.Need-counts-of-requires
 counts-of-requires c κs = search needs
 
--- src/lib.rt:166:5
 judge-cards-requires : tie.Need-judge-cards-requires
 judge-cards-requires c κs = search needs
 
--- src/lib.rt:154:1
 returns-3 : tie.Need-returns-3
 returns-3 c =
     let a = c .before .before .before .before .before .before .before .before .before .args in

@@ -1,10 +1,6 @@
 use borrow.Author.Needs.{needs}
 use Rattle.cards.proofs.rises_from.Statement.{statement}
 use Rattle.cards.proofs.rises_from.Tie as tie
-use Rattle.cards.proofs.rises_from.Reads as reads
-use Rattle.cards.proofs.rises_from.Lts as lts
-use Rattle.cards.proofs.rank.Reads as rank-reads
--- src/lib.rt:88:9
 use mathlib.Core.Path.{ap, _∙_}
 use Prim.Native.Nat.{ℕ}
 use lib.Dec.{ltb}
@@ -13,15 +9,12 @@ use Rattle.cards.proofs.OneCard.{rises-free, rises-first, rises-next}
 returns : tie.Need-returns
 returns c = rises-free (c .before .before .before .args .group) (c .before .before .before .args .key) (c .before .before .before .args .a) (c .before .before .before .args .card .now) (c .if1 .taken)
 
--- src/lib.rt:91:9
 returns-2 : tie.Need-returns-2
 returns-2 c = rises-first (c .before .before .before .before .before .args .group) (c .before .before .before .before .before .args .key) (c .before .before .before .before .before .args .a) (c .before .before .before .before .before .args .card .now) (c .before .before .if1 .left) (c .if2 .taken)
 
--- src/lib.rt:93:11
 rank-requires : tie.Need-rank-requires
 rank-requires c κs = search needs
 
--- src/lib.rt:83:1
 returns-3 : tie.Need-returns-3
 returns-3 c =
     let a = c .before .before .before .before .before .before .args in

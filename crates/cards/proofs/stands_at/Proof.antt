@@ -1,45 +1,33 @@
 use borrow.Author.Needs.{needs}
 use Rattle.cards.proofs.stands_at.Statement.{statement}
 use Rattle.cards.proofs.stands_at.Tie as tie
-use Rattle.cards.proofs.stands_at.Reads as reads
-use Rattle.cards.proofs.stands_at.Lts as lts
-use Rattle.kinds.proofs.starts_of.Reads as starts-of-reads
--- src/lib.rt:27:18
 use Rattle.cards.proofs.OneCard.{stands-early, stands-late, stands-in}
 use native.Mathlib.Omega.{arith}
 
 starts-of-requires : tie.Need-starts-of-requires
 starts-of-requires c κs = search needs
 
--- src/lib.rt:29:12
 mul-if1 : tie.Need-mul-if1
 mul-if1 c = search needs
 
--- src/lib.rt:29:12
 array-read-if1 : tie.Need-array-read-if1
 array-read-if1 c = search needs
 
--- src/lib.rt:30:9
 returns : tie.Need-returns
 returns c = stands-early (c .before .before .args .counts) (c .before .before .args .i) (c .before .before .args .group) (c .before .before .args .a) (c .before .before .pre) (c .before .starts-of .ensures) (omega arith)
 
--- src/lib.rt:32:15
 add-if2 : tie.Need-add-if2
 add-if2 c = search needs
 
--- src/lib.rt:32:8
 mul-if2 : tie.Need-mul-if2
 mul-if2 c = search needs
 
--- src/lib.rt:32:8
 array-read-if2 : tie.Need-array-read-if2
 array-read-if2 c = search needs
 
--- src/lib.rt:33:9
 returns-2 : tie.Need-returns-2
 returns-2 c = stands-late (c .before .before .before .args .counts) (c .before .before .before .args .i) (c .before .before .before .args .group) (c .before .before .before .args .a) (c .before .before .before .pre) (c .before .before .starts-of .ensures) (omega arith) (omega arith)
 
--- src/lib.rt:23:1
 returns-3 : tie.Need-returns-3
 returns-3 c = stands-in (c .before .before .before .before .args .counts) (c .before .before .before .before .args .i) (c .before .before .before .before .args .group) (c .before .before .before .before .args .a) (c .before .before .before .before .pre) (c .before .before .before .starts-of .ensures) (omega arith) (omega arith)
 

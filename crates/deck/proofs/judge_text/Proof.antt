@@ -1,12 +1,5 @@
 use Rattle.deck.proofs.judge_text.Statement.{statement}
 use Rattle.deck.proofs.judge_text.Tie as tie
-use Rattle.deck.proofs.judge_text.Reads as reads
-use Rattle.deck.proofs.judge_text.Lts as lts
-use Rattle.cards.proofs.judge_card.Reads as judge-card-reads
-use Rattle.cards.proofs.rank.Reads as rank-reads
-use Rattle.kinds.proofs.about.Reads as about-reads
-use Rattle.kinds.proofs.kind.Reads as kind-reads
-use Rattle.text.proofs.card_of.Reads as card-of-reads
 use borrow.Author.Needs.{needs}
 use mathlib.Core.Path.{_≡_, sym, ap, _∙_}
 use Prim.Native.Nat.{_-_, _≤_}
@@ -27,66 +20,51 @@ Inv-loop counts s start rows card₀ i₀ group₀ key₀ card i group key = (i 
 abbrev μ-loop : tie.MeasureT-loop
 μ-loop counts s start rows card₀ i₀ group₀ key₀ card i group key = rows - i
 
--- src/lib.rt:59:5
 loop-holds : tie.Need-loop-holds Inv-loop μ-loop
 loop-holds c = (search needs, search needs, rw sub-zero)
 
--- src/lib.rt:60:26
 mul-at : tie.Need-mul-at Inv-loop μ-loop
 mul-at c = search needs
 
--- src/lib.rt:60:18
 add-at : tie.Need-add-at Inv-loop μ-loop
 add-at c = search needs
 
--- src/lib.rt:61:19
 add-end : tie.Need-add-end Inv-loop μ-loop
 add-end c = search needs
 
--- src/lib.rt:62:23
 sub-card-of : tie.Need-sub-card-of Inv-loop μ-loop
 sub-card-of c = search needs
 
--- src/lib.rt:62:23
 part-card-of-start : tie.Need-part-card-of-start Inv-loop μ-loop
 part-card-of-start c = search needs
 
--- src/lib.rt:62:23
 part-card-of-end : tie.Need-part-card-of-end Inv-loop μ-loop
 part-card-of-end c = search needs
 
--- src/lib.rt:62:36
 slice-aggregate-card-of : tie.Need-slice-aggregate-card-of Inv-loop μ-loop
 slice-aggregate-card-of c = search needs
 
--- src/lib.rt:62:9
 card-of-requires : tie.Need-card-of-requires Inv-loop μ-loop
 card-of-requires c κs = search needs
 
--- src/lib.rt:63:29
 array-read-kind : tie.Need-array-read-kind Inv-loop μ-loop
 array-read-kind c = search needs
 
--- src/lib.rt:63:13
 kind-requires : tie.Need-kind-requires Inv-loop μ-loop
 kind-requires c κs = search needs
 
--- src/lib.rt:64:61
 slice-aggregate-judge-card : tie.Need-slice-aggregate-judge-card Inv-loop μ-loop
 slice-aggregate-judge-card c = search needs
 
--- src/lib.rt:64:13
 judge-card-requires : tie.Need-judge-card-requires Inv-loop μ-loop
 judge-card-requires c κs = search needs
 
 enum-told : tie.Need-enum-told Inv-loop μ-loop
 enum-told c = search needs
 
--- src/lib.rt:66:13
 enum-told-2 : tie.Need-enum-told-2 Inv-loop μ-loop
 enum-told-2 c = search needs
 
--- src/lib.rt:66:13
 returns : tie.Need-returns Inv-loop μ-loop
 returns c =
     let a = c .before .before .before .before .before .before .before .before .before .before .before .before .args in
@@ -95,27 +73,21 @@ returns c =
     let e = sym (c .before .before .judge-card .ensures ∙ read-card (a .counts) (a .s .now) (a .start) (l .i) (l .group) (l .key) row) ∙ c .enum-told2 .given .1 in
     c .enum-told2 .given .1 ∙ judge-here (a .counts) (cardAt (a .s .now) (a .start)) (a .rows) (l .i) (l .group) (l .key) _ (omega arith) e ∙ sym (l .inv .2)
 
--- src/lib.rt:68:17
 about-requires : tie.Need-about-requires Inv-loop μ-loop
 about-requires c κs = search needs
 
--- src/lib.rt:69:27
 slice-aggregate-rank : tie.Need-slice-aggregate-rank Inv-loop μ-loop
 slice-aggregate-rank c = search needs
 
--- src/lib.rt:69:9
 rank-requires : tie.Need-rank-requires Inv-loop μ-loop
 rank-requires c κs = search needs
 
--- src/lib.rt:70:9
 add-i : tie.Need-add-i Inv-loop μ-loop
 add-i c = search needs
 
--- src/lib.rt:59:5
 loop-less : tie.Need-loop-less Inv-loop μ-loop
 loop-less c = search needs
 
--- src/lib.rt:59:5
 loop-again : tie.Need-loop-again Inv-loop μ-loop
 loop-again c =
     let a = c .before .before .before .before .before .before .before .before .before .before .before .before .before .before .before .args in
@@ -127,7 +99,6 @@ loop-again c =
     let g = judge-on (a .counts) (cardAt (a .s .now) (a .start)) (a .rows) (l .i) (l .group) (l .key) (omega arith) e in
     (omega arith, c .before .before .before .before .before .before .before .before .before .card-of .kept .1 .0 ∙ l .inv .1, cc (l .inv .2))
 
--- src/lib.rt:51:1
 returns-2 : tie.Need-returns-2 Inv-loop μ-loop
 returns-2 c =
     let a = c .before .before .before .args in

@@ -1,12 +1,6 @@
 use borrow.Author.Needs.{needs}
 use Rattle.deck.proofs.read.Statement.{statement}
 use Rattle.deck.proofs.read.Tie as tie
-use Rattle.deck.proofs.read.Reads as reads
-use Rattle.deck.proofs.read.Lts as lts
-use Rattle.deck.proofs.reads_of.Reads as reads-of-reads
-use Rattle.deck.proofs.taken.Reads as taken-reads
-use Rattle.paper.proofs.packed_answer.Reads as packed-answer-reads
--- src/lib.rt:160:9
 use mathlib.Core.Path.{_≡_, sym, ap, _∙_}
 use Prim.Native.Nat.{_+_}
 use native.Mathlib.Omega.{arith}
@@ -19,30 +13,24 @@ use Rattle.paper.proofs.Reading.{table-kept, part-none, start-none}
 reads-of-requires : tie.Need-reads-of-requires
 reads-of-requires c κs = search needs
 
--- src/lib.rt:161:15
 packed-answer-requires : tie.Need-packed-answer-requires
 packed-answer-requires c κs = search needs
 
 enum-told : tie.Need-enum-told
 enum-told c = search needs
 
--- src/lib.rt:163:16
 enum-told-2 : tie.Need-enum-told-2
 enum-told-2 c = search needs
 
--- src/lib.rt:163:16
 sub-result : tie.Need-sub-result
 sub-result c = search needs
 
--- src/lib.rt:163:16
 part-result-start : tie.Need-part-result-start
 part-result-start c = search needs
 
--- src/lib.rt:163:16
 part-result-end : tie.Need-part-result-end
 part-result-end c = search needs
 
--- src/lib.rt:163:9
 returns : tie.Need-returns
 returns c =
     let b = c .before .before .before .before .before .before .before .args .bytes .now in
@@ -55,15 +43,12 @@ returns c =
     let table = table-kept b t _ e in
     λ i. handed (answer i) (p .0, o i) (part i) (table i)
 
--- src/lib.rt:165:5
 taken-requires : tie.Need-taken-requires
 taken-requires c κs = sym (c .before .before .before .before .reads-of .ensures) ∙ c .before .enum-told .given .1
 
--- src/lib.rt:157:1
 same-length : tie.Need-same-length
 same-length c = search needs
 
--- src/lib.rt:157:1
 returns-2 : tie.Need-returns-2
 returns-2 c =
     let answer = c .before .before .before .before .before .before .packed-answer .ensures ∙ ap (λ (a : Answer). packed (told a)) (c .before .before .before .before .before .before .before .reads-of .ensures) in

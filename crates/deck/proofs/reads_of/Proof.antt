@@ -1,13 +1,6 @@
 use borrow.Author.Needs.{needs}
 use Rattle.deck.proofs.reads_of.Statement.{statement}
 use Rattle.deck.proofs.reads_of.Tie as tie
-use Rattle.deck.proofs.reads_of.Reads as reads
-use Rattle.deck.proofs.reads_of.Lts as lts
-use Rattle.cards.proofs.is_trailer.Reads as is-trailer-reads
-use Rattle.deck.proofs.last_card.Reads as last-card-reads
-use Rattle.deck.proofs.reads_from.Reads as reads-from-reads
-use Rattle.kinds.proofs.counts_of.Reads as counts-of-reads
--- src/lib.rt:107:9
 use mathlib.Core.Path.{_≡_, sym, ap, _∙_}
 use mathlib.Core.List.{List}
 use Prim.Native.Nat.{ℕ, _-_, _/_}
@@ -23,56 +16,44 @@ use Rattle.paper.proofs.Reading.{trailer-told, reads-short, reads-long, reads-t
 returns : tie.Need-returns
 returns c = reads-short (c .before .before .args .s .now) (c .before .before .args .room) (omega arith)
 
--- src/lib.rt:110:9
 returns-2 : tie.Need-returns-2
 returns-2 c = reads-long (c .before .before .before .args .s .now) (c .before .before .before .args .room) (omega arith) (omega arith)
 
--- src/lib.rt:112:13
 last-card-requires : tie.Need-last-card-requires
 last-card-requires c κs = search needs
 
--- src/lib.rt:113:27
 slice-aggregate-is-trailer : tie.Need-slice-aggregate-is-trailer
 slice-aggregate-is-trailer c = search needs
 
--- src/lib.rt:113:9
 is-trailer-requires : tie.Need-is-trailer-requires
 is-trailer-requires c κs = search needs
 
--- src/lib.rt:114:9
 returns-3 : tie.Need-returns-3
 returns-3 c =
     let t = sym (c .before .is-trailer .ensures ∙ ap trailer (c .before .before .before .last-card .ensures)) in
     reads-trailer (c .before .before .before .before .before .before .before .args .s .now) (c .before .before .before .before .before .before .before .args .room) (omega arith) (omega arith) (t ∙ not-true (c .before .is-trailer .result) (c .if3 .taken))
 
--- src/lib.rt:116:16
 array-read-back : tie.Need-array-read-back
 array-read-back c = search needs
 
--- src/lib.rt:116:16
 cast-back : tie.Need-cast-back
 cast-back c = search needs
 
--- src/lib.rt:117:16
 sub-last : tie.Need-sub-last
 sub-last c = search needs
 
--- src/lib.rt:119:9
 returns-4 : tie.Need-returns-4
 returns-4 c =
     let t = sym (c .before .before .is-trailer .ensures ∙ ap trailer (c .before .before .before .before .last-card .ensures)) in
     let k = ap (λ (r : List ℕ). getD r 1 0) (c .before .before .before .before .last-card .ensures) in
     reads-back (c .before .before .before .before .before .before .before .before .args .s .now) (c .before .before .before .before .before .before .before .before .args .room) (omega arith) (omega arith) (t ∙ not-false (c .before .before .is-trailer .result) (c .before .if3 .left)) (omega arith)
 
--- src/lib.rt:121:42
 slice-aggregate-counts-of : tie.Need-slice-aggregate-counts-of
 slice-aggregate-counts-of c = search needs
 
--- src/lib.rt:121:25
 counts-of-requires : tie.Need-counts-of-requires
 counts-of-requires c κs = search needs
 
--- src/lib.rt:121:5
 reads-from-requires : tie.Need-reads-from-requires
 reads-from-requires c κs =
     let t = sym (c .before .before .before .before .is-trailer .ensures ∙ ap trailer (c .before .before .before .before .before .before .last-card .ensures)) in
@@ -80,7 +61,6 @@ reads-from-requires c κs =
     let s = trailer-told (lastCard (c .before .before .before .before .before .before .before .before .before .before .args .s .now)) (t ∙ not-false (c .before .before .before .before .is-trailer .result) (c .before .before .before .if3 .left)) in
     (omega (arith, s .back), omega (arith, s .back, s .few))
 
--- src/lib.rt:103:1
 returns-5 : tie.Need-returns-5
 returns-5 c =
     let b = c .before .before .before .before .before .before .before .before .before .before .before .args .s .now in

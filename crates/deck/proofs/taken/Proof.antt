@@ -1,11 +1,6 @@
 use borrow.Author.Needs.{needs}
 use Rattle.deck.proofs.taken.Statement.{statement}
 use Rattle.deck.proofs.taken.Tie as tie
-use Rattle.deck.proofs.taken.Reads as reads
-use Rattle.deck.proofs.taken.Lts as lts
-use Rattle.deck.proofs.last_card.Reads as last-card-reads
-use Rattle.deck.proofs.rows_to.Reads as rows-to-reads
--- src/lib.rt:147:13
 use mathlib.Core.Path.{_≡_, ap, _∙_}
 use mathlib.Core.List.{List, _++_}
 use Prim.Native.Nat.{ℕ, _+_, _-_, _*_, _/_}
@@ -21,35 +16,29 @@ last-card-requires c κs =
     let a = accepted (c .before .before .args .bytes .now) (length (c .before .before .args .table .now)) (c .before .before .pre) in
     omega (arith, a .least)
 
--- src/lib.rt:149:16
 array-read-back : tie.Need-array-read-back
 array-read-back c = search needs
 
--- src/lib.rt:149:16
 cast-back : tie.Need-cast-back
 cast-back c = search needs
 
--- src/lib.rt:150:16
 sub-last : tie.Need-sub-last
 sub-last c =
     let a = accepted (c .before .before .before .args .bytes .now) (length (c .before .before .before .args .table .now)) (c .before .before .before .pre) in
     omega (arith, a .least)
 
--- src/lib.rt:151:17
 sub-start : tie.Need-sub-start
 sub-start c =
     let a = accepted (c .before .before .before .args .bytes .now) (length (c .before .before .before .args .table .now)) (c .before .before .before .pre) in
     let k = ap (λ (r : List ℕ). getD r 1 0) (c .last-card .ensures) in
     omega (arith, a .within, k)
 
--- src/lib.rt:152:27
 add-rows-to : tie.Need-add-rows-to
 add-rows-to c =
     let a = accepted (c .before .before .before .args .bytes .now) (length (c .before .before .before .args .table .now)) (c .before .before .before .pre) in
     let k = ap (λ (r : List ℕ). getD r 1 0) (c .last-card .ensures) in
     omega (arith, a .within, a .most, k)
 
--- src/lib.rt:152:5
 rows-to-requires : tie.Need-rows-to-requires
 rows-to-requires c κs =
     let a = accepted (c .before .before .before .before .args .bytes .now) (length (c .before .before .before .before .args .table .now)) (c .before .before .before .before .pre) in
@@ -57,23 +46,18 @@ rows-to-requires c κs =
     let s = trailer-told (lastCard (c .before .before .before .before .args .bytes .now)) (a .trails) in
     (omega (arith, a .least, a .within, k, s .back), omega (arith, k, s .back, a .fits), omega (arith, k, s .back, s .few))
 
--- src/lib.rt:153:5
 sub-result : tie.Need-sub-result
 sub-result c = search needs
 
--- src/lib.rt:153:5
 part-result-start : tie.Need-part-result-start
 part-result-start c = search needs
 
--- src/lib.rt:153:5
 part-result-end : tie.Need-part-result-end
 part-result-end c = search needs
 
--- src/lib.rt:141:1
 same-length : tie.Need-same-length
 same-length c = search needs
 
--- src/lib.rt:141:1
 returns : tie.Need-returns
 returns c =
     let b = c .before .before .before .before .before .before .before .before .args .bytes .now in

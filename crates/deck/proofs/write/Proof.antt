@@ -1,11 +1,6 @@
 use borrow.Author.Needs.{needs}
 use Rattle.deck.proofs.write.Statement.{statement}
 use Rattle.deck.proofs.write.Tie as tie
-use Rattle.deck.proofs.write.Reads as reads
-use Rattle.deck.proofs.write.Lts as lts
-use Rattle.cards.proofs.judge.Reads as judge-reads
-use Rattle.deck.proofs.cards_to.Reads as cards-to-reads
--- src/lib.rt:36:9
 use mathlib.Core.Path.{sym, ap, _∙_}
 use native.Mathlib.Omega.{arith}
 use Rattle.paper.specs.Calls.{wrote}
@@ -20,35 +15,28 @@ judge-requires c κs = search needs
 enum-told : tie.Need-enum-told
 enum-told c = search needs
 
--- src/lib.rt:38:9
 enum-told-2 : tie.Need-enum-told-2
 enum-told-2 c = search needs
 
--- src/lib.rt:38:9
 returns : tie.Need-returns
 returns c =
     let b = c .before .before .before .before .before .args .bytes .now in
     ap (λ (a : Answer). wrote a b) (c .enum-told2 .given .1) ∙ write-refused (c .before .before .before .before .before .args .table .now) b _ (sym (c .before .before .judge .ensures) ∙ c .enum-told2 .given .1)
 
--- src/lib.rt:41:22
 mul-if1 : tie.Need-mul-if1
 mul-if1 c = search needs
 
--- src/lib.rt:42:9
 returns-2 : tie.Need-returns-2
 returns-2 c = write-short (c .before .before .before .before .before .before .args .table .now) (c .before .before .before .before .before .before .args .bytes .now) (sym (c .before .before .before .judge .ensures) ∙ c .before .enum-told .given .1) (omega arith)
 
--- src/lib.rt:44:5
 cards-to-requires : tie.Need-cards-to-requires
 cards-to-requires c κs =
     let s = top-told (c .before .before .before .before .before .before .before .args .table .now) (sym (c .before .before .before .before .judge .ensures) ∙ c .before .before .enum-told .given .1) in
     (omega (arith, s .sixes, s .most), omega (arith, s .sixes, s .most), omega (arith, s .sixes, s .most))
 
--- src/lib.rt:33:1
 same-length : tie.Need-same-length
 same-length c = search needs
 
--- src/lib.rt:33:1
 returns-3 : tie.Need-returns-3
 returns-3 c = ap (wrote Done) (c .before .before .cards-to .ensures) ∙ write-done (c .before .before .before .before .before .before .before .before .before .before .args .table .now) (c .before .before .before .before .before .before .before .before .before .before .args .bytes .now) (sym (c .before .before .before .before .before .before .before .judge .ensures) ∙ c .before .before .before .before .before .enum-told .given .1) (omega arith)
 

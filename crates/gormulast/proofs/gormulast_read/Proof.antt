@@ -1,11 +1,6 @@
 use borrow.Author.Needs.{needs}
 use Rattle.gormulast.proofs.gormulast_read.Statement.{statement}
 use Rattle.gormulast.proofs.gormulast_read.Tie as tie
-use Rattle.gormulast.proofs.gormulast_read.Reads as reads
-use Rattle.gormulast.proofs.gormulast_read.Lts as lts
-use Rattle.deck.proofs.read.Reads as read-reads
-
--- src/lib.rt:16:9
 use mathlib.Core.Path.{_≡_, sym, ap, _∙_}
 use Prim.Native.Nat.{ℕ, _-_}
 use native.Mathlib.Omega.{arith}
@@ -17,18 +12,15 @@ use Rattle.gormulast.proofs.Bounds.{part-within, start-done, end-done, 
 read-requires : tie.Need-read-requires
 read-requires c κs = search needs
 
--- src/lib.rt:18:19
 sub-start : tie.Need-sub-start
 sub-start c =
     let b = c .before .before .before .before .before .before .before .before .args .bytes .now in
     let t = c .before .before .before .before .before .before .before .before .args .table .now in
     omega (arith, part-within b (length t), ap (λ (h : Handed). length (h .part)) (c .before .before .before .read .ensures))
 
--- src/lib.rt:6:1
 same-length : tie.Need-same-length
 same-length c = search needs
 
--- src/lib.rt:6:1
 returns : tie.Need-returns
 returns c =
     let b = c .before .before .before .before .before .before .before .before .args .bytes .now in
@@ -41,11 +33,9 @@ returns c =
     let table = ap (λ (h : Handed). h .table) e in
     λ i. gave (answer i) (marked (start i) (end i) (table i))
 
--- src/lib.rt:6:1
 same-length-2 : tie.Need-same-length-2
 same-length-2 c = search needs
 
--- src/lib.rt:6:1
 returns-2 : tie.Need-returns-2
 returns-2 c =
     let b = c .before .before .before .before .before .before .before .before .args .bytes .now in

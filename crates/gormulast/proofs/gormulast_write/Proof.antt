@@ -1,12 +1,6 @@
 use borrow.Author.Needs.{needs}
 use Rattle.gormulast.proofs.gormulast_write.Statement.{statement}
 use Rattle.gormulast.proofs.gormulast_write.Tie as tie
-use Rattle.gormulast.proofs.gormulast_write.Reads as reads
-use Rattle.gormulast.proofs.gormulast_write.Lts as lts
-use Rattle.deck.proofs.write.Reads as write-reads
-use Rattle.paper.proofs.packed_answer.Reads as packed-answer-reads
-
--- src/lib.rt:31:26
 use mathlib.Core.Path.{ap, _∙_}
 use Rattle.paper.specs.Refusals.{told, packed}
 use Rattle.paper.specs.Calls.{Written, gave}
@@ -14,15 +8,12 @@ use Rattle.paper.specs.Calls.{Written, gave}
 write-requires : tie.Need-write-requires
 write-requires c κs = search needs
 
--- src/lib.rt:31:5
 packed-answer-requires : tie.Need-packed-answer-requires
 packed-answer-requires c κs = search needs
 
--- src/lib.rt:27:1
 same-length : tie.Need-same-length
 same-length c = search needs
 
--- src/lib.rt:27:1
 returns : tie.Need-returns
 returns c =
     let e = c .before .before .before .write .ensures in

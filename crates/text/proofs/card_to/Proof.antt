@@ -1,13 +1,6 @@
 use borrow.Author.Needs.{needs}
 use Rattle.text.proofs.card_to.Statement.{statement}
 use Rattle.text.proofs.card_to.Tie as tie
-use Rattle.text.proofs.card_to.Reads as reads
-use Rattle.text.proofs.card_to.Lts as lts
-use Rattle.kinds.proofs.about.Reads as about-reads
-use Rattle.kinds.proofs.kind.Reads as kind-reads
-use Rattle.kinds.proofs.used_of.Reads as used-of-reads
-use Rattle.text.proofs.fields_to.Reads as fields-to-reads
--- src/lib.rt:189:25
 use mathlib.Core.Path.{ap, _∙_}
 use native.Mathlib.Omega.{arith}
 use lib.ListN.{length-set}
@@ -20,39 +13,30 @@ use Rattle.text.proofs.PrintCard.{text-card}
 shared-slice-read-kind : tie.Need-shared-slice-read-kind
 shared-slice-read-kind c = search needs
 
--- src/lib.rt:189:9
 kind-requires : tie.Need-kind-requires
 kind-requires c κs = search needs
 
--- src/lib.rt:190:14
 about-requires : tie.Need-about-requires
 about-requires c κs = search needs
 
--- src/lib.rt:190:14
 cast-out : tie.Need-cast-out
 cast-out c = omega (arith, ap (λ (b : About). b .letter) (c .before .about .ensures), small (c .before .before .kind .result) .letter)
 
--- src/lib.rt:190:5
 slice-write-out : tie.Need-slice-write-out
 slice-write-out c = search needs
 
--- src/lib.rt:191:15
 used-of-requires : tie.Need-used-of-requires
 used-of-requires c κs = search needs
 
--- src/lib.rt:191:5
 fields-to-requires : tie.Need-fields-to-requires
 fields-to-requires c κs = search needs
 
--- src/lib.rt:192:5
 slice-write-out-2 : tie.Need-slice-write-out-2
 slice-write-out-2 c = omega (arith, c .before .before .fields-to .kept .1 .1 .0, length-set (c .before .before .before .before .before .before .before .before .before .before .before .args .out .now) 0 (c .before .before .before .before .before .before .about .result .letter))
 
--- src/lib.rt:185:1
 same-length : tie.Need-same-length
 same-length c = simp length-set (c .before .before .fields-to .kept .1 .1 .0 ∙ length-set (c .before .before .before .before .before .before .before .before .before .before .before .args .out .now) 0 (c .before .before .before .before .before .before .about .result .letter))
 
--- src/lib.rt:185:1
 returns : tie.Need-returns
 returns c =
     let o = c .before .before .before .before .before .before .before .before .before .before .before .args .out .now in

@@ -1,11 +1,11 @@
-use Rattle.cards.proofs.in_range.Statement.{statement}
-use Rattle.cards.proofs.in_range.Tie as tie
+use Rattle.kinds.proofs.in_range.Statement.{statement}
+use Rattle.kinds.proofs.in_range.Tie as tie
 use borrow.Author.Needs.{needs}
 use mathlib.Core.Path.{_≡_, refl, sym, _∙_}
 use Prim.Native.Nat.{_+_, _-_, _≤_}
 use native.Mathlib.Omega.{arith}
-use Rattle.cards.specs.Asks.{inBounds}
-use Rattle.cards.proofs.Ranges.{bounds-on, bounds-low, bounds-high, bounds-end}
+use Rattle.kinds.specs.Laid.{inBounds}
+use Rattle.kinds.proofs.Ranges.{bounds-on, bounds-low, bounds-high, bounds-end}
 
 abbrev Inv-loop : tie.InvT-loop
 Inv-loop card least most k₀ k = (inBounds least most card 5 0 ≡ inBounds least most card (5 - k) k) × (k ≤ 5)

@@ -1,7 +1,5 @@
-use Rattle.cards.proofs.is_clean.Statement.{statement}
-use Rattle.cards.proofs.is_clean.Tie as tie
-use Rattle.cards.proofs.is_clean.Reads as reads
-use Rattle.cards.proofs.is_clean.Lts as lts
+use Rattle.kinds.proofs.is_clean.Statement.{statement}
+use Rattle.kinds.proofs.is_clean.Tie as tie
 use borrow.Author.Needs.{needs}
 use mathlib.Core.Path.{_≡_, refl, sym, _∙_}
 use Prim.Native.Nat.{_+_, _-_, _≤_}
@@ -15,39 +13,30 @@ Inv-loop used card k₀ k = (zeros card (6 - (1 + used)) (1 + used) ≡ zeros ca
 abbrev μ-loop : tie.MeasureT-loop
 μ-loop used card k₀ k = 6 - k
 
--- src/lib.rt:42:17
 add-k : tie.Need-add-k Inv-loop μ-loop
 add-k c = search needs
 
--- src/lib.rt:43:5
 loop-holds : tie.Need-loop-holds Inv-loop μ-loop
 loop-holds c = (refl, search needs)
 
--- src/lib.rt:44:12
 mul-if1 : tie.Need-mul-if1 Inv-loop μ-loop
 mul-if1 c = search needs
 
--- src/lib.rt:44:12
 shared-slice-read-if1 : tie.Need-shared-slice-read-if1 Inv-loop μ-loop
 shared-slice-read-if1 c = search needs
 
--- src/lib.rt:45:13
 returns : tie.Need-returns Inv-loop μ-loop
 returns c = zeros-here (c .before .before .before .before .args .card .now) (c .before .before .before .loop .k) (omega arith) (c .if1 .taken) ∙ sym (c .before .before .before .loop .inv .0)
 
--- src/lib.rt:47:9
 add-k-2 : tie.Need-add-k-2 Inv-loop μ-loop
 add-k-2 c = search needs
 
--- src/lib.rt:43:5
 loop-less : tie.Need-loop-less Inv-loop μ-loop
 loop-less c = search needs
 
--- src/lib.rt:43:5
 loop-again : tie.Need-loop-again Inv-loop μ-loop
 loop-again c = (c .before .before .before .loop .inv .0 ∙ zeros-on (c .before .before .before .before .args .card .now) (c .before .before .before .loop .k) (omega arith) (c .if1 .left), search needs)
 
--- src/lib.rt:38:1
 returns-2 : tie.Need-returns-2 Inv-loop μ-loop
 returns-2 c = zeros-end (c .before .before .args .card .now) (c .before .loop .k) (omega arith) ∙ sym (c .before .loop .inv .0)
 
