@@ -47,16 +47,16 @@ module _ {r : List ℤ} {k v : ℕ} (q : Corner r k v) (j : ℕ) (ej : j ≡ k) 
 -- ---- one after another
 
 -- what the first so many of them add at node i
-abbrev pub soFar : List ℕ → ℕ → ℕ → ℕ → ℤ
-soFar ns v a i = sum a (λ b. cond (eqb (getD ns b 0) (suc i)) (pos v) (pos 0))
+abbrev pub soFar : List ℕ → List ℕ → ℕ → ℕ → ℤ
+soFar ns vs a i = sum a (λ b. cond (eqb (getD ns b 0) (suc i)) (pos (getD vs b 0)) (pos 0))
 
-pub record SpreadInv (r₀ r : List ℤ) (ns : List ℕ) (v a : ℕ) : Type 0 where
+pub record SpreadInv (r₀ r : List ℤ) (ns vs : List ℕ) (a : ℕ) : Type 0 where
   pub upto : a ≤ length ns
-  pub cells : r ≡ table (length r₀) (λ i. cell r₀ i +ℤ soFar ns v a i)
+  pub cells : r ≡ table (length r₀) (λ i. cell r₀ i +ℤ soFar ns vs a i)
 
-pub spread-start : (r : List ℤ) (ns : List ℕ) (v : ℕ) → SpreadInv r r ns v 0
+pub spread-start : (r : List ℤ) (ns vs : List ℕ) → SpreadInv r r ns vs 0
 unfolding sum
-spread-start r ns v = record {
+spread-start r ns vs = record {
   upto = omega arith;
   cells = sym (table-cells r (length r) refl) ∙ table-ext (length r) (cell r) _ (λ i h. sym (+ℤ-idr (cell r i)));
 }
@@ -65,42 +65,45 @@ share-size : (b : Bool) (v : ℕ) → v ≤ 2 ^ 46 → natAbs (cond b (pos v) (p
 share-size true v h = h
 share-size false v h = omega arith
 
-module _ {r₀ r : List ℤ} {ns : List ℕ} {v a : ℕ} (q : Spread r₀ ns v) (w : SpreadInv r₀ r ns v a) where
+module _ {r₀ r : List ℤ} {ns vs : List ℕ} {a : ℕ} (q : Spread r₀ ns vs) (w : SpreadInv r₀ r ns vs a) where
   pub spread-long : length r ≡ length r₀
-  spread-long = ap length (w .cells) ∙ table-length (length r₀) (λ i. cell r₀ i +ℤ soFar ns v a i)
+  spread-long = ap length (w .cells) ∙ table-length (length r₀) (λ i. cell r₀ i +ℤ soFar ns vs a i)
 
-  spread-at : (i : ℕ) → i < length r₀ → cell r i ≡ cell r₀ i +ℤ soFar ns v a i
-  spread-at i h = ap (λ (x : List ℤ). cell x i) (w .cells) ∙ table-at (length r₀) i (λ i. cell r₀ i +ℤ soFar ns v a i) h
+  spread-at : (i : ℕ) → i < length r₀ → cell r i ≡ cell r₀ i +ℤ soFar ns vs a i
+  spread-at i h = ap (λ (x : List ℤ). cell x i) (w .cells) ∙ table-at (length r₀) i (λ i. cell r₀ i +ℤ soFar ns vs a i) h
 
   spread-size : (i : ℕ) → i < length r₀ → natAbs (cell r i) ≤ 2 ^ 58
   spread-size i h =
       subst (λ (z : ℤ). natAbs z ≤ 2 ^ 58) (sym (spread-at i h))
       (omega (
         arith,
-        natAbs-plus (cell r₀ i) (soFar ns v a i),
+        natAbs-plus (cell r₀ i) (soFar ns vs a i),
         q .small i h,
-        sum-size-each a (λ b. cond (eqb (getD ns b 0) (suc i)) (pos v) (pos 0)) (2 ^ 46) (λ b l. share-size (eqb (getD ns b 0) (suc i)) v (q .share-small)),
+        sum-size-each a (λ b. cond (eqb (getD ns b 0) (suc i)) (pos (getD vs b 0)) (pos 0)) (2 ^ 46) (λ b l. share-size (eqb (getD ns b 0) (suc i)) (getD vs b 0) (q .share-small b (omega (arith, w .upto, q .few)))),
         w .upto,
         q .few,
       ))
 
   -- the next corner is k
-  module _ (l : a < length ns) (k : ℕ) (ek : getD ns a 0 ≡ k) where
+  module _ (l : a < length ns) (k : ℕ) (ek : getD ns a 0 ≡ k) (v : ℕ) (ev : getD vs a 0 ≡ v) where
+    small-here : v ≤ 2 ^ 46
+    small-here = subst (λ (x : ℕ). x ≤ 2 ^ 46) ev (q .share-small a (omega (arith, q .few)))
+
     pub spread-corner : Corner r k v
     spread-corner =
         let (lo, hi) = subst (In 1 (length r₀)) ek (inside-each (length r₀) ns (q .inside) a l) in
-        record { least = lo; most = omega (arith, spread-long); share-small = q .share-small; small = λ i h. spread-size i (omega (arith, spread-long)) }
+        record { least = lo; most = omega (arith, spread-long); share-small = small-here; small = λ i h. spread-size i (omega (arith, spread-long)) }
 
-    pub spread-next : {s : List ℤ} → s ≡ table (length r) (plusAt r k v) → SpreadInv r₀ s ns v (a + 1)
+    pub spread-next : {s : List ℤ} → s ≡ table (length r) (plusAt r k v) → SpreadInv r₀ s ns vs (a + 1)
     spread-next {s} e = record {
       upto = omega arith;
-      cells = e ∙ (λ d. table (spread-long d) (plusAt r (sym ek d) v))
+      cells = e ∙ (λ d. table (spread-long d) (plusAt r (sym ek d) (sym ev d)))
           ∙ table-ext (length r₀) _ _ (λ i h.
-          ap (λ (z : ℤ). z +ℤ cond (eqb (getD ns a 0) (suc i)) (pos v) (pos 0)) (spread-at i h)
-          ∙ +ℤ-assoc (cell r₀ i) (soFar ns v a i) (cond (eqb (getD ns a 0) (suc i)) (pos v) (pos 0))
-          ∙ ap (λ (z : ℤ). cell r₀ i +ℤ z) (sym (sum-more a (λ b. cond (eqb (getD ns b 0) (suc i)) (pos v) (pos 0)))));
+          ap (λ (z : ℤ). z +ℤ cond (eqb (getD ns a 0) (suc i)) (pos (getD vs a 0)) (pos 0)) (spread-at i h)
+          ∙ +ℤ-assoc (cell r₀ i) (soFar ns vs a i) (cond (eqb (getD ns a 0) (suc i)) (pos (getD vs a 0)) (pos 0))
+          ∙ ap (λ (z : ℤ). cell r₀ i +ℤ z) (sym (sum-more a (λ b. cond (eqb (getD ns b 0) (suc i)) (pos (getD vs b 0)) (pos 0)))));
     }
 
-  pub spread-end : length ns ≤ a → r ≡ table (length r₀) (λ i. cell r₀ i +ℤ share ns (λ b. pos v) i)
+  pub spread-end : length ns ≤ a → r ≡ table (length r₀) (λ i. cell r₀ i +ℤ share ns (λ b. pos (getD vs b 0)) i)
   unfolding share
-  spread-end h = let e : a ≡ length ns = omega (arith, w .upto) in w .cells ∙ ap (λ (k : ℕ). table (length r₀) (λ i. cell r₀ i +ℤ soFar ns v k i)) e
+  spread-end h = let e : a ≡ length ns = omega (arith, w .upto) in w .cells ∙ ap (λ (k : ℕ). table (length r₀) (λ i. cell r₀ i +ℤ soFar ns vs k i)) e

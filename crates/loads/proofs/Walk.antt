@@ -169,31 +169,39 @@ part-row t row = ap (λ (l : ℕ). partOf t (rowAt t row) (kindOf l)) (row-field
 pub card-ready : {t : List ℕ} {r : List ℤ} {row : ℕ} → Room t r row → (card : List ℕ) → card ≡ rowAt t row → Card t card
 card-ready {t} {r} {row} q card e = subst (Card t) (sym e) (card-at t row (q .here .each .deck) (q .here .inside))
 
-module _ {t : List ℕ} {r : List ℤ} {row : ℕ} (q : Room t r row) (ns : List ℕ) (v : ℕ) (card : List ℕ) (eo : card ≡ rowAt t row) (ec : ns ≡ partFor t card .corners) (ev : (a : ℕ) → pos v ≡ partFor t card .load a) where
+module _ {t : List ℕ} {r : List ℤ} {row : ℕ} (q : Room t r row) (ns vs card : List ℕ) (eo : card ≡ rowAt t row) (ec : ns ≡ partFor t card .corners)
+    (ev : (a : ℕ) → a < 3 → pos (getD vs a 0) ≡ partFor t card .load a) where
   part-is : partFor t card ≡ partAt t row
   part-is = ap (partFor t) eo ∙ part-row t row
 
   corners-are : ns ≡ partAt t row .corners
   corners-are = ec ∙ ap (λ (x : Part). x .corners) part-is
 
-  load-is : (a : ℕ) → pos v ≡ partAt t row .load a
-  load-is a = ev a ∙ ap (λ (x : Part). x .load a) part-is
+  load-is : (a : ℕ) → a < 3 → pos (getD vs a 0) ≡ partAt t row .load a
+  load-is a l = ev a l ∙ ap (λ (x : Part). x .load a) part-is
 
-  pub card-spread : Spread r (ns) v
+  inner : row < rows t
+  inner = omega (arith, q .here .inside)
+
+  pub card-spread : Spread r ns vs
   card-spread =
       let d = q .here .each .deck in
-      let l : row < rows t = omega (arith, q .here .inside) in
-      let w = light d row l in
-      subst (λ (ms : List ℕ). Spread r ms v) (sym corners-are)
+      let w = light d row inner in
+      subst (λ (ms : List ℕ). Spread r ms vs) (sym corners-are)
       (record {
         few = w .few;
-        inside = subst (λ (m : ℕ). Inside m (partAt t row .corners)) (sym (q .here .each .long)) (part-corners t d row l);
-        share-small = subst (λ (z : ℤ). natAbs z ≤ 2 ^ 46) (sym (load-is 0)) (w .each 0);
+        inside = subst (λ (m : ℕ). Inside m (partAt t row .corners)) (sym (q .here .each .long)) (part-corners t d row inner);
+        share-small = λ a l. subst (λ (z : ℤ). natAbs z ≤ 2 ^ 46) (sym (load-is a l)) (w .each a);
         small = λ i h. q .small i (omega (arith, q .here .each .long));
       })
 
-  pub card-adds : {s : List ℤ} → s ≡ table (length r) (λ i. cell r i +ℤ share (ns) (λ a. pos v) i) → s ≡ table (nodes t) (λ i. cell r i +ℤ addsLoad (partAt t row) i)
-  unfolding addsLoad
+  pub card-adds : {s : List ℤ} → s ≡ table (length r) (λ i. cell r i +ℤ share ns (λ a. pos (getD vs a 0)) i) → s ≡ table (nodes t) (λ i. cell r i +ℤ addsLoad (partAt t row) i)
+  unfolding addsLoad share
   card-adds {s} e =
-      e ∙ ap (λ (m : ℕ). table m (λ i. cell r i +ℤ share (ns) (λ a. pos v) i)) (q .here .each .long)
-      ∙ (λ k. table (nodes t) (λ i. cell r i +ℤ share (corners-are k) (λ a. load-is a k) i))
+      let w = light (q .here .each .deck) row inner in
+      let own = partAt t row .corners in
+      e ∙ ap (λ (m : ℕ). table m (λ i. cell r i +ℤ share ns (λ a. pos (getD vs a 0)) i)) (q .here .each .long)
+      ∙ (λ k. table (nodes t) (λ i. cell r i +ℤ share (corners-are k) (λ a. pos (getD vs a 0)) i))
+      ∙ table-ext (nodes t) _ _ (λ i h.
+      ap (λ (z : ℤ). cell r i +ℤ z)
+      (sum-ext (length own) _ _ (λ a l. ap (λ (z : ℤ). cond (eqb (getD own a 0) (suc i)) z (pos 0)) (load-is a (omega (arith, w .few))))))

@@ -5,7 +5,7 @@ use mathlib.Core.Bool.{cond}
 use Prim.Native.Nat.{ℕ, suc, _^_, _≤_, _<_}
 use lib.Dec.{eqb}
 use lib.IntN.{ℤ, pos, natAbs, _+ℤ_}
-use lib.ListN.{length}
+use lib.ListN.{length, getD}
 use Rattle.whole.specs.Packed.{cell}
 use Rattle.paper.specs.Cards.{rows, nodes}
 use Rattle.paper.proofs.Decks.{Deck}
@@ -35,9 +35,9 @@ pub record Corner (r : List ℤ) (k v : ℕ) : Type 0 where
   pub share-small : v ≤ 2 ^ 46
   pub small : (i : ℕ) → i < length r → natAbs (cell r i) ≤ 2 ^ 58
 
--- and at each of these
-pub record Spread (r : List ℤ) (ns : List ℕ) (v : ℕ) : Type 0 where
+-- and at each of these its share
+pub record Spread (r : List ℤ) (ns vs : List ℕ) : Type 0 where
   pub few : length ns ≤ 3
   pub inside : Inside (length r) ns
-  pub share-small : v ≤ 2 ^ 46
+  pub share-small : (a : ℕ) → a < 3 → getD vs a 0 ≤ 2 ^ 46
   pub small : (i : ℕ) → i < length r → natAbs (cell r i) ≤ 2 ^ 57

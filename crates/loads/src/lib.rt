@@ -6,7 +6,7 @@ ghost use mathlib.Core.Path.{_≡_};
 ghost use mathlib.Core.Bool.{cond};
 ghost use Prim.Native.Nat.{_+_};
 ghost use lib.IntN.{pos, _+ℤ_};
-ghost use lib.ListN.{length, replicate};
+ghost use lib.ListN.{length, getD, replicate};
 ghost use Rattle.whole.specs.Sums.{table as list};
 ghost use Rattle.whole.specs.Packed.{cell};
 ghost use Rattle.paper.specs.Cards.{field, nodes, materials, elements};
@@ -39,15 +39,15 @@ fn add(r: &mut [i64], node: Node, v: u64)
     r[k] = sum;
 }
 
-// v more at each corner, of which some may be the same.
-fn spread(r: &mut [i64], c: Corners, v: u64)
-    requires { ⌜ Full c × Spread (now r) (cornersOf c) v ⌝ }
-    ensures { λ _. ⌜ now (r .exit) ≡ list (length (now (r .entry))) (λ i. cell (now (r .entry)) i +ℤ share (cornersOf c) (λ a. pos v) i) ⌝ }
+// At each corner its share; some corners may be the same.
+fn spread(r: &mut [i64], c: Corners, shares: [u64; 3])
+    requires { ⌜ Full c × Spread (now r) (cornersOf c) shares ⌝ }
+    ensures { λ _. ⌜ now (r .exit) ≡ list (length (now (r .entry))) (λ i. cell (now (r .entry)) i +ℤ share (cornersOf c) (λ a. pos (getD shares a 0)) i) ⌝ }
 {
     let nodes = c.nodes;
     let mut a = 0;
     while a < c.count {
-        add(&mut r[..], nodes[a], v);
+        add(&mut r[..], nodes[a], shares[a]);
         a += 1;
     }
 }
@@ -59,8 +59,8 @@ fn add_card(table: &[u32], r: &mut [i64], row: usize)
 {
     let card = element::card_at(table, row);
     let corners = part::corners_of(table, card);
-    let v = part::load(table, card);
-    spread(&mut r[..], corners, v);
+    let shares = part::shares(table, card);
+    spread(&mut r[..], corners, shares);
 }
 
 // The loads of each node, in place of whatever r held. Z adds none.

@@ -4,7 +4,7 @@ use paper::Node;
 use paper::Ticks;
 ghost use mathlib.Core.Path.{_≡_};
 ghost use mathlib.Core.List.{List};
-ghost use Prim.Native.Nat.{ℕ, _*_, _-_, _/_, _^_, _≤_, min};
+ghost use Prim.Native.Nat.{ℕ, _*_, _-_, _/_, _^_, _≤_, _<_, min};
 ghost use lib.IntN.{pos};
 ghost use lib.ListN.{getD};
 ghost use Rattle.paper.specs.Ticks.{kelvin};
@@ -208,8 +208,8 @@ fn film_load(film: u64, ambient: u32) -> u64
     4 * film * ambient as u64
 }
 
-// The load of each corner.
-pub fn load(table: &[u32], card: [u32; 6]) -> u64
+// What one corner gets.
+fn load(table: &[u32], card: [u32; 6]) -> u64
     requires { ⌜ Card (now table) card ⌝ }
     ensures { λ r. ⌜ ((a : ℕ) → pos r ≡ partFor (now (table .entry)) card .load a) ⌝ }
 {
@@ -218,4 +218,13 @@ pub fn load(table: &[u32], card: [u32; 6]) -> u64
         return heat_load(card[2]);
     }
     film_load(film(table, card), card[3])
+}
+
+// The share of each corner.
+pub fn shares(table: &[u32], card: [u32; 6]) -> [u64; 3]
+    requires { ⌜ Card (now table) card ⌝ }
+    ensures { λ r. ⌜ ((a : ℕ) → a < 3 → pos (getD r a 0) ≡ partFor (now (table .entry)) card .load a) ⌝ }
+{
+    let v = load(table, card);
+    [v, v, v]
 }
