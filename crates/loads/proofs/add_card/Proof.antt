@@ -17,7 +17,7 @@ corners-of-requires : tie.Need-corners-of-requires
 corners-of-requires c κs = card-ready (c .before .before .pre) (c .card-at .result) (c .card-at .ensures)
 
 shares-requires : tie.Need-shares-requires
-shares-requires c κs = search needs
+shares-requires c κs = card-ready (c .before .before .before .pre) (c .before .card-at .result) (c .before .card-at .ensures)
 
 spread-requires : tie.Need-spread-requires
 spread-requires c κs = (c .before .before .corners-of .ensures .0, card-spread (c .before .before .before .before .before .pre) (cornersOf (c .before .before .corners-of .result)) (c .before .shares .result) (c .before .before .before .card-at .result) (c .before .before .before .card-at .ensures) (c .before .before .corners-of .ensures .1) (c .before .shares .ensures))
