@@ -55,7 +55,7 @@ impl Case {
     }
 }
 
-fn call(call: Call, lent: &mut Lent) -> u64 {
+pub fn call(call: Call, lent: &mut Lent) -> u64 {
     let mut bytes = Fenced::new(&lent.bytes, 0xA5);
     let mut table = Fenced::new(&lent.table, 0xA5A5_A5A5);
     let mut temperatures = Fenced::new(&lent.temperatures, MARK);
