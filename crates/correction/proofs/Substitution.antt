@@ -3,7 +3,7 @@ use mathlib.Core.Path.{_≡_, sym, ap, subst, _∙_}
 use mathlib.Core.Bool.{Bool, true, false}
 use mathlib.Core.Logic.{⊎-elim}
 use mathlib.Core.List.{List}
-use Prim.Native.Nat.{ℕ, suc, _+_, _-_, _*_, _^_, _≤_, _<_}
+use Prim.Native.Nat.{ℕ, suc, _+_, _-_, _*_, _^_, _≤_, _<_, max}
 use native.Mathlib.Nat.{eq-or-lt-of-le}
 use native.Mathlib.Numerals.{add-one}
 use native.Mathlib.Omega.{arith}
@@ -30,7 +30,7 @@ use Rattle.paper.specs.Step.{yAt, xAt, forwardFrom, backFrom}
 use Rattle.paper.specs.declared.Refusal.the-variants.{Bound}
 use Rattle.lent.specs.Rows.{Factored}
 use Rattle.lent.proofs.Told.{factored-above}
-use Rattle.correction.specs.Asks.{Forth, Back, Left, leftTerm, downTerm, Forwarded, Backed}
+use Rattle.correction.specs.Asks.{Forth, Back, Left, Under, leftTerm, downTerm, Forwarded, Backed}
 
 -- ---- one turn of a sum
 
@@ -53,6 +53,9 @@ module _ {l ys : List ℤ} {at n : ℕ} (q : Left l at ys n) where
 
   pub left-asks : (k : ℕ) → k < n → (natAbs (rd (cell l (at + k))) ≤ 2 ^ 24) × (natAbs (rd (cell ys k)) ≤ 2 ^ 52)
   left-asks k h = (size-of (num (cell l (at + k)) (q .low k h) (lit< tt)), size-of (num (cell ys k) (q .each k h) (lit< tt)))
+
+  pub low-asks : Under ys n (2 ^ 38) → (k : ℕ) → k < n → (natAbs (rd (cell l (at + k))) ≤ 2 ^ 24) × (natAbs (rd (cell ys k)) ≤ 2 ^ 38)
+  low-asks u k h = (left-asks k h .0, size-of (num (cell ys k) (u k h) (lit< tt)))
 
   pub left-more : (k : ℕ) → k < n → (s z : ℤ) → s ≡ sum k (leftTerm l at ys) → z ≡ R (rd (cell l (at + k)) *ℤ rd (cell ys k)) → Is (s +ℤ rd z) (sum (k + 1) (leftTerm l at ys)) (96 * 2 ^ 56)
   left-more k h s z es ez =
@@ -134,6 +137,17 @@ module _ {l : List ℤ} {n : ℕ} {ys₀ ys : List ℤ} {i : ℕ} (v : ForwardIn
           (λ e. subst (λ (k : ℕ). natAbs (cell (set ys i (yAt l i ys)) k) ≤ 2 ^ 52) (sym e) (subst (λ (w : ℤ). natAbs w ≤ 2 ^ 52) (sym (getD-set-same ys i (yAt l i ys) (pos 0) (omega (arith, v .state .long)))) b))
           (λ q. subst (λ (w : ℤ). natAbs w ≤ 2 ^ 52) (sym (getD-set-other ys i j (yAt l i ys) (pos 0) (omega arith))) (v .state .below j q))
           (eq-or-lt-of-le (let r : j ≤ i = omega arith in r))
+
+-- the largest so far
+pub under-start : (ys : List ℤ) → Under ys 0 0
+under-start ys k h = absurd (omega arith)
+
+pub under-next : {n : ℕ} {ys : List ℤ} {i most : ℕ} → Forth ys i n → Under ys i most → i < n → (z : ℤ) (m : ℕ) → m ≡ natAbs z → (w : ℕ) → w ≡ max most m → Under (set ys i z) (i + 1) w
+under-next {n} {ys} {i} {most} y u h z m em w ew j p =
+    ⊎-elim
+    (λ e. subst (λ (k : ℕ). natAbs (cell (set ys i z) k) ≤ w) (sym e) (subst (λ (x : ℤ). natAbs x ≤ w) (sym (getD-set-same ys i z (pos 0) (omega (arith, y .long)))) (omega (arith, em, ew))))
+    (λ q. subst (λ (x : ℤ). natAbs x ≤ w) (sym (getD-set-other ys i j z (pos 0) (omega arith))) (omega (arith, u j q, ew)))
+    (eq-or-lt-of-le (let r : j ≤ i = omega arith in r))
 
 pub forward-end : {l : List ℤ} {n : ℕ} {ys₀ ys : List ℤ} {i : ℕ} → ForwardInv l n ys₀ ys i → n ≤ i → Forwarded 0 l n ys₀ ys
 unfolding forwardFrom

@@ -3,14 +3,14 @@ use paper::Answer;
 use paper::Refusal;
 use paper::Ticks;
 ghost use mathlib.Core.Path.{_≡_};
-ghost use Prim.Native.Nat.{suc, _+_, _-_, _^_, _≤_, _<_};
+ghost use Prim.Native.Nat.{suc, _+_, _-_, _^_, _≤_, _<_, max};
 ghost use lib.IntN.{ℤ, pos, natAbs, _+ℤ_, _*ℤ_};
 ghost use lib.Signed.{_<ℤ_};
 ghost use Rattle.whole.specs.Nearest.{nearest};
 ghost use Rattle.whole.specs.Sums.{sum};
 ghost use Rattle.paper.specs.Step.{yAt, xAt};
 ghost use Rattle.lent.specs.Rows.{Factored, Mild};
-ghost use Rattle.correction.specs.Asks.{Forth, Back, Left, leftTerm, downTerm, Forwarded, Backed, Added, Corrected};
+ghost use Rattle.correction.specs.Asks.{Forth, Back, Left, Under, leftTerm, downTerm, Forwarded, Backed, Added, Corrected};
 
 // ---- forward
 
@@ -28,11 +28,42 @@ fn left(l: &[i64], at: usize, y: &[i64], n: usize) -> i64
     sum
 }
 
-fn y_at(l: &[i64], y: &[i64], i: usize, n: usize) -> i64
-    requires { ⌜ (i < n) × Factored (now l) n × Forth (now y) i n ⌝ }
+// The same where no y passes 2^38, which needs no splitting.
+fn left_low(l: &[i64], at: usize, y: &[i64], n: usize) -> i64
+    requires { ⌜ Left (now l) at (now y) n × Under (now y) n (2 ^ 38) ⌝ }
+    ensures { λ r. ⌜ r ≡ sum n (leftTerm (now (l .entry)) at (now (y .entry))) ⌝ }
+{
+    let mut sum: i64 = 0;
+    let mut k = 0;
+    while k < n {
+        sum += whole::scaled_product(l[at + k], y[k]);
+        k += 1;
+    }
+    sum
+}
+
+// And where none passes `most`.
+fn left_under(l: &[i64], at: usize, y: &[i64], n: usize, most: u64) -> i64
+    requires { ⌜ Left (now l) at (now y) n × Under (now y) n most ⌝ }
+    ensures { λ r. ⌜ r ≡ sum n (leftTerm (now (l .entry)) at (now (y .entry))) ⌝ }
+{
+    if most <= 274_877_906_944 {
+        return left_low(l, at, y, n);
+    }
+    left(l, at, y, n)
+}
+
+fn y_at(l: &[i64], y: &[i64], i: usize, n: usize, most: u64) -> i64
+    requires { ⌜ (i < n) × Factored (now l) n × Forth (now y) i n × Under (now y) i most ⌝ }
     ensures { λ r. ⌜ r ≡ yAt (now (l .entry)) i (now (y .entry)) ⌝ }
 {
-    whole::minus(y[i], left(l, whole::start(i), y, i))
+    whole::minus(y[i], left_under(l, whole::start(i), y, i, most))
+}
+
+fn larger(a: u64, b: u64) -> u64
+    ensures { λ r. ⌜ r ≡ max a b ⌝ }
+{
+    if a < b { b } else { a }
 }
 
 // y in place of r. The row whose y passes 2^52, from 1, or 0.
@@ -40,12 +71,14 @@ fn forward(l: &[i64], y: &mut [i64], n: usize) -> u32
     requires { ⌜ Factored (now l) n × Forth (now y) 0 n ⌝ }
     ensures { λ row. ⌜ Forwarded row (now (l .entry)) n (now (y .entry)) (now (y .exit)) ⌝ }
 {
+    let mut most: u64 = 0;
     let mut i = 0;
     while i < n {
-        let v = y_at(l, &y[..], i, n);
+        let v = y_at(l, &y[..], i, n, most);
         if 4_503_599_627_370_496 < whole::size(v) {
             return (i + 1) as u32;
         }
+        most = larger(most, whole::size(v));
         y[i] = v;
         i += 1;
     }
