@@ -1,9 +1,17 @@
-// Reads a deck from standard input and writes it back, without its notes: the same bytes from D to Z. What it refuses it does not write.
-use libc::STDERR_FILENO;
+// Reads a deck from standard input and writes it back, without its notes: the same bytes from D to Z. A refusal prints `R number place` alone.
 use libc::STDIN_FILENO;
 use libc::STDOUT_FILENO;
 ghost use Prim.Native.Nat.{_*_, _≤_};
 ghost use lib.ListN.{length};
+
+// A refusal out of a packed answer.
+fn refused(answer: u64) {
+    io::write_all(STDOUT_FILENO, b"R ");
+    io::print_decimal(STDOUT_FILENO, answer % 256);
+    io::write_all(STDOUT_FILENO, b" ");
+    io::print_decimal(STDOUT_FILENO, answer / 65_536);
+    io::write_all(STDOUT_FILENO, b"\n");
+}
 
 // The table's deck as bytes.
 fn written(table: &[u32]) {
@@ -22,7 +30,7 @@ fn main() {
     let n = io::read_full(STDIN_FILENO, &mut bytes);
     let part = deck::read(&bytes[..n], &mut table, &mut answer);
     if answer != 0 {
-        io::write_all(STDERR_FILENO, b"rewrite: not a deck\n");
+        refused(answer);
         return;
     }
     let k = part.len() / 42 * 6;
