@@ -53,7 +53,7 @@ fn size(x: u32) -> usize {
 fn stepped(table: &[u32], p: &[i64], a: &[i64], factor: &[i64], temperatures: &mut [i64]) {
     match run::run(table, p, a, factor, &mut temperatures[..]) {
         Ran::Finished(steps) => printed(&temperatures[..], steps),
-        Ran::Refused(why) => refused(deck::packed_refusal(why)),
+        Ran::Refused(why) => refused(paper::packed_answer(Answer::Refused(why))),
     }
 }
 
@@ -65,7 +65,7 @@ fn ran(table: &[u32]) {
     let mut temperatures = [0i64; 96];
     let answer = model::build(table, &mut p, &mut a, &mut factor, &mut work);
     if let Answer::Refused(why) = answer {
-        refused(deck::packed_refusal(why));
+        refused(paper::packed_answer(Answer::Refused(why)));
         return;
     }
     let n = nodes(table);
@@ -76,8 +76,8 @@ fn ran(table: &[u32]) {
 }
 
 fn main() {
-    let mut bytes = [0u8; 65_537];
-    let mut table = [0u32; 4_092];
+    let mut bytes = [0u8; deck::BYTES + 1];
+    let mut table = [0u32; deck::NUMBERS];
     let mut answer: u64 = 0;
     let n = io::read_full(STDIN_FILENO, &mut bytes);
     let part = deck::read(&bytes[..n], &mut table, &mut answer);
@@ -86,7 +86,7 @@ fn main() {
         return;
     }
     let k = part.len() / 42 * 6;
-    if k <= 4_092 {
+    if k <= deck::NUMBERS {
         ran(&table[0..k]);
     }
 }
