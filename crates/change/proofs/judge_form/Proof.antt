@@ -1,15 +1,7 @@
 use borrow.Author.Needs.{needs}
 use Rattle.change.proofs.judge_form.Statement.{statement}
 use Rattle.change.proofs.judge_form.Tie as tie
-use Rattle.change.proofs.judge_form.Reads as reads
-use Rattle.change.proofs.judge_form.Lts as lts
-use Rattle.change.proofs.element_in.Reads as element-in-reads
-use Rattle.element.proofs.element.Reads as element-reads
-use Rattle.element.proofs.judge_card.Reads as judge-card-reads
-use Rattle.element.proofs.judge_element.Reads as judge-element-reads
-use Rattle.part.proofs.by_letter.Reads as by-letter-reads
 
--- src/lib.rt:34:30
 use mathlib.Core.Path.{_≡_, sym, ap, subst, _∙_}
 use Prim.Native.Nat.{ℕ}
 use Rattle.paper.specs.Cards.{elements}
@@ -19,40 +11,31 @@ use Rattle.change.proofs.Forming.{element-card, own-row, judged-own, na
 array-read-by-letter : tie.Need-array-read-by-letter
 array-read-by-letter c = search needs
 
--- src/lib.rt:34:9
 by-letter-requires : tie.Need-by-letter-requires
 by-letter-requires c κs = search needs
 
--- src/lib.rt:36:48
 element-in-requires : tie.Need-element-in-requires
 element-in-requires c κs = own-row (c .before .before .before .args .table .now) (c .before .before .before .args .row) (c .before .before .before .args .t3) (c .before .before .before .pre) (c .before .by-letter .result) (c .before .by-letter .ensures) (c .if1 .taken)
 
--- src/lib.rt:36:9
 judge-card-requires : tie.Need-judge-card-requires
 judge-card-requires c κs = element-card (c .before .before .before .before .args .table .now) (c .before .before .before .before .args .row) (c .before .before .before .before .args .t3) (c .before .before .before .before .pre) (c .before .before .by-letter .result) (c .before .before .by-letter .ensures) (c .before .if1 .taken)
 
--- src/lib.rt:36:9
 returns : tie.Need-returns
 returns c = judged-own (c .before .before .before .before .before .args .table .now) (c .before .before .before .before .before .args .row) (c .before .before .before .before .before .args .t3) (c .before .before .before .before .before .pre) (c .before .before .before .by-letter .result) (c .before .before .before .by-letter .ensures) (c .before .before .if1 .taken) (c .judge-card .ensures) (c .before .element-in .ensures)
 
--- src/lib.rt:39:63
 array-read-element : tie.Need-array-read-element
 array-read-element c = search needs
 
--- src/lib.rt:39:46
 element-requires : tie.Need-element-requires
 element-requires c κs = few-named (c .before .before .before .before .args .table .now) (c .before .before .before .before .args .row) (c .before .before .before .before .args .t3) (c .before .before .before .before .pre) (c .before .before .by-letter .result) (c .before .before .by-letter .ensures) (c .before .if1 .left) (c .if2 .taken)
 
--- src/lib.rt:39:9
 judge-element-requires : tie.Need-judge-element-requires
 judge-element-requires c κs =
     (c .before .before .before .before .before .pre .deck, subst (In 1 (elements (c .before .before .before .before .before .args .table .now))) (sym (c .element .ensures)) (named (c .before .before .before .before .before .args .table .now) (c .before .before .before .before .before .args .row) (c .before .before .before .before .before .args .t3) (c .before .before .before .before .before .pre) (c .before .before .before .by-letter .result) (c .before .before .before .by-letter .ensures) (c .before .before .if1 .left) (c .before .if2 .taken)))
 
--- src/lib.rt:39:9
 returns-2 : tie.Need-returns-2
 returns-2 c = judged-named (c .before .before .before .before .before .before .args .table .now) (c .before .before .before .before .before .before .args .row) (c .before .before .before .before .before .before .args .t3) (c .before .before .before .before .before .before .pre) (c .before .before .before .before .by-letter .result) (c .before .before .before .before .by-letter .ensures) (c .before .before .before .if1 .left) (c .before .before .if2 .taken) (c .judge-element .ensures) (c .before .element .ensures)
 
--- src/lib.rt:30:1
 returns-3 : tie.Need-returns-3
 returns-3 c = judged-none (c .before .before .before .before .args .table .now) (c .before .before .before .before .args .row) (c .before .before .before .before .args .t3) (c .before .before .before .before .pre) (c .before .before .by-letter .result) (c .before .before .by-letter .ensures) (c .before .if1 .left) (c .if2 .left)
 

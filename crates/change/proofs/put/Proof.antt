@@ -1,11 +1,7 @@
 use borrow.Author.Needs.{needs}
 use Rattle.change.proofs.put.Statement.{statement}
 use Rattle.change.proofs.put.Tie as tie
-use Rattle.change.proofs.put.Reads as reads
-use Rattle.change.proofs.put.Lts as lts
-use Rattle.kinds.proofs.row_to.Reads as row-to-reads
 
--- src/lib.rt:82:14
 use mathlib.Core.Path.{_≡_, ap, _∙_}
 use mathlib.Core.List.{List, _++_}
 use Prim.Native.Nat.{ℕ, _+_, _-_, _*_}
@@ -23,35 +19,27 @@ in-place t card ys row e =
 mul-at : tie.Need-mul-at
 mul-at c = search needs
 
--- src/lib.rt:83:15
 add-end : tie.Need-add-end
 add-end c = search needs
 
--- src/lib.rt:84:25
 mul-row-to : tie.Need-mul-row-to
 mul-row-to c = search needs
 
--- src/lib.rt:84:25
 sub-row-to : tie.Need-sub-row-to
 sub-row-to c = search needs
 
--- src/lib.rt:84:25
 part-row-to-start : tie.Need-part-row-to-start
 part-row-to-start c = search needs
 
--- src/lib.rt:84:25
 part-row-to-end : tie.Need-part-row-to-end
 part-row-to-end c = search needs
 
--- src/lib.rt:84:5
 row-to-requires : tie.Need-row-to-requires
 row-to-requires c κs = search needs
 
--- src/lib.rt:78:1
 same-length : tie.Need-same-length
 same-length c = search needs
 
--- src/lib.rt:78:1
 returns : tie.Need-returns
 returns c = in-place (c .before .before .before .before .before .args .table .now) (c .before .before .before .before .before .args .card) (c .before .before .row-to .last .1 .0) (c .before .before .before .before .before .args .row) (c .before .before .row-to .ensures)
 

@@ -1,13 +1,7 @@
 use borrow.Author.Needs.{needs}
 use Rattle.change.proofs.square.Statement.{statement}
 use Rattle.change.proofs.square.Tie as tie
-use Rattle.change.proofs.square.Reads as reads
-use Rattle.change.proofs.square.Lts as lts
-use Rattle.element.proofs.card_at.Reads as card-at-reads
-use Rattle.part.proofs.square_a.Reads as square-a-reads
-use Rattle.triangle.proofs.minus.Reads as minus-reads
 
--- src/lib.rt:51:9
 use mathlib.Core.Path.{_≡_, sym, ap, subst, _∙_}
 use mathlib.Core.List.{List}
 use Prim.Native.Nat.{ℕ}
@@ -22,19 +16,15 @@ use Rattle.change.proofs.Moving.{small-A, minus-is}
 card-at-requires : tie.Need-card-at-requires
 card-at-requires c κs = row-room (c .before .args .table .now) (c .before .args .row) (c .before .args .new) (c .before .pre .changes)
 
--- src/lib.rt:52:21
 square-a-requires : tie.Need-square-a-requires
 square-a-requires c κs = (c .before .before .pre .changes .card, solid-new (c .before .before .args .table .now) (c .before .before .args .row) (c .before .before .args .new) (c .before .before .pre))
 
--- src/lib.rt:52:49
 square-a-requires-2 : tie.Need-square-a-requires-2
 square-a-requires-2 c κs = subst (λ (z : List ℕ). Card (c .before .before .before .args .table .now) z × Solid (c .before .before .before .args .table .now) z) (sym (c .before .card-at .ensures)) (old-card (c .before .before .before .args .table .now) (c .before .before .before .args .row) (c .before .before .before .args .new) (c .before .before .before .pre .changes), solid-old (c .before .before .before .args .table .now) (c .before .before .before .args .row) (c .before .before .before .args .new) (c .before .before .before .pre))
 
--- src/lib.rt:52:5
 minus-requires : tie.Need-minus-requires
 minus-requires c κs = small-A (c .before .before .before .before .args .table .now) (c .before .before .before .before .args .row) (c .before .before .before .before .args .new) (c .before .before .before .before .pre) (c .before .square-a .ensures) (c .square-a2 .ensures ∙ ap (λ (z : List ℕ). squareOf (squareA (partFor (c .before .before .before .before .args .table .now) z))) (c .before .before .card-at .ensures))
 
--- src/lib.rt:47:1
 returns : tie.Need-returns
 returns c = minus-is (squareA (partFor (c .before .before .before .before .before .args .table .now) (c .before .before .before .before .before .args .new))) (squareA (partFor (c .before .before .before .before .before .args .table .now) (rowAt (c .before .before .before .before .before .args .table .now) (c .before .before .before .before .before .args .row)))) (c .before .before .square-a .ensures) (c .before .square-a2 .ensures ∙ ap (λ (z : List ℕ). squareOf (squareA (partFor (c .before .before .before .before .before .args .table .now) z))) (c .before .before .before .card-at .ensures)) (c .minus .ensures)
 

@@ -1,14 +1,7 @@
 use borrow.Author.Needs.{needs}
 use Rattle.change.proofs.stored.Statement.{statement}
 use Rattle.change.proofs.stored.Tie as tie
-use Rattle.change.proofs.stored.Reads as reads
-use Rattle.change.proofs.stored.Lts as lts
-use Rattle.element.proofs.card_at.Reads as card-at-reads
-use Rattle.part.proofs.stored.Reads as stored-reads
-use Rattle.triangle.proofs.mass.Reads as mass-reads
-use Rattle.triangle.proofs.minus.Reads as minus-reads
 
--- src/lib.rt:60:9
 use mathlib.Core.Path.{_≡_, sym, ap, subst, _∙_}
 use mathlib.Core.List.{List}
 use Prim.Native.Nat.{ℕ}
@@ -20,27 +13,21 @@ use Rattle.change.proofs.Moving.{small-P, stored-is}
 card-at-requires : tie.Need-card-at-requires
 card-at-requires c κs = row-room (c .before .args .table .now) (c .before .args .row) (c .before .args .new) (c .before .pre)
 
--- src/lib.rt:61:29
 stored-requires : tie.Need-stored-requires
 stored-requires c κs = c .before .before .pre .card
 
--- src/lib.rt:61:9
 mass-requires : tie.Need-mass-requires
 mass-requires c κs = c .stored .ensures .1
 
--- src/lib.rt:62:40
 stored-requires-2 : tie.Need-stored-requires-2
 stored-requires-2 c κs = subst (Card (c .before .before .before .before .args .table .now)) (sym (c .before .before .card-at .ensures)) (old-card (c .before .before .before .before .args .table .now) (c .before .before .before .before .args .row) (c .before .before .before .before .args .new) (c .before .before .before .before .pre))
 
--- src/lib.rt:62:25
 mass-requires-2 : tie.Need-mass-requires-2
 mass-requires-2 c κs = c .stored2 .ensures .1
 
--- src/lib.rt:62:5
 minus-requires : tie.Need-minus-requires
 minus-requires c κs = small-P (c .before .before .before .before .before .before .args .table .now) (c .before .before .before .before .before .before .args .row) (c .before .before .before .before .before .before .args .new) (c .before .before .before .before .before .before .pre) (c .before .before .before .stored .ensures .1) (c .before .stored2 .ensures .1) (c .before .before .mass .ensures) (c .mass2 .ensures)
 
--- src/lib.rt:56:1
 returns : tie.Need-returns
 returns c = stored-is (c .before .before .before .before .before .before .before .args .table .now) (c .before .before .before .before .before .before .before .args .row) (c .before .before .before .before .before .before .before .args .new) (c .before .before .before .before .before .before .before .pre) (c .before .before .before .before .stored .ensures .0) (c .before .before .stored2 .ensures .0 ∙ ap (λ (z : List ℕ). partFor (c .before .before .before .before .before .before .before .args .table .now) z .capacity) (c .before .before .before .before .before .card-at .ensures)) (c .before .before .before .mass .ensures) (c .before .mass2 .ensures) (c .minus .ensures)
 

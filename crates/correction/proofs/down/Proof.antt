@@ -8,7 +8,6 @@ use native.Mathlib.Omega.{arith}
 use lib.Dec.{lit<}
 use mir.Syntax.{w64}
 use mir.Val.{toZ}
-use Rattle.whole.specs.Sums.{sum as total}
 use Rattle.whole.specs.Packed.{tri}
 use Rattle.whole.proofs.Calc.{fits, again}
 use Rattle.whole.proofs.Packed.{tri-96, tri-next}

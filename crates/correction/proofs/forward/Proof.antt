@@ -1,10 +1,5 @@
 use Rattle.correction.proofs.forward.Statement.{statement}
 use Rattle.correction.proofs.forward.Tie as tie
-use Rattle.correction.proofs.forward.Reads as reads
-use Rattle.correction.proofs.forward.Lts as lts
-use Rattle.correction.proofs.larger.Reads as larger-reads
-use Rattle.correction.proofs.y_at.Reads as y-at-reads
-use Rattle.whole.proofs.size.Reads as size-reads
 
 use Prim.Native.Nat.{_-_}
 use native.Mathlib.Omega.{arith}
@@ -18,67 +13,51 @@ Inv-loop l y₀ n most₀ i₀ y most i = ForwardInv l n y₀ y i × Under y i m
 abbrev μ-loop : tie.MeasureT-loop
 μ-loop l y₀ n most₀ i₀ y most i = n - i
 
--- src/lib.rt:76:5
 loop-holds : tie.Need-loop-holds Inv-loop μ-loop
 loop-holds c = (forward-start (c .args .l .now) (c .args .n) (c .args .y .now) (c .pre .1), under-start (c .args .y .now))
 
--- src/lib.rt:77:13
 y-at-requires : tie.Need-y-at-requires Inv-loop μ-loop
 y-at-requires c κs = (c .before .loop-test .taken, c .before .before .before .pre .0, c .before .before .loop .inv .0 .state, c .before .before .loop .inv .1)
 
--- src/lib.rt:78:36
 size-requires : tie.Need-size-requires Inv-loop μ-loop
 size-requires c κs = search needs
 
--- src/lib.rt:79:21
 add-result : tie.Need-add-result Inv-loop μ-loop
 add-result c = omega (arith, c .before .before .before .before .before .before .pre .0 .rows .few)
 
--- src/lib.rt:79:20
 cast-result : tie.Need-cast-result Inv-loop μ-loop
 cast-result c = omega (arith, c .before .before .before .before .before .before .pre .0 .rows .few)
 
--- src/lib.rt:79:13
 same-length : tie.Need-same-length Inv-loop μ-loop
 same-length c = omega (arith, c .before .before .before .before .before .loop .inv .0 .state .long, c .before .before .before .before .before .before .pre .1 .long)
 
--- src/lib.rt:79:13
 returns : tie.Need-returns Inv-loop μ-loop
 returns c = forward-no (c .before .before .before .before .before .loop .inv .0) (c .before .before .before .before .loop-test .taken) (c .before .before .y-at .result) (sfits-of (c .before .before .y-at .ok)) (c .before .before .y-at .ensures) (c .before .size .result) (c .before .size .ensures) (c .if1 .taken)
 
--- src/lib.rt:81:29
 size-requires-2 : tie.Need-size-requires-2 Inv-loop μ-loop
 size-requires-2 c κs = search needs
 
--- src/lib.rt:81:9
 larger-requires : tie.Need-larger-requires Inv-loop μ-loop
 larger-requires c κs = search needs
 
--- src/lib.rt:82:9
 mul-v : tie.Need-mul-v Inv-loop μ-loop
 mul-v c = omega (arith, c .before .before .before .before .before .before .before .loop .inv .0 .state .long)
 
--- src/lib.rt:82:9
 slice-set-from-v : tie.Need-slice-set-from-v Inv-loop μ-loop
 slice-set-from-v c = omega (arith, c .before .before .before .before .before .before .before .loop .inv .0 .state .long)
 
--- src/lib.rt:83:9
 add-i : tie.Need-add-i Inv-loop μ-loop
 add-i c = omega (arith, c .before .before .before .before .before .before .before .before .pre .0 .rows .few)
 
--- src/lib.rt:76:5
 loop-less : tie.Need-loop-less Inv-loop μ-loop
 loop-less c = search needs
 
--- src/lib.rt:76:5
 loop-again : tie.Need-loop-again Inv-loop μ-loop
 loop-again c = (forward-yes (c .before .before .before .before .before .before .before .loop .inv .0) (c .before .before .before .before .before .before .loop-test .taken) (c .before .before .before .before .y-at .result) (sfits-of (c .before .before .before .before .y-at .ok)) (c .before .before .before .before .y-at .ensures) (c .before .before .before .size .result) (c .before .before .before .size .ensures) (c .before .before .if1 .left), under-next (c .before .before .before .before .before .before .before .loop .inv .0 .state) (c .before .before .before .before .before .before .before .loop .inv .1) (c .before .before .before .before .before .before .loop-test .taken) _ (c .before .size2 .result) (c .before .size2 .ensures) (c .larger .result) (c .larger .ensures))
 
--- src/lib.rt:70:1
 same-length-2 : tie.Need-same-length-2 Inv-loop μ-loop
 same-length-2 c = omega (arith, c .before .loop .inv .0 .state .long, c .before .before .pre .1 .long)
 
--- src/lib.rt:70:1
 returns-2 : tie.Need-returns-2 Inv-loop μ-loop
 returns-2 c = forward-end (c .before .loop .inv .0) (omega arith)
 

@@ -8,7 +8,6 @@ use native.Mathlib.Omega.{arith}
 use lib.Dec.{lit<}
 use mir.Syntax.{w64}
 use mir.Val.{toZ}
-use Rattle.whole.specs.Sums.{sum as total}
 use Rattle.whole.proofs.Calc.{fits, again}
 use Rattle.correction.specs.Asks.{leftTerm}
 use Rattle.correction.proofs.Substitution.{left-asks, left-more}

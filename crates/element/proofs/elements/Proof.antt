@@ -1,10 +1,7 @@
 use borrow.Author.Needs.{needs}
 use Rattle.element.proofs.elements.Statement.{statement}
 use Rattle.element.proofs.elements.Tie as tie
-use Rattle.element.proofs.elements.Reads as reads
-use Rattle.element.proofs.elements.Lts as lts
 
--- src/lib.rt:85:11
 use mathlib.Core.Path.{ap}
 use Prim.Native.Nat.{ℕ, _-_}
 use native.Mathlib.Omega.{arith}
@@ -14,15 +11,12 @@ use Rattle.paper.specs.Cards as cards
 sub-result : tie.Need-sub-result
 sub-result c = search needs
 
--- src/lib.rt:85:5
 mul-result : tie.Need-mul-result
 mul-result c = search needs
 
--- src/lib.rt:85:5
 shared-slice-read-result : tie.Need-shared-slice-read-result
 shared-slice-read-result c = search needs
 
--- src/lib.rt:81:1
 returns : tie.Need-returns
 unfolding cards.elements cards.field
 returns c = ap (λ (k : ℕ). getD (c .before .args .table .now) k 0) (omega (arith, c .before .pre .whole, c .before .pre .all))

@@ -1,13 +1,7 @@
 use borrow.Author.Needs.{needs}
 use Rattle.element.proofs.judge_card.Statement.{statement}
 use Rattle.element.proofs.judge_card.Tie as tie
-use Rattle.element.proofs.judge_card.Reads as reads
-use Rattle.element.proofs.judge_card.Lts as lts
-use Rattle.element.proofs.field.Reads as field-reads
-use Rattle.element.proofs.triangle_of.Reads as triangle-of-reads
-use Rattle.triangle.proofs.judge.Reads as judge-reads
 
--- src/lib.rt:158:21
 use mathlib.Core.Path.{_∙_, ap, sym, subst}
 use Rattle.paper.specs.Corners.{Body}
 use Rattle.paper.specs.Elements as paper
@@ -18,17 +12,14 @@ use Rattle.element.proofs.Ranges.{sized-of, step-of, made-is}
 triangle-of-requires : tie.Need-triangle-of-requires
 triangle-of-requires c κs = search needs
 
--- src/lib.rt:158:47
 field-requires : tie.Need-field-requires
 field-requires c κs = search needs
 
--- src/lib.rt:158:5
 judge-requires : tie.Need-judge-requires
 judge-requires c κs =
     let t = c .before .before .before .args .table .now in
     (subst Sized (sym (c .before .triangle-of .ensures)) (sized-of t (c .before .before .before .args .card) (c .before .before .before .pre)), subst Step (sym (c .field .ensures)) (step-of t (c .before .before .before .pre .deck)))
 
--- src/lib.rt:154:1
 returns : tie.Need-returns
 returns c =
     let t = c .before .before .before .before .args .table .now in

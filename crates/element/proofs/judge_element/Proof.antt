@@ -1,12 +1,7 @@
 use borrow.Author.Needs.{needs}
 use Rattle.element.proofs.judge_element.Statement.{statement}
 use Rattle.element.proofs.judge_element.Tie as tie
-use Rattle.element.proofs.judge_element.Reads as reads
-use Rattle.element.proofs.judge_element.Lts as lts
-use Rattle.element.proofs.element_card.Reads as element-card-reads
-use Rattle.element.proofs.judge_card.Reads as judge-card-reads
 
--- src/lib.rt:165:23
 use mathlib.Core.Path.{_∙_, ap, sym, subst}
 use mathlib.Core.List.{List}
 use Prim.Native.Nat.{ℕ}
@@ -17,11 +12,9 @@ use Rattle.element.proofs.Ranges.{card-of}
 element-card-requires : tie.Need-element-card-requires
 element-card-requires c κs = search needs
 
--- src/lib.rt:165:5
 judge-card-requires : tie.Need-judge-card-requires
 judge-card-requires c κs = subst (ElementCard (c .before .before .args .table .now)) (sym (c .element-card .ensures)) (card-of (c .before .before .args .table .now) (c .before .before .args .e .0) (c .before .before .pre .0) (c .before .before .pre .1))
 
--- src/lib.rt:161:1
 returns : tie.Need-returns
 unfolding paper.elementJudged
 returns c = c .judge-card .ensures ∙ ap (λ (card : List ℕ). paper.formJudged (paper.elementOf (c .before .before .before .args .table .now) card) (c .before .before .before .args .e .0)) (c .before .element-card .ensures)

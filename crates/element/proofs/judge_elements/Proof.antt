@@ -1,10 +1,5 @@
 use Rattle.element.proofs.judge_elements.Statement.{statement}
 use Rattle.element.proofs.judge_elements.Tie as tie
-use Rattle.element.proofs.judge_elements.Reads as reads
-use Rattle.element.proofs.judge_elements.Lts as lts
-use Rattle.element.proofs.element.Reads as element-reads
-use Rattle.element.proofs.elements.Reads as elements-reads
-use Rattle.element.proofs.judge_element.Reads as judge-element-reads
 
 use borrow.Author.Needs.{needs}
 use mathlib.Core.Path.{_≡_, sym, _∙_, ap}
@@ -25,7 +20,6 @@ Inv-loop table n e₀ e = (1 ≤ e) × (e ≤ n + 1) × (elementsFrom (n + 1 - e
 abbrev μ-loop : tie.MeasureT-loop
 μ-loop table n e₀ e = n + 1 - e
 
--- src/lib.rt:173:9
 -- one element more
 turn : (n e : ℕ) (t : List ℕ) → e ≤ n → elementsFrom (n + 1 - e) e t ≡ andThen (elementJudged t e) (elementsFrom (n + 1 - (e + 1)) (e + 1) t)
 unfolding elementsFrom
@@ -43,26 +37,21 @@ none-left n e t all h q = let z : n + 1 - e ≡ zero = omega arith in rw z at q
 elements-requires : tie.Need-elements-requires Inv-loop μ-loop
 elements-requires c κs = search needs
 
--- src/lib.rt:175:5
 loop-holds : tie.Need-loop-holds Inv-loop μ-loop
 loop-holds c = (omega arith, omega arith, ap (λ (k : ℕ). elementsFrom k 1 (c .before .before .args .table .now)) (omega arith))
 
--- src/lib.rt:176:43
 element-requires : tie.Need-element-requires Inv-loop μ-loop
 element-requires c κs = omega (arith, c .before .before .elements .ensures, c .before .before .before .before .pre .someE)
 
--- src/lib.rt:176:13
 judge-element-requires : tie.Need-judge-element-requires Inv-loop μ-loop
 judge-element-requires c κs = (c .before .before .before .before .before .pre, (omega (arith, c .element .ensures), omega (arith, c .element .ensures, c .before .before .before .elements .ensures)))
 
 enum-told : tie.Need-enum-told Inv-loop μ-loop
 enum-told c = search needs
 
--- src/lib.rt:178:13
 enum-told-2 : tie.Need-enum-told-2 Inv-loop μ-loop
 enum-told-2 c = search needs
 
--- src/lib.rt:178:13
 returns : tie.Need-returns Inv-loop μ-loop
 returns c =
     let t = c .before .before .before .before .before .before .before .before .args .table .now in
@@ -70,21 +59,17 @@ returns c =
     e ∙ refused (c .before .before .before .before .before .before .elements .result) (c .before .before .before .before .before .loop .e) t _ _ (c .before .before .before .before .loop-test .taken) (sym e ∙ c .enum-told2 .given .1) (c .before .before .before .before .before .loop .inv .2)
     ∙ ap (λ (k : ℕ). elementsFrom k 1 t) (c .before .before .before .before .before .before .elements .ensures)
 
--- src/lib.rt:180:9
 add-e : tie.Need-add-e Inv-loop μ-loop
 add-e c = omega (arith, c .before .before .before .before .before .before .elements .ensures, c .before .before .before .before .before .before .before .before .pre .someE)
 
--- src/lib.rt:175:5
 loop-less : tie.Need-loop-less Inv-loop μ-loop
 loop-less c = search needs
 
--- src/lib.rt:175:5
 loop-again : tie.Need-loop-again Inv-loop μ-loop
 loop-again c =
     let t = c .before .before .before .before .before .before .before .before .args .table .now in
     (omega arith, omega arith, passed (c .before .before .before .before .before .before .elements .result) (c .before .before .before .before .before .loop .e) t _ (c .before .before .before .before .loop-test .taken) (ap (elementJudged t) (sym (c .before .before .before .element .ensures)) ∙ sym (c .before .before .judge-element .ensures) ∙ c .enum-told .given .1) (c .before .before .before .before .before .loop .inv .2))
 
--- src/lib.rt:169:1
 returns-2 : tie.Need-returns-2 Inv-loop μ-loop
 returns-2 c =
     let t = c .before .before .before .before .args .table .now in

@@ -1,13 +1,7 @@
 use borrow.Author.Needs.{needs}
 use Rattle.element.proofs.shape_of.Statement.{statement}
 use Rattle.element.proofs.shape_of.Tie as tie
-use Rattle.element.proofs.shape_of.Reads as reads
-use Rattle.element.proofs.shape_of.Lts as lts
-use Rattle.element.proofs.field.Reads as field-reads
-use Rattle.element.proofs.node.Reads as node-reads
-use Rattle.element.proofs.node_row.Reads as node-row-reads
 
--- src/lib.rt:123:18
 use mathlib.Core.Path.{_≡_, _∙_, ap}
 use mathlib.Core.List.{List, [], _∷_}
 use Prim.Native.Nat.{ℕ}
@@ -20,63 +14,48 @@ field-at t n k p q = p ∙ ap (λ (z : ℕ). cards.field t z k) q
 array-read-node : tie.Need-array-read-node
 array-read-node c = search needs
 
--- src/lib.rt:123:9
 node-requires : tie.Need-node-requires
 node-requires c κs = search needs
 
--- src/lib.rt:124:18
 array-read-node-2 : tie.Need-array-read-node-2
 array-read-node-2 c = search needs
 
--- src/lib.rt:124:9
 node-requires-2 : tie.Need-node-requires-2
 node-requires-2 c κs = search needs
 
--- src/lib.rt:125:18
 array-read-node-3 : tie.Need-array-read-node-3
 array-read-node-3 c = search needs
 
--- src/lib.rt:125:9
 node-requires-3 : tie.Need-node-requires-3
 node-requires-3 c κs = search needs
 
--- src/lib.rt:126:9
 node-row-requires : tie.Need-node-row-requires
 node-row-requires c κs = search needs
 
--- src/lib.rt:127:9
 node-row-requires-2 : tie.Need-node-row-requires-2
 node-row-requires-2 c κs = search needs
 
--- src/lib.rt:128:9
 node-row-requires-3 : tie.Need-node-row-requires-3
 node-row-requires-3 c κs = search needs
 
--- src/lib.rt:131:13
 field-requires : tie.Need-field-requires
 field-requires c κs = search needs
 
--- src/lib.rt:131:33
 field-requires-2 : tie.Need-field-requires-2
 field-requires-2 c κs = search needs
 
--- src/lib.rt:131:53
 field-requires-3 : tie.Need-field-requires-3
 field-requires-3 c κs = search needs
 
--- src/lib.rt:132:13
 field-requires-4 : tie.Need-field-requires-4
 field-requires-4 c κs = search needs
 
--- src/lib.rt:132:33
 field-requires-5 : tie.Need-field-requires-5
 field-requires-5 c κs = search needs
 
--- src/lib.rt:132:53
 field-requires-6 : tie.Need-field-requires-6
 field-requires-6 c κs = search needs
 
--- src/lib.rt:119:1
 returns : tie.Need-returns
 unfolding elementOf bodyOf shapeOf
 returns c =

@@ -1,14 +1,7 @@
 use borrow.Author.Needs.{needs}
 use Rattle.element.proofs.triangle_of.Statement.{statement}
 use Rattle.element.proofs.triangle_of.Tie as tie
-use Rattle.element.proofs.triangle_of.Reads as reads
-use Rattle.element.proofs.triangle_of.Lts as lts
-use Rattle.element.proofs.field.Reads as field-reads
-use Rattle.element.proofs.material.Reads as material-reads
-use Rattle.element.proofs.material_row.Reads as material-row-reads
-use Rattle.element.proofs.shape_of.Reads as shape-of-reads
 
--- src/lib.rt:140:9
 use mathlib.Core.Path.{_≡_, _∙_, ap}
 use mathlib.Core.List.{List}
 use Prim.Native.Nat.{ℕ, _+_}
@@ -21,35 +14,27 @@ stuff t m k p q = p ∙ ap (λ (z : ℕ). cards.field t z k) q
 shape-of-requires : tie.Need-shape-of-requires
 shape-of-requires c κs = search needs
 
--- src/lib.rt:141:44
 array-read-material : tie.Need-array-read-material
 array-read-material c = search needs
 
--- src/lib.rt:141:35
 material-requires : tie.Need-material-requires
 material-requires c κs = search needs
 
--- src/lib.rt:141:9
 material-row-requires : tie.Need-material-row-requires
 material-row-requires c κs = search needs
 
--- src/lib.rt:144:13
 field-requires : tie.Need-field-requires
 field-requires c κs = search needs
 
--- src/lib.rt:145:13
 field-requires-2 : tie.Need-field-requires-2
 field-requires-2 c κs = search needs
 
--- src/lib.rt:146:19
 field-requires-3 : tie.Need-field-requires-3
 field-requires-3 c κs = search needs
 
--- src/lib.rt:147:20
 array-read-t15 : tie.Need-array-read-t15
 array-read-t15 c = search needs
 
--- src/lib.rt:136:1
 returns : tie.Need-returns
 unfolding elementOf bodyOf
 returns c =

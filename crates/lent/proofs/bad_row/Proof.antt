@@ -1,13 +1,7 @@
 use borrow.Author.Needs.{needs}
 use Rattle.lent.proofs.bad_row.Statement.{statement}
 use Rattle.lent.proofs.bad_row.Tie as tie
-use Rattle.lent.proofs.bad_row.Reads as reads
-use Rattle.lent.proofs.bad_row.Lts as lts
-use Rattle.lent.proofs.largest.Reads as largest-reads
-use Rattle.lent.proofs.pivot.Reads as pivot-reads
-use Rattle.whole.proofs.start.Reads as start-reads
 
--- src/lib.rt:123:9
 use mathlib.Core.Path.{refl}
 use Prim.Native.Nat.{_+_, _-_}
 use native.Mathlib.Omega.{arith}
@@ -19,51 +13,39 @@ use Rattle.lent.proofs.Turns.{row-large, row-end}
 start-requires : tie.Need-start-requires
 start-requires c κs = search needs
 
--- src/lib.rt:124:33
 add-largest : tie.Need-add-largest
 add-largest c = let s = c .before .args in omega (arith, c .start .ensures, tri-below (s .i) (s .n) (c .before .pre .here), c .before .pre .rows .room)
 
--- src/lib.rt:124:26
 mul-largest : tie.Need-mul-largest
 mul-largest c = let s = c .before .args in omega (arith, c .start .ensures, tri-below (s .i) (s .n) (c .before .pre .here), c .before .pre .rows .room, tri-96 (s .n) (c .before .pre .rows .few))
 
--- src/lib.rt:124:26
 sub-largest : tie.Need-sub-largest
 sub-largest c = let s = c .before .args in omega (arith, c .start .ensures, tri-below (s .i) (s .n) (c .before .pre .here), c .before .pre .rows .room)
 
--- src/lib.rt:124:26
 part-largest-start : tie.Need-part-largest-start
 part-largest-start c = let s = c .before .args in omega (arith, c .start .ensures, tri-below (s .i) (s .n) (c .before .pre .here), c .before .pre .rows .room)
 
--- src/lib.rt:124:26
 part-largest-end : tie.Need-part-largest-end
 part-largest-end c = let s = c .before .args in omega (arith, c .start .ensures, tri-below (s .i) (s .n) (c .before .pre .here), c .before .pre .rows .room)
 
--- src/lib.rt:124:18
 largest-requires : tie.Need-largest-requires
 largest-requires c κs = search needs
 
--- src/lib.rt:124:54
 add-pivot : tie.Need-add-pivot
 add-pivot c = let s = c .before .before .before .before .args in omega (arith, c .before .before .before .start .ensures, tri-below (s .i) (s .n) (c .before .before .before .before .pre .here), c .before .before .before .before .pre .rows .room)
 
--- src/lib.rt:124:52
 mul-pivot : tie.Need-mul-pivot
 mul-pivot c = let s = c .before .before .before .before .args in omega (arith, c .before .before .before .start .ensures, tri-below (s .i) (s .n) (c .before .before .before .before .pre .here), c .before .before .before .before .pre .rows .room)
 
--- src/lib.rt:124:52
 shared-slice-copy-out-pivot : tie.Need-shared-slice-copy-out-pivot
 shared-slice-copy-out-pivot c = let s = c .before .before .before .before .args in omega (arith, c .before .before .before .start .ensures, tri-below (s .i) (s .n) (c .before .before .before .before .pre .here), c .before .before .before .before .pre .rows .room)
 
--- src/lib.rt:124:46
 pivot-requires : tie.Need-pivot-requires
 pivot-requires c κs = search needs
 
--- src/lib.rt:119:1
 returns : tie.Need-returns
 returns c = let s = c .before .before .before .before .args in let at = c .before .before .before .start .result in row-large (s .l .now) (s .i) at (c .before .before .before .start .ensures) (omega (arith, c .before .before .before .start .ensures, tri-below (s .i) (s .n) (c .before .before .before .before .pre .here), c .before .before .before .before .pre .rows .room)) (take (at + s .i - at) (drop at (s .l .now))) refl (c .before .largest .result) (c .before .largest .ensures) (c .if1 .taken)
 
--- src/lib.rt:119:1
 returns-2 : tie.Need-returns-2
 returns-2 c = let s = c .before .before .before .before .before .before .args in let at = c .before .before .before .before .before .start .result in row-end (s .l .now) (s .i) at (c .before .before .before .before .before .start .ensures) (omega (arith, c .before .before .before .before .before .start .ensures, tri-below (s .i) (s .n) (c .before .before .before .before .before .before .pre .here), c .before .before .before .before .before .before .pre .rows .room)) (take (at + s .i - at) (drop at (s .l .now))) refl (c .before .before .before .largest .result) (c .before .before .before .largest .ensures) (c .before .before .if1 .left) (sfits-of (c .before .pivot-arg .given)) (c .pivot .result) (c .pivot .ensures)
 

@@ -1,26 +1,18 @@
 use borrow.Author.Needs.{needs}
 use Rattle.lent.proofs.heavy.Statement.{statement}
 use Rattle.lent.proofs.heavy.Tie as tie
-use Rattle.lent.proofs.heavy.Reads as reads
-use Rattle.lent.proofs.heavy.Lts as lts
-use Rattle.lent.proofs.heavy_rows.Reads as heavy-rows-reads
-use Rattle.lent.proofs.largest.Reads as largest-reads
 
--- src/lib.rt:105:8
 use Rattle.lent.proofs.Turns.{light-all}
 
 largest-requires : tie.Need-largest-requires
 largest-requires c κs = search needs
 
--- src/lib.rt:106:9
 returns : tie.Need-returns
 returns c = light-all (c .before .before .args .m .now) (c .before .before .args .n) (c .before .largest .result) (c .before .before .pre .few) (c .before .before .pre .room) (c .before .largest .ensures) (c .if1 .taken)
 
--- src/lib.rt:108:5
 heavy-rows-requires : tie.Need-heavy-rows-requires
 heavy-rows-requires c κs = search needs
 
--- src/lib.rt:101:1
 returns-2 : tie.Need-returns-2
 returns-2 c = search needs
 

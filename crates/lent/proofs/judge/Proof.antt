@@ -1,12 +1,6 @@
 use Rattle.lent.proofs.judge.Statement.{statement}
 use Rattle.lent.proofs.judge.Tie as tie
-use Rattle.lent.proofs.judge.Reads as reads
-use Rattle.lent.proofs.judge.Lts as lts
-use Rattle.lent.proofs.enough.Reads as enough-reads
-use Rattle.lent.proofs.foreign.Reads as foreign-reads
-use Rattle.whole.proofs.matrix.Reads as matrix-reads
 
--- src/lib.rt:180:9
 use borrow.Author.Needs.{needs}
 use native.Mathlib.Omega.{arith}
 use lib.ListN.{length}
@@ -17,59 +11,45 @@ use Rattle.lent.proofs.Turns.{judged-short, judged-foreign, judged-done
 enough-requires : tie.Need-enough-requires
 enough-requires c κs = c .pre
 
--- src/lib.rt:181:9
 returns : tie.Need-returns
 returns c = let s = c .before .before .args in judged-short (s .n) (s .p .now) (s .a .now) (s .factor .now) (s .rest) (c .before .enough .result) (c .before .enough .ensures) (c .if1 .taken)
 
--- src/lib.rt:183:9
 matrix-requires : tie.Need-matrix-requires
 matrix-requires c κs = c .before .before .pre
 
--- src/lib.rt:184:16
 sub-foreign : tie.Need-sub-foreign
 sub-foreign c = omega arith
 
--- src/lib.rt:184:16
 part-foreign-start : tie.Need-part-foreign-start
 part-foreign-start c = omega arith
 
--- src/lib.rt:184:16
 part-foreign-end : tie.Need-part-foreign-end
 part-foreign-end c = let s = c .before .before .before .args in let (hp, ha, hf, r) = room-told (s .n) (slices (s .p .now) (s .a .now) (s .factor .now)) (s .rest) (c .before .before .enough .result) (c .before .before .enough .ensures) (c .before .if1 .left) in omega (arith, c .matrix .ensures, hp)
 
--- src/lib.rt:184:29
 sub-foreign-2 : tie.Need-sub-foreign-2
 sub-foreign-2 c = omega arith
 
--- src/lib.rt:184:29
 part-foreign-start-2 : tie.Need-part-foreign-start-2
 part-foreign-start-2 c = omega arith
 
--- src/lib.rt:184:29
 part-foreign-end-2 : tie.Need-part-foreign-end-2
 part-foreign-end-2 c = let s = c .before .before .before .before .args in let (hp, ha, hf, r) = room-told (s .n) (slices (s .p .now) (s .a .now) (s .factor .now)) (s .rest) (c .before .before .before .enough .result) (c .before .before .before .enough .ensures) (c .before .before .if1 .left) in omega (arith, c .before .matrix .ensures, ha)
 
--- src/lib.rt:184:42
 sub-foreign-3 : tie.Need-sub-foreign-3
 sub-foreign-3 c = omega arith
 
--- src/lib.rt:184:42
 part-foreign-start-3 : tie.Need-part-foreign-start-3
 part-foreign-start-3 c = omega arith
 
--- src/lib.rt:184:42
 part-foreign-end-3 : tie.Need-part-foreign-end-3
 part-foreign-end-3 c = let s = c .before .before .before .before .before .args in let (hp, ha, hf, r) = room-told (s .n) (slices (s .p .now) (s .a .now) (s .factor .now)) (s .rest) (c .before .before .before .before .enough .result) (c .before .before .before .before .enough .ensures) (c .before .before .before .if1 .left) in omega (arith, c .before .before .matrix .ensures, hf)
 
--- src/lib.rt:184:8
 foreign-requires : tie.Need-foreign-requires
 foreign-requires c κs = search needs
 
--- src/lib.rt:185:9
 returns-2 : tie.Need-returns-2
 returns-2 c = let s = c .before .before .before .before .before .before .before .before .args in judged-foreign (s .n) (s .p .now) (s .a .now) (s .factor .now) (s .rest) (c .before .before .before .before .before .before .before .enough .result) (c .before .before .before .before .before .before .before .enough .ensures) (c .before .before .before .before .before .before .if1 .left) (c .before .before .before .before .before .matrix .result) (c .before .before .before .before .before .matrix .ensures) (c .before .foreign .result) (c .before .foreign .ensures) (c .if2 .taken)
 
--- src/lib.rt:176:1
 returns-3 : tie.Need-returns-3
 returns-3 c = let s = c .before .before .before .before .before .before .before .before .args in judged-done (s .n) (s .p .now) (s .a .now) (s .factor .now) (s .rest) (c .before .before .before .before .before .before .before .enough .result) (c .before .before .before .before .before .before .before .enough .ensures) (c .before .before .before .before .before .before .if1 .left) (c .before .before .before .before .before .matrix .result) (c .before .before .before .before .before .matrix .ensures) (c .before .foreign .result) (c .before .foreign .ensures) (c .if2 .left)
 

@@ -1,9 +1,5 @@
 use Rattle.lent.proofs.largest.Statement.{statement}
 use Rattle.lent.proofs.largest.Tie as tie
-use Rattle.lent.proofs.largest.Reads as reads
-use Rattle.lent.proofs.largest.Lts as lts
-use Rattle.lent.proofs.larger.Reads as larger-reads
-use Rattle.whole.proofs.size.Reads as size-reads
 
 use mathlib.Core.Path.{_≡_, refl, ap, _∙_}
 use Prim.Native.Nat.{ℕ, _-_, _≤_}
@@ -19,40 +15,31 @@ Inv-loop m most₀ j₀ most j = (j ≤ length m) × (most ≡ largest j m)
 abbrev μ-loop : tie.MeasureT-loop
 μ-loop m most₀ j₀ most j = length m - j
 
--- src/lib.rt:30:5
 loop-holds : tie.Need-loop-holds Inv-loop μ-loop
 unfolding largest
 loop-holds c = (omega arith, refl)
 
--- src/lib.rt:31:41
 mul-size : tie.Need-mul-size Inv-loop μ-loop
 mul-size c = search needs
 
--- src/lib.rt:31:41
 shared-slice-copy-out-size : tie.Need-shared-slice-copy-out-size Inv-loop μ-loop
 shared-slice-copy-out-size c = search needs
 
--- src/lib.rt:31:29
 size-requires : tie.Need-size-requires Inv-loop μ-loop
 size-requires c κs = search needs
 
--- src/lib.rt:31:9
 larger-requires : tie.Need-larger-requires Inv-loop μ-loop
 larger-requires c κs = search needs
 
--- src/lib.rt:32:9
 add-j : tie.Need-add-j Inv-loop μ-loop
 add-j c = search needs
 
--- src/lib.rt:30:5
 loop-less : tie.Need-loop-less Inv-loop μ-loop
 loop-less c = search needs
 
--- src/lib.rt:30:5
 loop-again : tie.Need-loop-again Inv-loop μ-loop
 loop-again c = (omega arith, largest-next (c .before .before .before .before .before .args .m .now) (c .before .before .before .before .loop .j) (sfits-of (c .before .before .size-arg .given)) (c .before .size .result) (c .before .size .ensures) (c .before .before .before .before .loop .most) (c .before .before .before .before .loop .inv .1) (c .larger .result) (c .larger .ensures))
 
--- src/lib.rt:25:1
 returns : tie.Need-returns Inv-loop μ-loop
 returns c = let e : c .before .loop .j ≡ length (c .before .before .args .m .now) = omega (arith, c .before .loop .inv .0) in c .before .loop .inv .1 ∙ ap (λ (k : ℕ). largest k (c .before .before .args .m .now)) e
 

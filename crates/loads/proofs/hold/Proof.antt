@@ -1,14 +1,7 @@
 use borrow.Author.Needs.{needs}
 use Rattle.loads.proofs.hold.Statement.{statement}
 use Rattle.loads.proofs.hold.Tie as tie
-use Rattle.loads.proofs.hold.Reads as reads
-use Rattle.loads.proofs.hold.Lts as lts
-use Rattle.element.proofs.field.Reads as field-reads
-use Rattle.element.proofs.node.Reads as node-reads
-use Rattle.element.proofs.node_row.Reads as node-row-reads
-use Rattle.kinds.proofs.about.Reads as about-reads
 
--- src/lib.rt:46:9
 use mathlib.Core.Path.{sym, _∙_}
 use native.Mathlib.Omega.{arith}
 use Rattle.paper.specs.Kinds.{about}
@@ -18,51 +11,39 @@ use Rattle.loads.proofs.Held.{hold-none, node-small, node-some, node-in
 about-requires : tie.Need-about-requires
 about-requires c κs = search needs
 
--- src/lib.rt:47:8
 field-requires : tie.Need-field-requires
 field-requires c κs = search needs
 
--- src/lib.rt:48:9
 returns : tie.Need-returns
 returns c = hold-none (c .before .before .before .before .before .pre) (λ e. c .if1 .taken (c .before .before .field .ensures ∙ e ∙ sym (letter-T (c .before .before .before .about .ensures))))
 
--- src/lib.rt:50:30
 field-requires-2 : tie.Need-field-requires-2
 field-requires-2 c κs = search needs
 
--- src/lib.rt:50:9
 node-requires : tie.Need-node-requires
 node-requires c κs = omega (arith, c .field2 .ensures, node-small (c .before .before .before .before .before .before .pre) (sym (c .before .before .before .field .ensures) ∙ c .before .if1 .left ∙ letter-T (c .before .before .before .before .about .ensures)))
 
--- src/lib.rt:51:13
 node-row-requires : tie.Need-node-row-requires
 node-row-requires c κs = search needs
 
--- src/lib.rt:51:13
 sub-k : tie.Need-sub-k
 sub-k c = omega (arith, c .node-row .ensures, c .before .node .ensures, c .before .before .field2 .ensures, node-some (c .before .before .before .before .before .before .before .before .pre) (sym (c .before .before .before .before .before .field .ensures) ∙ c .before .before .before .if1 .left ∙ letter-T (c .before .before .before .before .before .before .about .ensures)))
 
--- src/lib.rt:52:13
 field-requires-3 : tie.Need-field-requires-3
 field-requires-3 c κs = search needs
 
--- src/lib.rt:52:13
 cast-v : tie.Need-cast-v
 cast-v c = value-small (c .before .before .before .before .before .before .before .before .before .pre) (sym (c .before .before .before .before .before .before .field .ensures) ∙ c .before .before .before .before .if1 .left ∙ letter-T (c .before .before .before .before .before .before .before .about .ensures)) (c .field3 .ensures)
 
--- src/lib.rt:53:5
 mul-v : tie.Need-mul-v
 mul-v c = search needs
 
--- src/lib.rt:53:5
 slice-set-from-v : tie.Need-slice-set-from-v
 slice-set-from-v c = omega (arith, c .before .node-row .ensures, c .before .before .node .ensures, c .before .before .before .field2 .ensures, node-some (c .before .before .before .before .before .before .before .before .before .pre) (sym (c .before .before .before .before .before .before .field .ensures) ∙ c .before .before .before .before .if1 .left ∙ letter-T (c .before .before .before .before .before .before .before .about .ensures)), node-in (c .before .before .before .before .before .before .before .before .before .pre) (sym (c .before .before .before .before .before .before .field .ensures) ∙ c .before .before .before .before .if1 .left ∙ letter-T (c .before .before .before .before .before .before .before .about .ensures)))
 
--- src/lib.rt:42:1
 same-length : tie.Need-same-length
 same-length c = search needs
 
--- src/lib.rt:42:1
 returns-2 : tie.Need-returns-2
 returns-2 c = hold-is (c .before .before .before .before .before .before .before .before .before .pre) (sym (c .before .before .before .before .before .before .field .ensures) ∙ c .before .before .before .before .if1 .left ∙ letter-T (c .before .before .before .before .before .before .before .about .ensures)) (c .before .node-row .result) (c .field3 .result) (c .before .node-row .ensures ∙ c .before .before .node .ensures ∙ c .before .before .before .field2 .ensures) (c .field3 .ensures)
 

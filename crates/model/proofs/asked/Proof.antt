@@ -1,16 +1,7 @@
 use borrow.Author.Needs.{needs}
 use Rattle.model.proofs.asked.Statement.{statement}
 use Rattle.model.proofs.asked.Tie as tie
-use Rattle.model.proofs.asked.Reads as reads
-use Rattle.model.proofs.asked.Lts as lts
-use Rattle.cards.proofs.judge.Reads as judge-reads
-use Rattle.cards.proofs.judge_new.Reads as judge-new-reads
-use Rattle.change.proofs.judge_form.Reads as judge-form-reads
-use Rattle.element.proofs.nodes.Reads as nodes-reads
-use Rattle.lent.proofs.judge.Reads as judge-reads′
-use Rattle.whole.proofs.matrix.Reads as matrix-reads
 
--- src/lib.rt:99:33
 use mathlib.Core.Path.{_≡_, sym, ap, _∙_}
 use native.Mathlib.Omega.{arith}
 use lib.Dec.{leb}
@@ -26,64 +17,51 @@ use Rattle.model.proofs.Replacing.{no-card, no-slices, form-left, chang
 judge-requires : tie.Need-judge-requires
 judge-requires c κs = search needs
 
--- src/lib.rt:99:28
 enum-known-r : tie.Need-enum-known-r
 enum-known-r c = search needs
 
--- src/lib.rt:100:9
 returns : tie.Need-returns
 returns c = refused-first _ _ (c .before .r .given .0 .0) (sym (c .before .before .before .judge .ensures) ∙ c .before .r .given .1)
 
 enum-told : tie.Need-enum-told
 enum-told c = search needs
 
--- src/lib.rt:102:33
 judge-new-requires : tie.Need-judge-new-requires
 judge-new-requires c κs = let d = deck (c .before .before .before .before .args .table .now) (sym (c .before .before .judge .ensures) ∙ c .enum-told .given .1) in omega (arith, d .whole, d .all)
 
--- src/lib.rt:102:28
 enum-known-r-2 : tie.Need-enum-known-r-2
 enum-known-r-2 c = search needs
 
--- src/lib.rt:103:9
 returns-2 : tie.Need-returns-2
 returns-2 c = no-card (c .before .before .before .before .before .before .before .before .args .table .now) (slices (c .before .before .before .before .before .before .before .before .args .p .now) (c .before .before .before .before .before .before .before .before .args .a .now) (c .before .before .before .before .before .before .before .before .args .factor .now)) (c .before .before .before .before .before .before .before .before .args .work .now) (c .before .before .before .before .before .before .before .before .args .card) (c .before .before .before .before .before .before .before .before .args .new) (c .before .r2 .given .0 .0) (sym (c .before .before .before .before .before .before .judge .ensures) ∙ c .before .before .before .before .enum-told .given .1) (c .before .before .before .judge-new .ensures) (c .before .r2 .given .1)
 
 enum-told-2 : tie.Need-enum-told-2
 enum-told-2 c = search needs
 
--- src/lib.rt:105:9
 nodes-requires : tie.Need-nodes-requires
 nodes-requires c κs = deck (c .before .before .before .before .before .before .before .args .table .now) (sym (c .before .before .before .before .before .judge .ensures) ∙ c .before .before .before .enum-told .given .1)
 
--- src/lib.rt:106:16
 matrix-requires : tie.Need-matrix-requires
 matrix-requires c κs = omega (arith, c .nodes .ensures, deck (c .before .before .before .before .before .before .before .before .args .table .now) (sym (c .before .before .before .before .before .before .judge .ensures) ∙ c .before .before .before .before .enum-told .given .1) .someN)
 
--- src/lib.rt:107:33
 judge-requires-2 : tie.Need-judge-requires-2
 judge-requires-2 c κs = omega (arith, c .before .nodes .ensures, deck (c .before .before .before .before .before .before .before .before .before .args .table .now) (sym (c .before .before .before .before .before .before .before .judge .ensures) ∙ c .before .before .before .before .before .enum-told .given .1) .someN)
 
--- src/lib.rt:107:28
 enum-known-r-3 : tie.Need-enum-known-r-3
 enum-known-r-3 c = search needs
 
--- src/lib.rt:108:9
 returns-3 : tie.Need-returns-3
 returns-3 c = no-slices (c .before .before .before .before .before .before .before .before .before .before .before .before .before .args .table .now) (slices (c .before .before .before .before .before .before .before .before .before .before .before .before .before .args .p .now) (c .before .before .before .before .before .before .before .before .before .before .before .before .before .args .a .now) (c .before .before .before .before .before .before .before .before .before .before .before .before .before .args .factor .now)) (c .before .before .before .before .before .before .before .before .before .before .before .before .before .args .work .now) (c .before .before .before .before .before .before .before .before .before .before .before .before .before .args .card) (c .before .before .before .before .before .before .before .before .before .before .before .before .before .args .new) (c .before .r3 .given .0 .0) (sym (c .before .before .before .before .before .before .before .before .before .before .before .judge .ensures) ∙ c .before .before .before .before .before .before .before .before .before .enum-told .given .1) (sym (c .before .before .before .before .before .before .before .before .judge-new .ensures) ∙ c .before .before .before .before .before .before .enum-told2 .given .1) (c .before .before .before .judge2 .ensures ∙ (λ i. lentJudged (c .before .before .before .before .before .nodes .ensures i) (slices (c .before .before .before .before .before .before .before .before .before .before .before .before .before .args .p .now) (c .before .before .before .before .before .before .before .before .before .before .before .before .before .args .a .now) (c .before .before .before .before .before .before .before .before .before .before .before .before .before .args .factor .now)) (leb ((c .before .before .before .before .matrix .ensures ∙ ap matrix (c .before .before .before .before .before .nodes .ensures)) i) (length (c .before .before .before .before .before .before .before .before .before .before .before .before .before .args .work .now))))) (c .before .r3 .given .1)
 
 enum-told-3 : tie.Need-enum-told-3
 enum-told-3 c = search needs
 
--- src/lib.rt:110:31
 sub-judge-form : tie.Need-sub-judge-form
 sub-judge-form c = omega (arith, new-place (c .before .before .before .before .before .before .before .before .before .before .before .before .args .table .now) (c .before .before .before .before .before .before .before .before .before .before .before .before .args .card) (c .before .before .before .before .before .before .before .before .before .before .before .before .args .new) (sym (c .before .before .before .before .before .before .before .judge-new .ensures) ∙ c .before .before .before .before .before .enum-told2 .given .1))
 
--- src/lib.rt:110:5
 judge-form-requires : tie.Need-judge-form-requires
 judge-form-requires c κs = changes-of (c .before .before .before .before .before .before .before .before .before .before .before .before .args .table .now) (c .before .before .before .before .before .before .before .before .before .before .before .before .args .card) (c .before .before .before .before .before .before .before .before .before .before .before .before .args .new) (c .before .before .before .before .before .before .before .before .before .before .before .before .good .1 .1 .1 .1 .1 .1 .0 .1 .0 .1) (sym (c .before .before .before .before .before .before .before .before .before .before .judge .ensures) ∙ c .before .before .before .before .before .before .before .before .enum-told .given .1) (sym (c .before .before .before .before .before .before .before .judge-new .ensures) ∙ c .before .before .before .before .before .enum-told2 .given .1)
 
--- src/lib.rt:88:1
 returns-4 : tie.Need-returns-4
 returns-4 c = form-left (c .before .before .before .before .before .before .before .before .before .before .before .before .before .args .table .now) (slices (c .before .before .before .before .before .before .before .before .before .before .before .before .before .args .p .now) (c .before .before .before .before .before .before .before .before .before .before .before .before .before .args .a .now) (c .before .before .before .before .before .before .before .before .before .before .before .before .before .args .factor .now)) (c .before .before .before .before .before .before .before .before .before .before .before .before .before .args .work .now) (c .before .before .before .before .before .before .before .before .before .before .before .before .before .args .card) (c .before .before .before .before .before .before .before .before .before .before .before .before .before .args .new) (sym (c .before .before .before .before .before .before .before .before .before .before .before .judge .ensures) ∙ c .before .before .before .before .before .before .before .before .before .enum-told .given .1) (sym (c .before .before .before .before .before .before .before .before .judge-new .ensures) ∙ c .before .before .before .before .before .before .enum-told2 .given .1) (sym (c .before .before .before .judge2 .ensures ∙ (λ i. lentJudged (c .before .before .before .before .before .nodes .ensures i) (slices (c .before .before .before .before .before .before .before .before .before .before .before .before .before .args .p .now) (c .before .before .before .before .before .before .before .before .before .before .before .before .before .args .a .now) (c .before .before .before .before .before .before .before .before .before .before .before .before .before .args .factor .now)) (leb ((c .before .before .before .before .matrix .ensures ∙ ap matrix (c .before .before .before .before .before .nodes .ensures)) i) (length (c .before .before .before .before .before .before .before .before .before .before .before .before .before .args .work .now))))) ∙ c .before .enum-told3 .given .1) (c .judge-form .ensures)
 

@@ -1,14 +1,7 @@
 use borrow.Author.Needs.{needs}
 use Rattle.model.proofs.made.Statement.{statement}
 use Rattle.model.proofs.made.Tie as tie
-use Rattle.model.proofs.made.Reads as reads
-use Rattle.model.proofs.made.Lts as lts
-use Rattle.element.proofs.nodes.Reads as nodes-reads
-use Rattle.model.proofs.written.Reads as written-reads
-use Rattle.work.proofs.factored.Reads as factored-reads
-use Rattle.work.proofs.prepare.Reads as prepare-reads
 
--- src/lib.rt:43:5
 use mathlib.Core.Path.{_≡_, sym, ap, _∙_}
 use Rattle.paper.specs.Building.{slices}
 use Rattle.model.proofs.Built.{whole-ready, built-refused, built-done}
@@ -16,50 +9,39 @@ use Rattle.model.proofs.Built.{whole-ready, built-refused, built-done}
 prepare-requires : tie.Need-prepare-requires
 prepare-requires c κs = search needs
 
--- src/lib.rt:44:66
 nodes-requires : tie.Need-nodes-requires
 nodes-requires c κs = search needs
 
--- src/lib.rt:44:33
 factored-requires : tie.Need-factored-requires
 factored-requires c κs = whole-ready (c .before .before .before .before .before .before .args .table .now) (c .before .before .before .prepare .last .1 .0) (c .before .before .before .before .before .before .pre .0) (c .before .before .before .prepare .ensures) (c .nodes .ensures)
 
--- src/lib.rt:44:28
 enum-known-r : tie.Need-enum-known-r
 enum-known-r c = search needs
 
--- src/lib.rt:45:9
 same-length : tie.Need-same-length
 same-length c = search needs
 
--- src/lib.rt:45:9
 returns : tie.Need-returns
 returns c = built-refused (c .before .before .before .before .before .before .before .before .before .before .before .args .table .now) (slices (c .before .before .before .before .before .before .before .before .before .before .before .args .p .now) (c .before .before .before .before .before .before .before .before .before .before .before .args .a .now) (c .before .before .before .before .before .before .before .before .before .before .before .args .factor .now)) (c .before .before .before .before .before .nodes .ensures) (c .before .before .before .before .before .before .before .before .prepare .ensures) (c .before .r .given .0 .0) (c .before .before .before .before .factored .last .0) (c .before .r .given .1) (c .before .before .before .before .factored .ensures)
 
 enum-told : tie.Need-enum-told
 enum-told c = search needs
 
--- src/lib.rt:47:5
 written-requires : tie.Need-written-requires
 written-requires c κs = (c .before .before .before .before .before .before .before .before .before .before .before .before .before .before .pre .0, record { of-p = c .before .before .before .before .before .before .before .before .before .before .before .before .before .before .pre .1 .of-p; of-a = c .before .before .before .before .before .before .before .before .before .before .before .before .before .before .pre .1 .of-a; of-f = c .before .before .before .before .before .before .before .before .before .before .before .before .before .before .pre .1 .of-f; of-w = c .before .before .before .before .before .before .before .factored .kept .0 ∙ c .before .before .before .before .before .before .before .before .before .before .before .prepare .kept .1 .0 ∙ c .before .before .before .before .before .before .before .before .before .before .before .before .before .before .pre .1 .of-w })
 
--- src/lib.rt:39:1
 same-length-2 : tie.Need-same-length-2
 same-length-2 c = search needs
 
--- src/lib.rt:39:1
 same-length-3 : tie.Need-same-length-3
 same-length-3 c = search needs
 
--- src/lib.rt:39:1
 same-length-4 : tie.Need-same-length-4
 same-length-4 c = search needs
 
--- src/lib.rt:39:1
 same-length-5 : tie.Need-same-length-5
 same-length-5 c = search needs
 
--- src/lib.rt:39:1
 returns-2 : tie.Need-returns-2
 returns-2 c =
     built-done (c .before .before .before .before .before .before .before .before .before .before .before .before .before .before .before .before .before .before .before .args .table .now) (slices (c .before .before .before .before .before .before .before .before .before .before .before .before .before .before .before .before .before .before .before .args .p .now) (c .before .before .before .before .before .before .before .before .before .before .before .before .before .before .before .before .before .before .before .args .a .now) (c .before .before .before .before .before .before .before .before .before .before .before .before .before .before .before .before .before .before .before .args .factor .now)) (c .before .before .before .before .before .before .before .before .before .before .before .before .before .nodes .ensures) (c .before .before .before .before .before .before .before .before .before .before .before .before .before .before .before .before .prepare .ensures) (c .before .before .before .before .before .before .before .before .before .enum-told .given .1) (c .before .before .before .before .before .before .before .before .before .before .before .before .factored .ensures) (c .before .before .before .before .before .before .before .before .before .before .before .before .factored .kept .0 ∙ c .before .before .before .before .before .before .before .before .before .before .before .before .before .before .before .before .prepare .kept .1 .0 ∙ c .before .before .before .before .before .before .before .before .before .before .before .before .before .before .before .before .before .before .before .pre .1 .of-w) (c .before .before .before .before .written .ensures .0) (c .before .before .before .before .written .ensures .1 .0) (c .before .before .before .before .written .ensures .1 .1 .0) (c .before .before .before .before .written .ensures .1 .1 .1)

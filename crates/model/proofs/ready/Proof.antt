@@ -1,15 +1,7 @@
 use borrow.Author.Needs.{needs}
 use Rattle.model.proofs.ready.Statement.{statement}
 use Rattle.model.proofs.ready.Tie as tie
-use Rattle.model.proofs.ready.Reads as reads
-use Rattle.model.proofs.ready.Lts as lts
-use Rattle.cards.proofs.judge.Reads as judge-reads
-use Rattle.element.proofs.judge_elements.Reads as judge-elements-reads
-use Rattle.element.proofs.nodes.Reads as nodes-reads
-use Rattle.lent.proofs.enough.Reads as enough-reads
-use Rattle.whole.proofs.matrix.Reads as matrix-reads
 
--- src/lib.rt:27:33
 use mathlib.Core.Path.{_≡_, sym, ap, _∙_}
 use Prim.Native.Nat.{ℕ, _≤_}
 use native.Mathlib.Omega.{arith}
@@ -27,38 +19,30 @@ use Rattle.model.proofs.Built.{no-room, all-elements}
 judge-requires : tie.Need-judge-requires
 judge-requires c κs = search needs
 
--- src/lib.rt:27:28
 enum-known-r : tie.Need-enum-known-r
 enum-known-r c = search needs
 
--- src/lib.rt:28:9
 returns : tie.Need-returns
 returns c = refused-first _ _ (c .before .r .given .0 .0) (sym (c .before .before .before .judge .ensures) ∙ c .before .r .given .1)
 
 enum-told : tie.Need-enum-told
 enum-told c = search needs
 
--- src/lib.rt:30:9
 nodes-requires : tie.Need-nodes-requires
 nodes-requires c κs = deck (c .before .before .before .before .args .table .now) (sym (c .before .before .judge .ensures) ∙ c .enum-told .given .1)
 
--- src/lib.rt:31:16
 matrix-requires : tie.Need-matrix-requires
 matrix-requires c κs = omega (arith, c .nodes .ensures, deck (c .before .before .before .before .before .args .table .now) (sym (c .before .before .before .judge .ensures) ∙ c .before .enum-told .given .1) .someN)
 
--- src/lib.rt:32:9
 enough-requires : tie.Need-enough-requires
 enough-requires c κs = omega (arith, c .before .nodes .ensures, deck (c .before .before .before .before .before .before .args .table .now) (sym (c .before .before .before .before .judge .ensures) ∙ c .before .before .enum-told .given .1) .someN)
 
--- src/lib.rt:33:9
 returns-2 : tie.Need-returns-2
 returns-2 c = no-room (c .before .before .before .before .before .before .before .before .args .table .now) (slices (c .before .before .before .before .before .before .before .before .args .p .now) (c .before .before .before .before .before .before .before .before .args .a .now) (c .before .before .before .before .before .before .before .before .args .factor .now)) (c .before .before .before .before .before .before .before .before .args .work .now) (sym (c .before .before .before .before .before .before .judge .ensures) ∙ c .before .before .before .before .enum-told .given .1) (c .before .enough .ensures ∙ (λ i. enough (c .before .before .before .nodes .ensures i) (slices (c .before .before .before .before .before .before .before .before .args .p .now) (c .before .before .before .before .before .before .before .before .args .a .now) (c .before .before .before .before .before .before .before .before .args .factor .now)) && leb ((c .before .before .matrix .ensures ∙ ap matrix (c .before .before .before .nodes .ensures)) i) (length (c .before .before .before .before .before .before .before .before .args .work .now)))) (c .if1 .taken)
 
--- src/lib.rt:35:5
 judge-elements-requires : tie.Need-judge-elements-requires
 judge-elements-requires c κs = deck (c .before .before .before .before .before .before .before .before .args .table .now) (sym (c .before .before .before .before .before .before .judge .ensures) ∙ c .before .before .before .before .enum-told .given .1)
 
--- src/lib.rt:24:1
 returns-3 : tie.Need-returns-3
 returns-3 c = c .judge-elements .ensures ∙ all-elements (c .before .before .before .before .before .before .before .before .before .args .table .now) (slices (c .before .before .before .before .before .before .before .before .before .args .p .now) (c .before .before .before .before .before .before .before .before .before .args .a .now) (c .before .before .before .before .before .before .before .before .before .args .factor .now)) (c .before .before .before .before .before .before .before .before .before .args .work .now) (sym (c .before .before .before .before .before .before .before .judge .ensures) ∙ c .before .before .before .before .before .enum-told .given .1) (c .before .before .enough .ensures ∙ (λ i. enough (c .before .before .before .before .nodes .ensures i) (slices (c .before .before .before .before .before .before .before .before .before .args .p .now) (c .before .before .before .before .before .before .before .before .before .args .a .now) (c .before .before .before .before .before .before .before .before .before .args .factor .now)) && leb ((c .before .before .before .matrix .ensures ∙ ap matrix (c .before .before .before .before .nodes .ensures)) i) (length (c .before .before .before .before .before .before .before .before .before .args .work .now)))) (c .before .if1 .left)
 

@@ -1,12 +1,7 @@
 use borrow.Author.Needs.{needs}
 use Rattle.packed.proofs.add_at.Statement.{statement}
 use Rattle.packed.proofs.add_at.Tie as tie
-use Rattle.packed.proofs.add_at.Reads as reads
-use Rattle.packed.proofs.add_at.Lts as lts
-use Rattle.element.proofs.node_row.Reads as node-row-reads
-use Rattle.packed.proofs.place.Reads as place-reads
 
--- src/lib.rt:40:19
 use mathlib.Core.Path.{ap, _∙_}
 use mathlib.Core.List.{List}
 use Prim.Native.Nat.{ℕ, _+_, _-_, _^_, _≤_}
@@ -24,47 +19,36 @@ sum-is xs k v h l = plus (num (cell xs k) (h .each k) (lit< tt)) (num v l (lit< 
 node-row-requires : tie.Need-node-row-requires
 node-row-requires c κs = search needs
 
--- src/lib.rt:40:19
 sub-place : tie.Need-sub-place
 sub-place c = search needs
 
--- src/lib.rt:40:45
 node-row-requires-2 : tie.Need-node-row-requires-2
 node-row-requires-2 c κs = search needs
 
--- src/lib.rt:40:45
 sub-place-2 : tie.Need-sub-place-2
 sub-place-2 c = search needs
 
--- src/lib.rt:40:9
 place-requires : tie.Need-place-requires
 place-requires c κs = search needs
 
--- src/lib.rt:41:13
 mul-xs : tie.Need-mul-xs
 mul-xs c = omega (arith, (c .place .ensures ∙ (λ d. place (c .before .before .node-row .ensures d - 1) (c .before .node-row2 .ensures d - 1))), place-in (c .before .before .before .args .a .0 - 1) (c .before .before .before .args .b .0 - 1) 96 (omega (arith, c .before .before .before .pre .0 .inA)) (omega (arith, c .before .before .before .pre .0 .inB)), tri-96 96 (omega arith))
 
--- src/lib.rt:41:13
 slice-copy-out-xs : tie.Need-slice-copy-out-xs
 slice-copy-out-xs c = omega (arith, (c .place .ensures ∙ (λ d. place (c .before .before .node-row .ensures d - 1) (c .before .node-row2 .ensures d - 1))), c .before .before .before .pre .0 .inside)
 
--- src/lib.rt:41:13
 add-xs : tie.Need-add-xs
 add-xs c = fits (sum-is (c .before .before .before .before .args .xs .now) (c .before .place .result) (c .before .before .before .before .args .v) (c .before .before .before .before .pre .0 .small) (c .before .before .before .before .pre .1)) (lit< tt)
 
--- src/lib.rt:41:5
 mul-t9 : tie.Need-mul-t9
 mul-t9 c = omega (arith, (c .before .place .ensures ∙ (λ d. place (c .before .before .before .node-row .ensures d - 1) (c .before .before .node-row2 .ensures d - 1))), place-in (c .before .before .before .before .args .a .0 - 1) (c .before .before .before .before .args .b .0 - 1) 96 (omega (arith, c .before .before .before .before .pre .0 .inA)) (omega (arith, c .before .before .before .before .pre .0 .inB)), tri-96 96 (omega arith))
 
--- src/lib.rt:41:5
 slice-set-from-xs : tie.Need-slice-set-from-xs
 slice-set-from-xs c = omega (arith, (c .before .place .ensures ∙ (λ d. place (c .before .before .before .node-row .ensures d - 1) (c .before .before .node-row2 .ensures d - 1))), c .before .before .before .before .pre .0 .inside)
 
--- src/lib.rt:36:1
 same-length : tie.Need-same-length
 same-length c = search needs
 
--- src/lib.rt:36:1
 returns : tie.Need-returns
 returns c =
     let xs = c .before .before .before .before .args .xs .now in

@@ -1,70 +1,47 @@
 use borrow.Author.Needs.{needs}
 use Rattle.packed.proofs.add_card.Statement.{statement}
 use Rattle.packed.proofs.add_card.Tie as tie
-use Rattle.packed.proofs.add_card.Reads as reads
-use Rattle.packed.proofs.add_card.Lts as lts
-use Rattle.element.proofs.card_at.Reads as card-at-reads
-use Rattle.element.proofs.field.Reads as field-reads
-use Rattle.packed.proofs.add_square.Reads as add-square-reads
-use Rattle.part.proofs.corners_of.Reads as corners-of-reads
-use Rattle.part.proofs.square_a.Reads as square-a-reads
-use Rattle.part.proofs.stirs.Reads as stirs-reads
-use Rattle.part.proofs.stored.Reads as stored-reads
-use Rattle.triangle.proofs.mass.Reads as mass-reads
 
--- src/lib.rt:91:21
 use Rattle.packed.proofs.Turn.{stays-A, stays-P, turn-card, turn-solid, turn-a-takes, turn-a-gives, turn-p-takes, turn-p-gives}
 
 field-requires : tie.Need-field-requires
 field-requires c κs = search needs
 
--- src/lib.rt:91:9
 stirs-requires : tie.Need-stirs-requires
 stirs-requires c κs = search needs
 
--- src/lib.rt:92:9
 returns : tie.Need-returns
 returns c = (stays-P (c .before .before .before .before .args .table .now) (c .before .before .before .before .args .row) (c .before .before .field .ensures) (c .before .stirs .ensures) (c .if1 .taken) (c .before .before .before .before .args .p .now) (c .before .before .before .before .pre .0), stays-A (c .before .before .before .before .args .table .now) (c .before .before .before .before .args .row) (c .before .before .field .ensures) (c .before .stirs .ensures) (c .if1 .taken) (c .before .before .before .before .args .a .now) (c .before .before .before .before .pre .1))
 
--- src/lib.rt:94:9
 card-at-requires : tie.Need-card-at-requires
 card-at-requires c κs = search needs
 
--- src/lib.rt:95:9
 corners-of-requires : tie.Need-corners-of-requires
 corners-of-requires c κs = turn-card (c .before .before .before .before .before .args .table .now) (c .before .before .before .before .before .args .row) (c .before .before .before .field .ensures) (c .before .before .stirs .ensures) (c .before .if1 .left) (c .before .before .before .before .before .args .p .now) (c .before .before .before .before .before .pre .0) (c .card-at .ensures)
 
--- src/lib.rt:96:37
 stored-requires : tie.Need-stored-requires
 stored-requires c κs = turn-card (c .before .before .before .before .before .before .before .args .table .now) (c .before .before .before .before .before .before .before .args .row) (c .before .before .before .before .before .field .ensures) (c .before .before .before .before .stirs .ensures) (c .before .before .before .if1 .left) (c .before .before .before .before .before .before .before .args .p .now) (c .before .before .before .before .before .before .before .pre .0) (c .before .before .card-at .ensures)
 
--- src/lib.rt:96:22
 mass-requires : tie.Need-mass-requires
 mass-requires c κs = search needs
 
--- src/lib.rt:96:5
 add-square-requires : tie.Need-add-square-requires
 add-square-requires c κs =
     turn-p-takes (c .before .before .before .before .before .before .before .before .before .args .table .now) (c .before .before .before .before .before .before .before .before .before .args .row) (c .before .before .before .before .before .before .before .field .ensures) (c .before .before .before .before .before .before .stirs .ensures) (c .before .before .before .before .before .if1 .left) (c .before .before .before .before .before .before .before .before .before .args .p .now) (c .before .before .before .before .before .before .before .before .before .pre .0) (c .before .before .before .before .card-at .ensures) (c .before .before .before .corners-of .result) (c .before .before .before .corners-of .ensures .0) (c .before .before .before .corners-of .ensures .1) (c .mass .result) (c .before .stored .ensures .0) (c .mass .ensures)
 
--- src/lib.rt:97:22
 square-a-requires : tie.Need-square-a-requires
 square-a-requires c κs = turn-solid (c .before .before .before .before .before .before .before .before .before .before .before .before .args .table .now) (c .before .before .before .before .before .before .before .before .before .before .before .before .args .row) (c .before .before .before .before .before .before .before .before .before .before .field .ensures) (c .before .before .before .before .before .before .before .before .before .stirs .ensures) (c .before .before .before .before .before .before .before .before .if1 .left) (c .before .before .before .before .before .before .before .before .before .before .before .before .args .a .now) (c .before .before .before .before .before .before .before .before .before .before .before .before .pre .1) (c .before .before .before .before .before .before .before .card-at .ensures)
 
--- src/lib.rt:97:5
 add-square-requires-2 : tie.Need-add-square-requires-2
 add-square-requires-2 c κs =
     turn-a-takes (c .before .before .before .before .before .before .before .before .before .before .before .before .before .args .table .now) (c .before .before .before .before .before .before .before .before .before .before .before .before .before .args .row) (c .before .before .before .before .before .before .before .before .before .before .before .field .ensures) (c .before .before .before .before .before .before .before .before .before .before .stirs .ensures) (c .before .before .before .before .before .before .before .before .before .if1 .left) (c .before .before .before .before .before .before .before .before .before .before .before .before .before .args .a .now) (c .before .before .before .before .before .before .before .before .before .before .before .before .before .pre .1) (c .before .before .before .before .before .before .before .before .card-at .ensures) (c .before .before .before .before .before .before .before .corners-of .result) (c .before .before .before .before .before .before .before .corners-of .ensures .0) (c .before .before .before .before .before .before .before .corners-of .ensures .1) (c .square-a .result) (c .square-a .ensures)
 
--- src/lib.rt:86:1
 same-length : tie.Need-same-length
 same-length c = search needs
 
--- src/lib.rt:86:1
 same-length-2 : tie.Need-same-length-2
 same-length-2 c = search needs
 
--- src/lib.rt:86:1
 returns-2 : tie.Need-returns-2
 returns-2 c = (
   turn-p-gives (c .before .before .before .before .before .before .before .before .before .before .before .before .before .before .before .args .table .now) (c .before .before .before .before .before .before .before .before .before .before .before .before .before .before .before .args .row) (c .before .before .before .before .before .before .before .before .before .before .before .before .before .field .ensures) (c .before .before .before .before .before .before .before .before .before .before .before .before .stirs .ensures) (c .before .before .before .before .before .before .before .before .before .before .before .if1 .left) (c .before .before .before .before .before .before .before .before .before .before .before .before .before .before .before .args .p .now) (c .before .before .before .before .before .before .before .before .before .before .before .before .before .before .before .pre .0) (c .before .before .before .before .before .before .before .before .before .before .card-at .ensures) (c .before .before .before .before .before .before .before .before .before .corners-of .result) (c .before .before .before .before .before .before .before .before .before .corners-of .ensures .0) (c .before .before .before .before .before .before .before .before .before .corners-of .ensures .1) (c .before .before .before .before .before .before .mass .result) (c .before .before .before .before .before .before .before .stored .ensures .0) (c .before .before .before .before .before .before .mass .ensures) (c .before .before .before .before .before .add-square .ensures),

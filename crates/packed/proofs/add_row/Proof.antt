@@ -1,8 +1,5 @@
 use Rattle.packed.proofs.add_row.Statement.{statement}
 use Rattle.packed.proofs.add_row.Tie as tie
-use Rattle.packed.proofs.add_row.Reads as reads
-use Rattle.packed.proofs.add_row.Lts as lts
-use Rattle.packed.proofs.add_at.Reads as add-at-reads
 
 use borrow.Author.Needs.{needs}
 use Prim.Native.Nat.{suc, _-_}
@@ -15,55 +12,42 @@ Inv-loop xs₀ a c q b₀ xs b = Row xs₀ c q a xs b
 abbrev μ-loop : tie.MeasureT-loop
 μ-loop xs₀ a c q b₀ xs b = suc a - b
 
--- src/lib.rt:50:5
 loop-holds : tie.Need-loop-holds Inv-loop μ-loop
 loop-holds c = row-start (c .args .xs .now) (c .args .t2) (c .args .t3) (c .args .a)
 
--- src/lib.rt:51:29
 array-copy-out-add-at : tie.Need-array-copy-out-add-at Inv-loop μ-loop
 array-copy-out-add-at c = omega (arith, c .before .before .before .pre .last)
 
--- src/lib.rt:51:35
 array-copy-out-add-at-2 : tie.Need-array-copy-out-add-at-2 Inv-loop μ-loop
 array-copy-out-add-at-2 c = omega (arith, c .before .before .before .before .pre .last)
 
--- src/lib.rt:51:41
 mul-add-at : tie.Need-mul-add-at Inv-loop μ-loop
 mul-add-at c = omega (arith, c .before .before .before .before .before .pre .last)
 
--- src/lib.rt:51:41
 mul-add-at-2 : tie.Need-mul-add-at-2 Inv-loop μ-loop
 mul-add-at-2 c = omega (arith, c .before .before .before .before .before .pre .last)
 
--- src/lib.rt:51:41
 index-1-add-at : tie.Need-index-1-add-at Inv-loop μ-loop
 index-1-add-at c = omega (arith, c .before .before .before .before .before .pre .last)
 
--- src/lib.rt:51:41
 index-2-add-at : tie.Need-index-2-add-at Inv-loop μ-loop
 index-2-add-at c = omega (arith, c .before .before .before .before .before .pre .last)
 
--- src/lib.rt:51:9
 add-at-requires : tie.Need-add-at-requires Inv-loop μ-loop
 add-at-requires c κs = row-asks (c .before .before .before .before .before .before .pre) (c .before .before .before .before .before .loop .inv) (omega arith)
 
--- src/lib.rt:52:9
 add-b : tie.Need-add-b Inv-loop μ-loop
 add-b c = omega (arith, c .before .before .before .before .before .before .before .before .pre .last)
 
--- src/lib.rt:50:5
 loop-less : tie.Need-loop-less Inv-loop μ-loop
 loop-less c = omega arith
 
--- src/lib.rt:50:5
 loop-again : tie.Need-loop-again Inv-loop μ-loop
 loop-again c = row-next (c .before .before .before .before .before .before .before .before .pre) (c .before .before .before .before .before .before .before .loop .inv) (omega arith) (c .before .add-at .ensures)
 
--- src/lib.rt:45:1
 same-length : tie.Need-same-length Inv-loop μ-loop
 same-length c = row-long (c .before .before .pre) (c .before .loop .inv)
 
--- src/lib.rt:45:1
 returns : tie.Need-returns Inv-loop μ-loop
 returns c = row-end (c .before .before .pre) (c .before .loop .inv) (omega arith)
 

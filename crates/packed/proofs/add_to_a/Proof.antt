@@ -1,51 +1,34 @@
 use borrow.Author.Needs.{needs}
 use Rattle.packed.proofs.add_to_a.Statement.{statement}
 use Rattle.packed.proofs.add_to_a.Tie as tie
-use Rattle.packed.proofs.add_to_a.Reads as reads
-use Rattle.packed.proofs.add_to_a.Lts as lts
-use Rattle.element.proofs.card_at.Reads as card-at-reads
-use Rattle.element.proofs.field.Reads as field-reads
-use Rattle.packed.proofs.add_square.Reads as add-square-reads
-use Rattle.part.proofs.corners_of.Reads as corners-of-reads
-use Rattle.part.proofs.square_a.Reads as square-a-reads
-use Rattle.part.proofs.stirs.Reads as stirs-reads
 
--- src/lib.rt:77:21
 use Rattle.packed.proofs.Turn.{stays-A, turn-card, turn-solid, turn-a-takes, turn-a-gives}
 
 field-requires : tie.Need-field-requires
 field-requires c κs = search needs
 
--- src/lib.rt:77:9
 stirs-requires : tie.Need-stirs-requires
 stirs-requires c κs = search needs
 
--- src/lib.rt:78:9
 returns : tie.Need-returns
 returns c = stays-A (c .before .before .before .before .args .table .now) (c .before .before .before .before .args .row) (c .before .before .field .ensures) (c .before .stirs .ensures) (c .if1 .taken) (c .before .before .before .before .args .xs .now) (c .before .before .before .before .pre)
 
--- src/lib.rt:80:9
 card-at-requires : tie.Need-card-at-requires
 card-at-requires c κs = search needs
 
--- src/lib.rt:81:9
 corners-of-requires : tie.Need-corners-of-requires
 corners-of-requires c κs = turn-card (c .before .before .before .before .before .args .table .now) (c .before .before .before .before .before .args .row) (c .before .before .before .field .ensures) (c .before .before .stirs .ensures) (c .before .if1 .left) (c .before .before .before .before .before .args .xs .now) (c .before .before .before .before .before .pre) (c .card-at .ensures)
 
--- src/lib.rt:82:23
 square-a-requires : tie.Need-square-a-requires
 square-a-requires c κs = turn-solid (c .before .before .before .before .before .before .before .args .table .now) (c .before .before .before .before .before .before .before .args .row) (c .before .before .before .before .before .field .ensures) (c .before .before .before .before .stirs .ensures) (c .before .before .before .if1 .left) (c .before .before .before .before .before .before .before .args .xs .now) (c .before .before .before .before .before .before .before .pre) (c .before .before .card-at .ensures)
 
--- src/lib.rt:82:5
 add-square-requires : tie.Need-add-square-requires
 add-square-requires c κs =
     turn-a-takes (c .before .before .before .before .before .before .before .before .args .table .now) (c .before .before .before .before .before .before .before .before .args .row) (c .before .before .before .before .before .before .field .ensures) (c .before .before .before .before .before .stirs .ensures) (c .before .before .before .before .if1 .left) (c .before .before .before .before .before .before .before .before .args .xs .now) (c .before .before .before .before .before .before .before .before .pre) (c .before .before .before .card-at .ensures) (c .before .before .corners-of .result) (c .before .before .corners-of .ensures .0) (c .before .before .corners-of .ensures .1) (c .square-a .result) (c .square-a .ensures)
 
--- src/lib.rt:73:1
 same-length : tie.Need-same-length
 same-length c = search needs
 
--- src/lib.rt:73:1
 returns-2 : tie.Need-returns-2
 returns-2 c =
     turn-a-gives (c .before .before .before .before .before .before .before .before .before .before .args .table .now) (c .before .before .before .before .before .before .before .before .before .before .args .row) (c .before .before .before .before .before .before .before .before .field .ensures) (c .before .before .before .before .before .before .before .stirs .ensures) (c .before .before .before .before .before .before .if1 .left) (c .before .before .before .before .before .before .before .before .before .before .args .xs .now) (c .before .before .before .before .before .before .before .before .before .before .pre) (c .before .before .before .before .before .card-at .ensures) (c .before .before .before .before .corners-of .result) (c .before .before .before .before .corners-of .ensures .0) (c .before .before .before .before .corners-of .ensures .1) (c .before .before .square-a .result) (c .before .before .square-a .ensures) (c .before .add-square .ensures)

@@ -1,15 +1,7 @@
 use borrow.Author.Needs.{needs}
 use Rattle.packed.proofs.clear_card.Statement.{statement}
 use Rattle.packed.proofs.clear_card.Tie as tie
-use Rattle.packed.proofs.clear_card.Reads as reads
-use Rattle.packed.proofs.clear_card.Lts as lts
-use Rattle.element.proofs.field.Reads as field-reads
-use Rattle.element.proofs.node.Reads as node-reads
-use Rattle.element.proofs.nodes.Reads as nodes-reads
-use Rattle.kinds.proofs.about.Reads as about-reads
-use Rattle.packed.proofs.clear_node.Reads as clear-node-reads
 
--- src/lib.rt:151:8
 use mathlib.Core.Path.{_≡_, sym, ap, _∙_}
 use mathlib.Core.Bool.{Bool, _&&_}
 use mathlib.Core.List.{List}
@@ -37,29 +29,23 @@ node-of t row d h e = names-T t d row h (kind-of (letter t row) T e)
 field-requires : tie.Need-field-requires
 field-requires c κs = search needs
 
--- src/lib.rt:151:41
 about-requires : tie.Need-about-requires
 about-requires c κs = search needs
 
--- src/lib.rt:152:9
 returns : tie.Need-returns
 returns c =
     let t = c .before .before .before .before .before .args .table .now in
     clear-other (nodes t) t (c .before .before .before .before .before .args .row) (c .before .before .before .before .before .args .xs .now) (c .before .before .before .before .before .pre .long) (λ k. ap (λ (b : Bool). b && eqb (field t (c .before .before .before .before .before .args .row) 1) (suc k)) (ne-eqb (letter t (c .before .before .before .before .before .args .row)) (letterOf T) (λ e. c .if1 .taken (c .before .before .before .field .ensures ∙ e ∙ sym (ap (λ (a : About). a .letter) (c .before .before .about .ensures))))))
 
--- src/lib.rt:154:30
 field-requires-2 : tie.Need-field-requires-2
 field-requires-2 c κs = search needs
 
--- src/lib.rt:154:9
 node-requires : tie.Need-node-requires
 node-requires c κs = omega (arith, c .field2 .ensures, node-of (c .before .before .before .before .before .before .args .table .now) (c .before .before .before .before .before .before .args .row) (c .before .before .before .before .before .before .pre .deck) (c .before .before .before .before .before .before .pre .inside) (is-T (c .before .before .before .before .before .before .args .table .now) (c .before .before .before .before .before .before .args .row) (c .before .before .before .before .field .ensures) (c .before .before .before .about .ensures) (c .before .if1 .left)), c .before .before .before .before .before .before .pre .deck .someN)
 
--- src/lib.rt:155:20
 nodes-requires : tie.Need-nodes-requires
 nodes-requires c κs = search needs
 
--- src/lib.rt:155:5
 clear-node-requires : tie.Need-clear-node-requires
 clear-node-requires c κs =
     let among = node-of (c .before .before .before .before .before .before .before .before .before .args .table .now) (c .before .before .before .before .before .before .before .before .before .args .row) (c .before .before .before .before .before .before .before .before .before .pre .deck) (c .before .before .before .before .before .before .before .before .before .pre .inside) (is-T (c .before .before .before .before .before .before .before .before .before .args .table .now) (c .before .before .before .before .before .before .before .before .before .args .row) (c .before .before .before .before .before .before .before .field .ensures) (c .before .before .before .before .before .before .about .ensures) (c .before .before .before .before .if1 .left)) in
@@ -69,11 +55,9 @@ clear-node-requires c κs =
       among = (omega (arith, c .before .before .node .ensures, c .before .before .before .field2 .ensures, among), omega (arith, c .before .before .node .ensures, c .before .before .before .field2 .ensures, c .nodes .ensures, among));
     }
 
--- src/lib.rt:147:1
 same-length : tie.Need-same-length
 same-length c = search needs
 
--- src/lib.rt:147:1
 returns-2 : tie.Need-returns-2
 returns-2 c =
     let t = c .before .before .before .before .before .before .before .before .before .before .before .args .table .now in

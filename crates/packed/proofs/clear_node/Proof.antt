@@ -1,10 +1,5 @@
 use Rattle.packed.proofs.clear_node.Statement.{statement}
 use Rattle.packed.proofs.clear_node.Tie as tie
-use Rattle.packed.proofs.clear_node.Reads as reads
-use Rattle.packed.proofs.clear_node.Lts as lts
-use Rattle.element.proofs.node_row.Reads as node-row-reads
-use Rattle.whole.proofs.next.Reads as next-reads
-use Rattle.whole.proofs.start.Reads as start-reads
 
 use borrow.Author.Needs.{needs}
 use mathlib.Core.Path.{_≡_, sym, ap, _∙_}
@@ -25,51 +20,41 @@ Inv-loop xs₀ n i at₀ j₀ xs at j = (j ≤ n) × (at ≡ place i j) × (xs �
 abbrev μ-loop : tie.MeasureT-loop
 μ-loop xs₀ n i at₀ j₀ xs at j = n - j
 
--- src/lib.rt:135:13
 long : (n i j : ℕ) (xs₀ xs : List ℤ) → xs ≡ swept n xs₀ i j → length xs ≡ tri n
 long n i j xs₀ xs e = ap length e ∙ length-lower n _
 node-row-requires : tie.Need-node-row-requires Inv-loop μ-loop
 node-row-requires c κs = search needs
 
--- src/lib.rt:135:13
 sub-i : tie.Need-sub-i Inv-loop μ-loop
 sub-i c = omega (arith, c .before .pre .among, c .node-row .ensures)
 
--- src/lib.rt:136:9
 start-requires : tie.Need-start-requires Inv-loop μ-loop
 start-requires c κs = omega (arith, c .before .pre .among, c .node-row .ensures, c .before .pre .few)
 
--- src/lib.rt:138:5
 loop-holds : tie.Need-loop-holds Inv-loop μ-loop
 loop-holds c =
     let i = c .before .node-row .result - 1 in
     (omega arith, c .start .ensures ∙ sym (place-first i), sweep-none (c .before .before .args .n) i (c .before .before .args .xs .now) (c .before .before .pre .long))
 
--- src/lib.rt:139:9
 mul-xs : tie.Need-mul-xs Inv-loop μ-loop
 mul-xs c =
     let i = c .before .before .before .node-row .result - 1 in
     omega (arith, c .before .loop .inv .1, place-in i (c .before .loop .j) (c .before .before .before .before .args .n) (omega (arith, c .before .before .before .before .pre .among, c .before .before .before .node-row .ensures)) (omega (arith, c .loop-test .taken, c .before .before .before .before .pre)), tri-96 (c .before .before .before .before .args .n) (c .before .before .before .before .pre .few))
 
--- src/lib.rt:139:9
 slice-set-of-xs : tie.Need-slice-set-of-xs Inv-loop μ-loop
 slice-set-of-xs c =
     let i = c .before .before .before .node-row .result - 1 in
     omega (arith, c .before .loop .inv .1, place-in i (c .before .loop .j) (c .before .before .before .before .args .n) (omega (arith, c .before .before .before .before .pre .among, c .before .before .before .node-row .ensures)) (omega (arith, c .loop-test .taken, c .before .before .before .before .pre)), long (c .before .before .before .before .args .n) i (c .before .loop .j) (c .before .before .before .before .args .xs .now) (c .before .loop .xs) (c .before .loop .inv .2))
 
--- src/lib.rt:140:9
 next-requires : tie.Need-next-requires Inv-loop μ-loop
 next-requires c κs = (c .before .loop .inv .1, omega (arith, c .before .before .before .before .pre .among, c .before .before .before .node-row .ensures, c .before .before .before .before .pre .few), omega (arith, c .loop-test .taken, c .before .before .before .before .pre .few))
 
--- src/lib.rt:141:9
 add-j : tie.Need-add-j Inv-loop μ-loop
 add-j c = omega (arith, c .before .loop-test .taken, c .before .before .before .before .before .pre .few)
 
--- src/lib.rt:138:5
 loop-less : tie.Need-loop-less Inv-loop μ-loop
 loop-less c = omega (arith, c .before .loop-test .taken)
 
--- src/lib.rt:138:5
 loop-again : tie.Need-loop-again Inv-loop μ-loop
 loop-again c =
     let i = c .before .before .before .before .node-row .result - 1 in (
@@ -78,34 +63,28 @@ loop-again c =
       ap (λ (p : ℕ). set (c .before .before .loop .xs) p (pos 0)) (c .before .before .loop .inv .1) ∙ sweep-more (c .before .before .before .before .before .args .n) i (c .before .before .loop .j) (c .before .before .before .before .before .args .xs .now) (c .before .before .loop .xs) (c .before .before .loop .inv .2),
     )
 
--- src/lib.rt:143:8
 start-requires-2 : tie.Need-start-requires-2 Inv-loop μ-loop
 start-requires-2 c κs = omega (arith, c .before .before .before .before .pre .among, c .before .before .before .node-row .ensures, c .before .before .before .before .pre .few)
 
--- src/lib.rt:143:8
 add-xs : tie.Need-add-xs Inv-loop μ-loop
 add-xs c =
     let i = c .before .before .before .before .node-row .result - 1 in
     omega (arith, c .start2 .ensures, tri-below i (c .before .before .before .before .before .args .n) (omega (arith, c .before .before .before .before .before .pre .among, c .before .before .before .before .node-row .ensures)), tri-96 (c .before .before .before .before .before .args .n) (c .before .before .before .before .before .pre .few))
 
--- src/lib.rt:143:5
 mul-xs-2 : tie.Need-mul-xs-2 Inv-loop μ-loop
 mul-xs-2 c =
     let i = c .before .before .before .before .node-row .result - 1 in
     omega (arith, c .start2 .ensures, tri-below i (c .before .before .before .before .before .args .n) (omega (arith, c .before .before .before .before .before .pre .among, c .before .before .before .before .node-row .ensures)), tri-96 (c .before .before .before .before .before .args .n) (c .before .before .before .before .before .pre .few))
 
--- src/lib.rt:143:5
 slice-set-of-xs-2 : tie.Need-slice-set-of-xs-2 Inv-loop μ-loop
 slice-set-of-xs-2 c =
     let i = c .before .before .before .before .node-row .result - 1 in
     omega (arith, c .start2 .ensures, tri-below i (c .before .before .before .before .before .args .n) (omega (arith, c .before .before .before .before .before .pre .among, c .before .before .before .before .node-row .ensures)), long (c .before .before .before .before .before .args .n) i (c .before .before .loop .j) (c .before .before .before .before .before .args .xs .now) (c .before .before .loop .xs) (c .before .before .loop .inv .2))
 
--- src/lib.rt:131:1
 same-length : tie.Need-same-length Inv-loop μ-loop
 same-length c =
     simp length-set (long (c .before .before .before .before .before .args .n) (c .before .before .before .before .node-row .result - 1) (c .before .before .loop .j) (c .before .before .before .before .before .args .xs .now) (c .before .before .loop .xs) (c .before .before .loop .inv .2) ∙ sym (c .before .before .before .before .before .pre .long))
 
--- src/lib.rt:131:1
 returns : tie.Need-returns Inv-loop μ-loop
 returns c =
     let i = c .before .before .before .before .node-row .result - 1 in

@@ -1,13 +1,7 @@
 use borrow.Author.Needs.{needs}
 use Rattle.part.proofs.base.Statement.{statement}
 use Rattle.part.proofs.base.Tie as tie
-use Rattle.part.proofs.base.Reads as reads
-use Rattle.part.proofs.base.Lts as lts
-use Rattle.element.proofs.element.Reads as element-reads
-use Rattle.element.proofs.element_card.Reads as element-card-reads
-use Rattle.part.proofs.by_letter.Reads as by-letter-reads
 
--- src/lib.rt:85:24
 use mathlib.Core.Path.{_≡_, sym, ap, subst, _∙_}
 use Prim.Native.Nat.{ℕ}
 use Rattle.paper.specs.Cards.{rowAt, elements, elementRow}
@@ -17,30 +11,24 @@ use Rattle.part.proofs.Ways.{is-named, few-named, base-is}
 array-read-by-letter : tie.Need-array-read-by-letter
 array-read-by-letter c = search needs
 
--- src/lib.rt:85:9
 by-letter-requires : tie.Need-by-letter-requires
 by-letter-requires c κs = search needs
 
--- src/lib.rt:87:62
 array-read-element : tie.Need-array-read-element
 array-read-element c = search needs
 
--- src/lib.rt:87:45
 element-requires : tie.Need-element-requires
 element-requires c κs = few-named (c .before .before .before .args .table .now) (c .before .before .before .args .t2) (c .before .by-letter .result) (c .before .by-letter .ensures) (c .before .before .before .pre) (c .if1 .taken)
 
--- src/lib.rt:87:9
 element-card-requires : tie.Need-element-card-requires
 element-card-requires c κs =
     (c .before .before .before .before .pre .deck, subst (In 1 (elements (c .before .before .before .before .args .table .now))) (sym (c .element .ensures)) (is-named (c .before .before .before .before .args .table .now) (c .before .before .before .before .args .t2) (c .before .before .by-letter .result) (c .before .before .by-letter .ensures) (c .before .before .before .before .pre) (c .before .if1 .taken)))
 
--- src/lib.rt:87:9
 returns : tie.Need-returns
 returns c =
     c .element-card .ensures ∙ ap (λ (e : ℕ). rowAt (c .before .before .before .before .before .args .table .now) (elementRow (c .before .before .before .before .before .args .table .now) e)) (c .before .element .ensures)
     ∙ base-is (c .before .before .before .before .before .args .table .now) (c .before .before .before .before .before .args .t2) (c .before .before .before .by-letter .result) (c .before .before .before .by-letter .ensures) (c .before .before .if1 .taken)
 
--- src/lib.rt:81:1
 returns-2 : tie.Need-returns-2
 returns-2 c = base-is (c .before .before .before .args .table .now) (c .before .before .before .args .t2) (c .before .by-letter .result) (c .before .by-letter .ensures) (c .if1 .left)
 

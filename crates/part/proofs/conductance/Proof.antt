@@ -1,41 +1,28 @@
 use borrow.Author.Needs.{needs}
 use Rattle.part.proofs.conductance.Statement.{statement}
 use Rattle.part.proofs.conductance.Tie as tie
-use Rattle.part.proofs.conductance.Reads as reads
-use Rattle.part.proofs.conductance.Lts as lts
-use Rattle.element.proofs.triangle_of.Reads as triangle-of-reads
-use Rattle.part.proofs.by_letter.Reads as by-letter-reads
-use Rattle.triangle.proofs.conductance.Reads as conductance-reads
-use Rattle.triangle.proofs.twice_area.Reads as twice-area-reads
 
--- src/lib.rt:172:24
 use borrow.Author.Tests.{not-true, not-false}
 use Rattle.part.proofs.Ways.{is-element, placed-here, solid-here, conducts-none, conducts}
 
 array-read-by-letter : tie.Need-array-read-by-letter
 array-read-by-letter c = search needs
 
--- src/lib.rt:172:9
 by-letter-requires : tie.Need-by-letter-requires
 by-letter-requires c κs = search needs
 
--- src/lib.rt:174:9
 returns : tie.Need-returns
 returns c = conducts-none (c .before .before .before .before .args .table .now) (c .before .before .before .before .args .t2) (c .before .before .by-letter .result) (c .before .before .by-letter .ensures) (c .before .before .before .before .pre .0) (not-true (c .before .before .by-letter .result .conducts) (c .if1 .taken))
 
--- src/lib.rt:176:9
 triangle-of-requires : tie.Need-triangle-of-requires
 triangle-of-requires c κs = is-element (c .before .before .before .before .args .table .now) (c .before .before .before .before .args .t2) (c .before .before .by-letter .result) (c .before .before .by-letter .ensures) (c .before .before .before .before .pre .0) (not-false (c .before .before .by-letter .result .conducts) (c .if1 .left))
 
--- src/lib.rt:177:30
 twice-area-requires : tie.Need-twice-area-requires
 twice-area-requires c κs = placed-here (c .before .before .before .before .before .args .table .now) (c .before .before .before .before .before .args .t2) (c .before .before .before .by-letter .result) (c .before .before .before .by-letter .ensures) (c .before .before .before .before .before .pre .0) (not-false (c .before .before .before .by-letter .result .conducts) (c .before .if1 .left)) (c .triangle-of .ensures)
 
--- src/lib.rt:177:5
 conductance-requires : tie.Need-conductance-requires
 conductance-requires c κs = solid-here (c .before .before .before .before .before .before .args .table .now) (c .before .before .before .before .before .before .args .t2) (c .before .before .before .before .by-letter .result) (c .before .before .before .before .by-letter .ensures) (c .before .before .before .before .before .before .pre .0) (not-false (c .before .before .before .before .by-letter .result .conducts) (c .before .before .if1 .left)) (c .before .triangle-of .ensures) (c .twice-area .ensures) (c .before .before .before .before .before .before .pre .1)
 
--- src/lib.rt:168:1
 returns-2 : tie.Need-returns-2
 returns-2 c = conducts (c .before .before .before .before .before .before .before .args .table .now) (c .before .before .before .before .before .before .before .args .t2) (c .before .before .before .before .before .by-letter .result) (c .before .before .before .before .before .by-letter .ensures) (c .before .before .before .before .before .before .before .pre .0) (not-false (c .before .before .before .before .before .by-letter .result .conducts) (c .before .before .before .if1 .left)) (c .before .before .triangle-of .ensures) (c .conductance .ensures)
 

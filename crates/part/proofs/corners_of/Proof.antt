@@ -1,41 +1,28 @@
 use borrow.Author.Needs.{needs}
 use Rattle.part.proofs.corners_of.Statement.{statement}
 use Rattle.part.proofs.corners_of.Tie as tie
-use Rattle.part.proofs.corners_of.Reads as reads
-use Rattle.part.proofs.corners_of.Lts as lts
-use Rattle.element.proofs.shape_of.Reads as shape-of-reads
-use Rattle.part.proofs.base.Reads as base-reads
-use Rattle.part.proofs.by_letter.Reads as by-letter-reads
-use Rattle.part.proofs.nowhere.Reads as nowhere-reads
 
--- src/lib.rt:107:24
 use mathlib.Core.Path.{refl}
 use Rattle.part.proofs.Ways.{no-corners, some-corners, has-base}
 
 array-read-by-letter : tie.Need-array-read-by-letter
 array-read-by-letter c = search needs
 
--- src/lib.rt:107:9
 by-letter-requires : tie.Need-by-letter-requires
 by-letter-requires c κs = search needs
 
--- src/lib.rt:109:9
 nowhere-requires : tie.Need-nowhere-requires
 nowhere-requires c κs = search needs
 
--- src/lib.rt:109:9
 returns : tie.Need-returns
 returns c = no-corners (c .before .before .before .before .before .args .table .now) (c .before .before .before .before .before .args .t2) (c .before .before .before .by-letter .result) (c .before .before .before .by-letter .ensures) (c .nowhere .result) (c .nowhere .ensures) (c .before .if1 .taken)
 
--- src/lib.rt:111:42
 base-requires : tie.Need-base-requires
 base-requires c κs = search needs
 
--- src/lib.rt:111:9
 shape-of-requires : tie.Need-shape-of-requires
 shape-of-requires c κs = has-base (c .before .before .before .before .before .args .table .now) (c .before .before .before .before .before .args .t2) (c .before .before .before .by-letter .result) (c .before .before .before .by-letter .ensures) (c .before .before .before .before .before .pre) (c .before .if1 .left) (c .base .ensures)
 
--- src/lib.rt:103:1
 returns-2 : tie.Need-returns-2
 returns-2 c = some-corners (c .before .before .before .before .before .before .before .args .table .now) (c .before .before .before .before .before .before .before .args .t2) (c .before .before .before .before .before .by-letter .result) (c .before .before .before .before .before .by-letter .ensures) _ refl refl (c .before .before .before .if1 .left) (c .before .shape-of .ensures) (c .before .before .base .ensures)
 

@@ -1,10 +1,7 @@
 use borrow.Author.Needs.{needs}
 use Rattle.part.proofs.film_load.Statement.{statement}
 use Rattle.part.proofs.film_load.Tie as tie
-use Rattle.part.proofs.film_load.Reads as reads
-use Rattle.part.proofs.film_load.Lts as lts
 
--- src/lib.rt:208:5
 use native.Mathlib.Omega.{arith}
 use native.Mathlib.Nat.{mul-le-mul}
 use Prim.Native.Nat.{ℕ, _*_, _^_, _≤_, _<_}
@@ -15,11 +12,9 @@ product f a h k = let m : 4 * f * a ≤ 1398000 * 2 ^ 32 = mul-le-mul {n₂ = 13
 mul-result : tie.Need-mul-result
 mul-result c = search needs
 
--- src/lib.rt:208:5
 mul-result-2 : tie.Need-mul-result-2
 mul-result-2 c = omega (arith, product (c .args .film) (c .args .ambient) (c .pre) (omega (arith, c .fits .ambient)))
 
--- src/lib.rt:204:1
 returns : tie.Need-returns
 returns c = search needs
 

@@ -1,9 +1,5 @@
 use Rattle.part.proofs.least_row.Statement.{statement}
 use Rattle.part.proofs.least_row.Tie as tie
-use Rattle.part.proofs.least_row.Reads as reads
-use Rattle.part.proofs.least_row.Lts as lts
-use Rattle.element.proofs.node_row.Reads as node-row-reads
-use Rattle.part.proofs.less.Reads as less-reads
 
 use borrow.Author.Needs.{needs}
 use mathlib.Core.Path.{_≡_, refl, sym, ap, _∙_}
@@ -21,47 +17,36 @@ Inv-loop c nodes m₀ k₀ m k = (k ≤ c .count) × (least (drop k (cornersOf c
 abbrev μ-loop : tie.MeasureT-loop
 μ-loop c nodes m₀ k₀ m k = c .count - k
 
--- src/lib.rt:131:35
 array-copy-out-node-row : tie.Need-array-copy-out-node-row Inv-loop μ-loop
 array-copy-out-node-row c = search needs
 
--- src/lib.rt:131:9
 node-row-requires : tie.Need-node-row-requires Inv-loop μ-loop
 node-row-requires c κs = search needs
 
--- src/lib.rt:133:5
 loop-holds : tie.Need-loop-holds Inv-loop μ-loop
 loop-holds c = (omega arith, all-left (c .before .before .before .args .c) (c .before .before .before .pre .0) (c .before .before .before .pre .1) (c .node-row .ensures))
 
--- src/lib.rt:134:36
 array-copy-out-node-row-2 : tie.Need-array-copy-out-node-row-2 Inv-loop μ-loop
 array-copy-out-node-row-2 c = omega (arith, c .before .before .before .before .before .before .pre .0 .few)
 
--- src/lib.rt:134:18
 node-row-requires-2 : tie.Need-node-row-requires-2 Inv-loop μ-loop
 node-row-requires-2 c κs = search needs
 
--- src/lib.rt:134:9
 less-requires : tie.Need-less-requires Inv-loop μ-loop
 less-requires c κs = search needs
 
--- src/lib.rt:135:9
 add-k : tie.Need-add-k Inv-loop μ-loop
 add-k c = omega (arith, c .before .before .before .before .before .before .before .before .before .pre .0 .few)
 
--- src/lib.rt:133:5
 loop-less : tie.Need-loop-less Inv-loop μ-loop
 loop-less c = omega arith
 
--- src/lib.rt:133:5
 loop-again : tie.Need-loop-again Inv-loop μ-loop
 loop-again c = (omega arith, one-more (c .before .before .before .before .before .before .before .before .before .args .c) (c .before .before .before .before .before .before .before .before .before .pre .0) (c .before .before .before .before .before .loop .k) (c .before .before .before .before .before .loop .m) (c .before .before .before .if1 .taken) (c .before .node-row2 .ensures) (c .less .ensures) (c .before .before .before .before .before .loop .inv .1))
 
--- src/lib.rt:137:5
 sub-result : tie.Need-sub-result Inv-loop μ-loop
 sub-result c = omega (arith, c .before .before .before .before .before .before .pre .2, none-left (c .before .before .before .before .before .before .args .c) (c .before .before .before .before .before .before .pre .0) (c .before .before .loop .k) (c .before .before .loop .m) (c .if1 .left) (c .before .before .loop .inv .1))
 
--- src/lib.rt:126:1
 returns : tie.Need-returns Inv-loop μ-loop
 returns c = ap (λ (n : ℕ). n - 1) (none-left (c .before .before .before .before .before .before .args .c) (c .before .before .before .before .before .before .pre .0) (c .before .before .loop .k) (c .before .before .loop .m) (c .if1 .left) (c .before .before .loop .inv .1))
 

@@ -1,14 +1,7 @@
 use borrow.Author.Needs.{needs}
 use Rattle.part.proofs.load.Statement.{statement}
 use Rattle.part.proofs.load.Tie as tie
-use Rattle.part.proofs.load.Reads as reads
-use Rattle.part.proofs.load.Lts as lts
-use Rattle.part.proofs.by_letter.Reads as by-letter-reads
-use Rattle.part.proofs.film.Reads as film-reads
-use Rattle.part.proofs.film_load.Reads as film-load-reads
-use Rattle.part.proofs.heat_load.Reads as heat-load-reads
 
--- src/lib.rt:216:24
 use mathlib.Core.Path.{_≡_, ap, _∙_}
 use lib.IntN.{pos}
 use Rattle.part.proofs.Ways.{heats, loads}
@@ -16,35 +9,27 @@ use Rattle.part.proofs.Ways.{heats, loads}
 array-read-by-letter : tie.Need-array-read-by-letter
 array-read-by-letter c = search needs
 
--- src/lib.rt:216:9
 by-letter-requires : tie.Need-by-letter-requires
 by-letter-requires c κs = search needs
 
--- src/lib.rt:218:26
 array-read-heat-load : tie.Need-array-read-heat-load
 array-read-heat-load c = search needs
 
--- src/lib.rt:218:9
 heat-load-requires : tie.Need-heat-load-requires
 heat-load-requires c κs = search needs
 
--- src/lib.rt:218:9
 returns : tie.Need-returns
 returns c = λ a. ap pos (c .heat-load .ensures) ∙ heats (c .before .before .before .before .args .table .now) (c .before .before .before .before .args .t2) (c .before .before .by-letter .result) (c .before .before .by-letter .ensures) (c .before .before .before .before .pre) (c .before .if1 .taken) a
 
--- src/lib.rt:220:15
 film-requires : tie.Need-film-requires
 film-requires c κs = search needs
 
--- src/lib.rt:220:34
 array-read-film-load : tie.Need-array-read-film-load
 array-read-film-load c = search needs
 
--- src/lib.rt:220:5
 film-load-requires : tie.Need-film-load-requires
 film-load-requires c κs = search needs
 
--- src/lib.rt:212:1
 returns-2 : tie.Need-returns-2
 returns-2 c = λ a. ap pos (c .film-load .ensures) ∙ loads (c .before .before .before .before .before .args .table .now) (c .before .before .before .before .before .args .t2) (c .before .before .before .by-letter .result) (c .before .before .before .by-letter .ensures) (c .before .before .before .before .before .pre) (c .before .before .if1 .left) (c .before .film .ensures .0) a
 

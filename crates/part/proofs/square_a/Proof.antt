@@ -1,46 +1,31 @@
 use borrow.Author.Needs.{needs}
 use Rattle.part.proofs.square_a.Statement.{statement}
 use Rattle.part.proofs.square_a.Tie as tie
-use Rattle.part.proofs.square_a.Reads as reads
-use Rattle.part.proofs.square_a.Lts as lts
-use Rattle.part.proofs.conductance.Reads as conductance-reads
-use Rattle.part.proofs.film.Reads as film-reads
-use Rattle.part.proofs.stored.Reads as stored-reads
-use Rattle.triangle.proofs.mass.Reads as mass-reads
-use Rattle.triangle.proofs.plus.Reads as plus-reads
 
--- src/lib.rt:186:9
 use mathlib.Core.Path.{refl}
 use Rattle.part.proofs.Ways.{asks-first, asks-second, in-A}
 
 conductance-requires : tie.Need-conductance-requires
 conductance-requires c κs = search needs
 
--- src/lib.rt:187:24
 stored-requires : tie.Need-stored-requires
 stored-requires c κs = search needs
 
--- src/lib.rt:187:9
 mass-requires : tie.Need-mass-requires
 mass-requires c κs = search needs
 
--- src/lib.rt:185:9
 plus-requires : tie.Need-plus-requires
 plus-requires c κs = asks-first (c .before .before .before .before .args .table .now) (c .before .before .before .before .args .card) (c .before .before .before .before .pre .0) (c .before .before .before .before .pre .1) (c .before .before .conductance .ensures) (c .before .stored .ensures .0) (c .mass .ensures) refl refl
 
--- src/lib.rt:189:43
 film-requires : tie.Need-film-requires
 film-requires c κs = search needs
 
--- src/lib.rt:189:28
 mass-requires-2 : tie.Need-mass-requires-2
 mass-requires-2 c κs = search needs
 
--- src/lib.rt:189:5
 plus-requires-2 : tie.Need-plus-requires-2
 plus-requires-2 c κs = asks-second (c .before .before .before .before .before .before .before .args .table .now) (c .before .before .before .before .before .before .before .args .card) (c .before .before .before .before .before .before .before .pre .0) (c .before .before .before .before .before .before .before .pre .1) (c .before .before .before .before .before .conductance .ensures) (c .before .before .before .before .stored .ensures .0) (c .before .before .before .mass .ensures) (c .before .film .ensures .0) (c .mass2 .ensures) (c .before .before .plus .ensures)
 
--- src/lib.rt:181:1
 returns : tie.Need-returns
 returns c = in-A (c .before .before .before .before .before .before .before .before .args .table .now) (c .before .before .before .before .before .before .before .before .args .card) (c .before .before .before .before .before .before .before .before .pre .0) (c .before .before .before .before .before .before .before .before .pre .1) (c .before .before .before .before .before .before .conductance .ensures) (c .before .before .before .before .before .stored .ensures .0) (c .before .before .before .before .mass .ensures) (c .before .before .film .ensures .0) (c .before .mass2 .ensures) (c .before .before .before .plus .ensures) (c .plus2 .ensures)
 

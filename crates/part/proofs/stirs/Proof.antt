@@ -1,11 +1,7 @@
 use borrow.Author.Needs.{needs}
 use Rattle.part.proofs.stirs.Statement.{statement}
 use Rattle.part.proofs.stirs.Tie as tie
-use Rattle.part.proofs.stirs.Reads as reads
-use Rattle.part.proofs.stirs.Lts as lts
-use Rattle.part.proofs.by_letter.Reads as by-letter-reads
 
--- src/lib.rt:74:9
 use mathlib.Core.Path.{_≡_, sym, ap, _∙_}
 use mathlib.Core.Bool.{Bool, true, false, _||_}
 use Rattle.paper.specs.Kinds.{kindOf}
@@ -14,11 +10,9 @@ use Rattle.part.proofs.Ways.{stirs-is}
 by-letter-requires : tie.Need-by-letter-requires
 by-letter-requires c κs = search needs
 
--- src/lib.rt:71:1
 returns : tie.Need-returns
 returns c = λ t card. c .if1 .taken ∙ sym (ap (λ (b : Bool). b || c .before .by-letter .result .films) (c .if1 .taken)) ∙ stirs-is (kindOf (c .before .before .args .letter)) (c .before .by-letter .result) (c .before .by-letter .ensures) t card
 
--- src/lib.rt:71:1
 returns-2 : tie.Need-returns-2
 returns-2 c = λ t card. sym (ap (λ (b : Bool). b || c .before .by-letter .result .films) (c .if1 .left)) ∙ stirs-is (kindOf (c .before .before .args .letter)) (c .before .by-letter .result) (c .before .by-letter .ensures) t card
 

@@ -1,15 +1,7 @@
 use borrow.Author.Needs.{needs}
 use Rattle.part.proofs.stored.Statement.{statement}
 use Rattle.part.proofs.stored.Tie as tie
-use Rattle.part.proofs.stored.Reads as reads
-use Rattle.part.proofs.stored.Lts as lts
-use Rattle.element.proofs.field.Reads as field-reads
-use Rattle.element.proofs.triangle_of.Reads as triangle-of-reads
-use Rattle.part.proofs.by_letter.Reads as by-letter-reads
-use Rattle.triangle.proofs.capacity.Reads as capacity-reads
-use Rattle.triangle.proofs.twice_area.Reads as twice-area-reads
 
--- src/lib.rt:145:24
 use mathlib.Core.Path.{_≡_, sym, ap, _∙_}
 use borrow.Author.Tests.{not-true, not-false}
 use Rattle.part.proofs.Ways.{is-element, placed-here, sized-here, stores-none, stores}
@@ -20,32 +12,25 @@ use Rattle.triangle.specs.Asks.{Step}
 array-read-by-letter : tie.Need-array-read-by-letter
 array-read-by-letter c = search needs
 
--- src/lib.rt:145:9
 by-letter-requires : tie.Need-by-letter-requires
 by-letter-requires c κs = search needs
 
--- src/lib.rt:147:9
 returns : tie.Need-returns
 returns c = stores-none (c .before .before .before .before .args .table .now) (c .before .before .before .before .args .t2) (c .before .before .by-letter .result) (c .before .before .by-letter .ensures) (c .before .before .before .before .pre) (not-true (c .before .before .by-letter .result .conducts) (c .if1 .taken))
 
--- src/lib.rt:149:9
 triangle-of-requires : tie.Need-triangle-of-requires
 triangle-of-requires c κs = is-element (c .before .before .before .before .args .table .now) (c .before .before .before .before .args .t2) (c .before .before .by-letter .result) (c .before .before .by-letter .ensures) (c .before .before .before .before .pre) (not-false (c .before .before .by-letter .result .conducts) (c .if1 .left))
 
--- src/lib.rt:152:9
 twice-area-requires : tie.Need-twice-area-requires
 twice-area-requires c κs = placed-here (c .before .before .before .before .before .args .table .now) (c .before .before .before .before .before .args .t2) (c .before .before .before .by-letter .result) (c .before .before .before .by-letter .ensures) (c .before .before .before .before .before .pre) (not-false (c .before .before .before .by-letter .result .conducts) (c .before .if1 .left)) (c .triangle-of .ensures)
 
--- src/lib.rt:153:9
 field-requires : tie.Need-field-requires
 field-requires c κs = search needs
 
--- src/lib.rt:150:5
 capacity-requires : tie.Need-capacity-requires
 capacity-requires c κs =
     (sized-here (c .before .before .before .before .before .before .before .args .table .now) (c .before .before .before .before .before .before .before .args .t2) (c .before .before .before .before .before .by-letter .result) (c .before .before .before .before .before .by-letter .ensures) (c .before .before .before .before .before .before .before .pre) (not-false (c .before .before .before .before .before .by-letter .result .conducts) (c .before .before .before .if1 .left)) (c .before .before .triangle-of .ensures), c .before .twice-area .ensures, subst Step (sym (c .field .ensures)) (step-of (c .before .before .before .before .before .before .before .args .table .now) (c .before .before .before .before .before .before .before .pre .deck)))
 
--- src/lib.rt:141:1
 returns-2 : tie.Need-returns-2
 returns-2 c = stores (c .before .before .before .before .before .before .before .before .args .table .now) (c .before .before .before .before .before .before .before .before .args .t2) (c .before .before .before .before .before .before .by-letter .result) (c .before .before .before .before .before .before .by-letter .ensures) (c .before .before .before .before .before .before .before .before .pre) (not-false (c .before .before .before .before .before .before .by-letter .result .conducts) (c .before .before .before .before .if1 .left)) (c .before .before .before .triangle-of .ensures) (c .before .field .ensures) (c .capacity .ensures)
 

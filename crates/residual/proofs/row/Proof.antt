@@ -8,7 +8,6 @@ use native.Mathlib.Omega.{arith}
 use lib.IntN.{_+ℤ_}
 use mir.Syntax.{w64}
 use mir.Val.{toZ}
-use Rattle.whole.specs.Sums.{sum as total}
 use Rattle.whole.specs.Packed.{cell}
 use Rattle.whole.proofs.Sums.{filled, filled-none}
 use Rattle.residual.specs.Asks.{mixed}

@@ -1,8 +1,5 @@
 use Rattle.run.proofs.steps.Statement.{statement}
 use Rattle.run.proofs.steps.Tie as tie
-use Rattle.run.proofs.steps.Reads as reads
-use Rattle.run.proofs.steps.Lts as lts
-use Rattle.step.proofs.judged_step.Reads as judged-step-reads
 
 use borrow.Author.Needs.{needs}
 use mathlib.Core.Path.{_≡_, refl, _∙_}
@@ -19,46 +16,36 @@ Inv-loop table p a factor temperatures₀ k count₀ temperatures count = (lengt
 abbrev μ-loop : tie.MeasureT-loop
 μ-loop table p a factor temperatures₀ k count₀ temperatures count = k - count
 
--- src/lib.rt:25:5
 loop-holds : tie.Need-loop-holds Inv-loop μ-loop
 loop-holds c = let s = c .before .args in (refl, run-start (lent (s .table .now) (s .p .now) (s .a .now) (s .factor .now) [] (s .temperatures .now)) (s .k))
 
--- src/lib.rt:26:13
 judged-step-requires : tie.Need-judged-step-requires Inv-loop μ-loop
 judged-step-requires c κs = c .before .before .before .before .pre
 
--- src/lib.rt:27:33
 enum-known-e : tie.Need-enum-known-e Inv-loop μ-loop
 enum-known-e c = search needs
 
--- src/lib.rt:28:13
 same-length : tie.Need-same-length Inv-loop μ-loop
 same-length c = c .before .before .before .before .judged-step .kept .1 .1 .1 .1 .0 ∙ c .before .before .before .before .before .before .before .loop .inv .0
 
--- src/lib.rt:28:13
 returns : tie.Need-returns Inv-loop μ-loop
 returns c = run-refused (c .before .before .before .before .before .before .before .loop .inv .1) (c .before .before .before .before .before .before .loop-test .taken) (c .before .before .before .before .judged-step .result) _ (c .before .before .before .before .judged-step .ensures) _ (c .before .e .given .1)
 
 enum-told : tie.Need-enum-told Inv-loop μ-loop
 enum-told c = search needs
 
--- src/lib.rt:30:9
 add-count : tie.Need-add-count Inv-loop μ-loop
 add-count c = search needs
 
--- src/lib.rt:25:5
 loop-less : tie.Need-loop-less Inv-loop μ-loop
 loop-less c = search needs
 
--- src/lib.rt:25:5
 loop-again : tie.Need-loop-again Inv-loop μ-loop
 loop-again c = (c .before .before .before .judged-step .kept .1 .1 .1 .1 .0 ∙ c .before .before .before .before .before .before .loop .inv .0, run-next (c .before .before .before .before .before .before .loop .inv .1) (c .before .before .before .before .before .loop-test .taken) (c .before .before .before .judged-step .result) _ (c .before .before .before .judged-step .ensures) _ (c .enum-told .given .1))
 
--- src/lib.rt:13:1
 same-length-2 : tie.Need-same-length-2 Inv-loop μ-loop
 same-length-2 c = c .before .loop .inv .0
 
--- src/lib.rt:13:1
 returns-2 : tie.Need-returns-2 Inv-loop μ-loop
 returns-2 c = run-end (c .before .loop .inv .1) (omega arith)
 

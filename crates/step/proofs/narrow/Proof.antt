@@ -1,7 +1,5 @@
 use Rattle.step.proofs.narrow.Statement.{statement}
 use Rattle.step.proofs.narrow.Tie as tie
-use Rattle.step.proofs.narrow.Reads as reads
-use Rattle.step.proofs.narrow.Lts as lts
 
 use borrow.Author.Needs.{needs}
 use mathlib.Core.Path.{sym}
@@ -17,47 +15,36 @@ Inv-loop from to₀ k₀ to k = CopyInv from to₀ to k
 abbrev μ-loop : tie.MeasureT-loop
 μ-loop from to₀ k₀ to k = length from - k
 
--- src/lib.rt:79:5
 loop-holds : tie.Need-loop-holds Inv-loop μ-loop
 loop-holds c = copy-start (c .args .from .now) (c .args .to .now) (sym (c .pre .long))
 
--- src/lib.rt:80:17
 mul-v : tie.Need-mul-v Inv-loop μ-loop
 mul-v c = search needs
 
--- src/lib.rt:80:17
 shared-slice-copy-out-v : tie.Need-shared-slice-copy-out-v Inv-loop μ-loop
 shared-slice-copy-out-v c = search needs
 
--- src/lib.rt:80:17
 cast-v : tie.Need-cast-v Inv-loop μ-loop
 cast-v c = narrow-fits (cell (c .before .before .before .args .from .now) (c .before .before .loop .k)) (c .before .before .before .pre .each (c .before .before .loop .k) (omega (arith, c .before .before .before .pre .long)))
 
--- src/lib.rt:81:9
 mul-v-2 : tie.Need-mul-v-2 Inv-loop μ-loop
 mul-v-2 c = omega (arith, copy-long (c .before .before .loop .inv), c .before .before .before .pre .long)
 
--- src/lib.rt:81:9
 slice-set-from-v : tie.Need-slice-set-from-v Inv-loop μ-loop
 slice-set-from-v c = omega (arith, copy-long (c .before .before .loop .inv), c .before .before .before .pre .long)
 
--- src/lib.rt:82:9
 add-k : tie.Need-add-k Inv-loop μ-loop
 add-k c = search needs
 
--- src/lib.rt:79:5
 loop-less : tie.Need-loop-less Inv-loop μ-loop
 loop-less c = search needs
 
--- src/lib.rt:79:5
 loop-again : tie.Need-loop-again Inv-loop μ-loop
 loop-again c = copy-next (c .before .before .loop .inv) (c .before .loop-test .taken) _ (narrow-is (cell (c .before .before .before .args .from .now) (c .before .before .loop .k)) (c .before .before .before .pre .each (c .before .before .loop .k) (omega (arith, c .before .before .before .pre .long))))
 
--- src/lib.rt:74:1
 same-length : tie.Need-same-length Inv-loop μ-loop
 same-length c = copy-long (c .before .loop .inv)
 
--- src/lib.rt:74:1
 returns : tie.Need-returns Inv-loop μ-loop
 returns c = copy-end (c .before .loop .inv) (omega arith)
 

@@ -1,37 +1,26 @@
 use Rattle.step.proofs.prepared.Statement.{statement}
 use Rattle.step.proofs.prepared.Tie as tie
-use Rattle.step.proofs.prepared.Reads as reads
-use Rattle.step.proofs.prepared.Lts as lts
-use Rattle.loads.proofs.fixed.Reads as fixed-reads
-use Rattle.step.proofs.finish.Reads as finish-reads
 
--- src/lib.rt:137:5
 use borrow.Author.Needs.{needs}
 
 fixed-requires : tie.Need-fixed-requires
 fixed-requires c κs = search needs
 
--- src/lib.rt:138:5
 finish-requires : tie.Need-finish-requires
 finish-requires c κs = search needs
 
--- src/lib.rt:123:1
 same-length : tie.Need-same-length
 same-length c = search needs
 
--- src/lib.rt:123:1
 same-length-2 : tie.Need-same-length-2
 same-length-2 c = search needs
 
--- src/lib.rt:123:1
 same-length-3 : tie.Need-same-length-3
 same-length-3 c = search needs
 
--- src/lib.rt:123:1
 same-length-4 : tie.Need-same-length-4
 same-length-4 c = search needs
 
--- src/lib.rt:123:1
 returns : tie.Need-returns
 returns c = search needs
 

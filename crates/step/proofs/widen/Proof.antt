@@ -1,7 +1,5 @@
 use Rattle.step.proofs.widen.Statement.{statement}
 use Rattle.step.proofs.widen.Tie as tie
-use Rattle.step.proofs.widen.Reads as reads
-use Rattle.step.proofs.widen.Lts as lts
 
 use borrow.Author.Needs.{needs}
 use Prim.Native.Nat.{_-_}
@@ -17,47 +15,36 @@ Inv-loop from to₀ k₀ to k = CopyInv from to₀ to k
 abbrev μ-loop : tie.MeasureT-loop
 μ-loop from to₀ k₀ to k = length from - k
 
--- src/lib.rt:91:5
 loop-holds : tie.Need-loop-holds Inv-loop μ-loop
 loop-holds c = copy-start (c .args .from .now) (c .args .to .now) (c .pre)
 
--- src/lib.rt:92:17
 mul-v : tie.Need-mul-v Inv-loop μ-loop
 mul-v c = search needs
 
--- src/lib.rt:92:17
 shared-slice-copy-out-v : tie.Need-shared-slice-copy-out-v Inv-loop μ-loop
 shared-slice-copy-out-v c = search needs
 
--- src/lib.rt:92:17
 cast-v : tie.Need-cast-v Inv-loop μ-loop
 cast-v c = wide-fits {x = cell (c .before .before .before .args .from .now) (c .before .before .loop .k)} (record { sfits = c .v .given })
 
--- src/lib.rt:93:9
 mul-v-2 : tie.Need-mul-v-2 Inv-loop μ-loop
 mul-v-2 c = omega (arith, copy-long (c .before .before .loop .inv), c .before .before .before .pre, c .before .before .before .good)
 
--- src/lib.rt:93:9
 slice-set-from-v : tie.Need-slice-set-from-v Inv-loop μ-loop
 slice-set-from-v c = omega (arith, copy-long (c .before .before .loop .inv), c .before .before .before .pre)
 
--- src/lib.rt:94:9
 add-k : tie.Need-add-k Inv-loop μ-loop
 add-k c = search needs
 
--- src/lib.rt:91:5
 loop-less : tie.Need-loop-less Inv-loop μ-loop
 loop-less c = search needs
 
--- src/lib.rt:91:5
 loop-again : tie.Need-loop-again Inv-loop μ-loop
 loop-again c = copy-next (c .before .before .loop .inv) (c .before .loop-test .taken) _ (wide-is {x = cell (c .before .before .before .args .from .now) (c .before .before .loop .k)} (record { sfits = c .v .given }))
 
--- src/lib.rt:86:1
 same-length : tie.Need-same-length Inv-loop μ-loop
 same-length c = copy-long (c .before .loop .inv)
 
--- src/lib.rt:86:1
 returns : tie.Need-returns Inv-loop μ-loop
 returns c = copy-end (c .before .loop .inv) (omega arith)
 

@@ -1,13 +1,7 @@
 use borrow.Author.Needs.{needs}
 use Rattle.work.proofs.change.Statement.{statement}
 use Rattle.work.proofs.change.Tie as tie
-use Rattle.work.proofs.change.Reads as reads
-use Rattle.work.proofs.change.Lts as lts
-use Rattle.packed.proofs.add_square.Reads as add-square-reads
-use Rattle.packed.proofs.clear_fixed.Reads as clear-fixed-reads
-use Rattle.whole.proofs.slices.copy.Reads as copy-reads
 
--- src/lib.rt:56:5
 use mathlib.Core.Path.{sym, ap, subst, _∙_}
 use mathlib.Core.List.{List}
 use lib.IntN.{ℤ}
@@ -18,19 +12,15 @@ use Rattle.work.specs.Asks.{added, addedFixed}
 copy-requires : tie.Need-copy-requires
 copy-requires c κs = search needs
 
--- src/lib.rt:57:5
 add-square-requires : tie.Need-add-square-requires
 add-square-requires c κs = subst (λ (z : List ℤ). Takes (c .before .before .before .before .before .args .c .count) z (numbers (c .before .before .before .before .before .args .c .nodes)) (c .before .before .before .before .before .args .q)) (sym (c .before .before .copy .ensures)) (c .before .before .before .before .before .pre .takes)
 
--- src/lib.rt:58:5
 clear-fixed-requires : tie.Need-clear-fixed-requires
 clear-fixed-requires c κs = search needs
 
--- src/lib.rt:52:1
 same-length : tie.Need-same-length
 same-length c = search needs
 
--- src/lib.rt:52:1
 returns : tie.Need-returns
 returns c = c .before .clear-fixed .ensures ∙ ap (addedFixed (c .before .before .before .before .before .before .before .before .before .before .args .table .now)) (c .before .before .before .before .add-square .ensures ∙ ap (λ (z : List ℤ). added z (c .before .before .before .before .before .before .before .before .before .before .args .c) (c .before .before .before .before .before .before .before .before .before .before .args .q)) (c .before .before .before .before .before .before .before .copy .ensures))
 

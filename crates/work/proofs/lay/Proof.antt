@@ -1,12 +1,7 @@
 use borrow.Author.Needs.{needs}
 use Rattle.work.proofs.lay.Statement.{statement}
 use Rattle.work.proofs.lay.Tie as tie
-use Rattle.work.proofs.lay.Reads as reads
-use Rattle.work.proofs.lay.Lts as lts
-use Rattle.whole.proofs.slices.copy.Reads as copy-reads
-use Rattle.work.proofs.change.Reads as change-reads
 
--- src/lib.rt:66:5
 use native.Mathlib.Omega.{arith}
 use Rattle.work.specs.Asks.{added, addedFixed}
 use Rattle.work.proofs.Redoing.{laid-over}
@@ -14,27 +9,21 @@ use Rattle.work.proofs.Redoing.{laid-over}
 change-requires : tie.Need-change-requires
 change-requires c κs = search needs
 
--- src/lib.rt:68:32
 sub-copy : tie.Need-sub-copy
 sub-copy c = search needs
 
--- src/lib.rt:68:32
 part-copy-start : tie.Need-part-copy-start
 part-copy-start c = search needs
 
--- src/lib.rt:68:32
 part-copy-end : tie.Need-part-copy-end
 part-copy-end c = search needs
 
--- src/lib.rt:68:5
 copy-requires : tie.Need-copy-requires
 copy-requires c κs = search needs
 
--- src/lib.rt:62:1
 same-length : tie.Need-same-length
 same-length c = search needs
 
--- src/lib.rt:62:1
 returns : tie.Need-returns
 returns c = laid-over (c .before .before .before .before .before .before .before .args .above .now) (c .before .before .before .before .change .last .1 .1 .0) (addedFixed (c .before .before .before .before .before .before .before .args .table .now) (added (c .before .before .before .before .before .before .before .args .a .now) (c .before .before .before .before .before .before .before .args .c) (c .before .before .before .before .before .before .before .args .q))) (c .before .copy .last .1 .0) (c .before .before .before .before .change .ensures) (c .before .copy .ensures)
 

@@ -1,13 +1,7 @@
 use borrow.Author.Needs.{needs}
 use Rattle.work.proofs.refactored.Statement.{statement}
 use Rattle.work.proofs.refactored.Tie as tie
-use Rattle.work.proofs.refactored.Reads as reads
-use Rattle.work.proofs.refactored.Lts as lts
-use Rattle.element.proofs.nodes.Reads as nodes-reads
-use Rattle.work.proofs.factored.Reads as factored-reads
-use Rattle.work.proofs.lay.Reads as lay-reads
 
--- src/lib.rt:84:5
 use mathlib.Core.Path.{transport}
 use Prim.Native.Nat.{ℕ, _-_}
 use native.Mathlib.Omega.{arith}
@@ -22,19 +16,15 @@ use Rattle.work.proofs.Redoing.{added-ready}
 lay-requires : tie.Need-lay-requires
 lay-requires c κs = (c .before .before .pre .edits, omega (arith, c .before .before .pre .of-above, c .before .before .pre .edits .of-w, tri-le (c .before .before .args .m) (nodes (c .before .before .args .table .now)) (c .before .before .pre .low)))
 
--- src/lib.rt:85:32
 nodes-requires : tie.Need-nodes-requires
 nodes-requires c κs = search needs
 
--- src/lib.rt:85:5
 factored-requires : tie.Need-factored-requires
 factored-requires c κs = added-ready (c .before .before .before .before .before .before .args .table .now) (c .before .before .before .before .before .before .args .a .now) (c .before .before .before .before .before .before .args .above .now) (c .before .before .before .before .before .before .args .work .now) (c .before .before .before .before .before .before .args .c) (c .before .before .before .before .before .before .args .q) (c .before .before .before .before .before .before .args .m) (c .before .before .before .before .before .before .pre) (c .nodes .result) (c .before .before .before .lay .last .1 .1 .1 .0) (c .nodes .ensures) (c .before .before .before .lay .ensures)
 
--- src/lib.rt:72:1
 same-length : tie.Need-same-length
 same-length c = search needs
 
--- src/lib.rt:72:1
 returns : tie.Need-returns
 returns c = transport (λ d. Factored (c .before .factored .result) (rowsFrom (c .before .before .nodes .ensures d - c .before .before .before .before .before .before .before .before .args .m) (c .before .before .before .before .before .before .before .before .args .m) (c .before .before .before .before .before .lay .ensures d)) (matrix (c .before .before .nodes .ensures d)) (c .before .factored .last .0)) (c .before .factored .ensures)
 
