@@ -68,9 +68,9 @@ module _ {t : List ℕ} (d : Deck t) (row : ℕ) (l : row < rows t) where
   light-by F e = record {
     few = omega arith;
     each = λ a. film-size (faceFilm (getD (rowAt t row) 2 0) (namedShape t (rowAt t row))) (getD (rowAt t row) 3 0)
-    (face-size (getD (rowAt t row) 2 0) (namedShape t (rowAt t row)) (at 2 (omega arith) (λ v. v ≤ 100000) (film-in t d row l e .1))
-    (S-size (namedShape t (rowAt t row)) (named-on-sheet t d (getD (rowAt t row) 1 0) (at 1 (omega arith) (In 1 (elements t)) (names-F t d row l e)))))
-    (at 3 (omega arith) (λ v. v ≤ top) (ambient-in t d row l e .1));
+        (face-size (getD (rowAt t row) 2 0) (namedShape t (rowAt t row)) (at 2 (omega arith) (λ v. v ≤ 100000) (film-in t d row l e .1))
+        (S-size (namedShape t (rowAt t row)) (named-on-sheet t d (getD (rowAt t row) 1 0) (at 1 (omega arith) (In 1 (elements t)) (names-F t d row l e)))))
+        (at 3 (omega arith) (λ v. v ≤ top) (ambient-in t d row l e .1));
   }
   light-by T e = record { few = omega arith; each = λ a. omega arith }
   light-by Z e = record { few = omega arith; each = λ a. omega arith }

@@ -188,7 +188,7 @@ module _ (t : List ℕ) (p a f w : List ℤ) (card : ℕ) (new : List ℕ) where
     ends : {o : Outcome Slices} → replaced t (opened (nodes t) (slices p a f)) row new ≡ o → leaves t′ (stirs t row) z o ≡ replaceCall z card new
     ends {o} e =
         ap (leaves t′ (stirs t row) z) (sym (
-          passes (judged t) _ (h .ok) ∙ passes (newJudged t card new) _ (h .fit) ∙ passes (lentJudged (nodes t) (slices p a f) (roomy (nodes t) w)) _ (h .own) ∙ e))
+        passes (judged t) _ (h .ok) ∙ passes (newJudged t card new) _ (h .fit) ∙ passes (lentJudged (nodes t) (slices p a f) (roomy (nodes t) w)) _ (h .own) ∙ e))
         ∙ sym (replace-is z card new)
 
     -- the card alone

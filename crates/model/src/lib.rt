@@ -44,7 +44,13 @@ fn made(table: &[u32], p: &mut [i64], a: &mut [i64], factor: &mut [i64], work: &
     if let Answer::Refused(r) = work::factored(&mut work[..], 0, element::nodes(table)) {
         return Answer::Refused(r);
     }
-    written(table, &mut p[..], &mut a[..], &mut factor[..], &mut work[..]);
+    written(
+        table,
+        &mut p[..],
+        &mut a[..],
+        &mut factor[..],
+        &mut work[..],
+    );
     Answer::Done
 }
 
@@ -148,7 +154,15 @@ pub fn replace(
 ) -> Answer
     ensures { λ r. ⌜ left r (lent (now (table .exit)) (now (p .exit)) (now (a .exit)) (now (factor .exit)) (now (work .exit)) []) ≡ replaceCall (lent (now (table .entry)) (now (p .entry)) (now (a .entry)) (now (factor .entry)) (now (work .entry)) []) card new ⌝ }
 {
-    if let Answer::Refused(r) = asked(&table[..], &p[..], &a[..], &factor[..], &work[..], card, new) {
+    if let Answer::Refused(r) = asked(
+        &table[..],
+        &p[..],
+        &a[..],
+        &factor[..],
+        &work[..],
+        card,
+        new,
+    ) {
         return Answer::Refused(r);
     }
     let row = card as usize - 1;

@@ -1,6 +1,5 @@
 use Rattle.correction.proofs.forward.Statement.{statement}
 use Rattle.correction.proofs.forward.Tie as tie
-
 use Prim.Native.Nat.{_-_}
 use native.Mathlib.Omega.{arith}
 use borrow.Author.Needs.{needs, sfits-of}

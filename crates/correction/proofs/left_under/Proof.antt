@@ -1,7 +1,6 @@
 use borrow.Author.Needs.{needs}
 use Rattle.correction.proofs.left_under.Statement.{statement}
 use Rattle.correction.proofs.left_under.Tie as tie
-
 use native.Mathlib.Omega.{arith}
 
 left-low-requires : tie.Need-left-low-requires

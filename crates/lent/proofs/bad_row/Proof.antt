@@ -1,7 +1,6 @@
 use borrow.Author.Needs.{needs}
 use Rattle.lent.proofs.bad_row.Statement.{statement}
 use Rattle.lent.proofs.bad_row.Tie as tie
-
 use mathlib.Core.Path.{refl}
 use Prim.Native.Nat.{_+_, _-_}
 use native.Mathlib.Omega.{arith}

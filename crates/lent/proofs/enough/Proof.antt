@@ -1,7 +1,6 @@
 use borrow.Author.Needs.{needs}
 use Rattle.lent.proofs.enough.Statement.{statement}
 use Rattle.lent.proofs.enough.Tie as tie
-
 use Rattle.lent.proofs.Turns.{enough-p, enough-a, enough-factor, enough-rest}
 use lib.ListN.{length}
 

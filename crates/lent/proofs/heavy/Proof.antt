@@ -1,7 +1,6 @@
 use borrow.Author.Needs.{needs}
 use Rattle.lent.proofs.heavy.Statement.{statement}
 use Rattle.lent.proofs.heavy.Tie as tie
-
 use Rattle.lent.proofs.Turns.{light-all}
 
 largest-requires : tie.Need-largest-requires

@@ -1,6 +1,5 @@
 use Rattle.lent.proofs.judge.Statement.{statement}
 use Rattle.lent.proofs.judge.Tie as tie
-
 use borrow.Author.Needs.{needs}
 use native.Mathlib.Omega.{arith}
 use lib.ListN.{length}

@@ -1,6 +1,5 @@
 use Rattle.lent.proofs.largest.Statement.{statement}
 use Rattle.lent.proofs.largest.Tie as tie
-
 use mathlib.Core.Path.{_≡_, refl, ap, _∙_}
 use Prim.Native.Nat.{ℕ, _-_, _≤_}
 use native.Mathlib.Omega.{arith}

@@ -1,7 +1,6 @@
 use borrow.Author.Needs.{needs}
 use Rattle.loads.proofs.hold.Statement.{statement}
 use Rattle.loads.proofs.hold.Tie as tie
-
 use mathlib.Core.Path.{sym, _∙_}
 use native.Mathlib.Omega.{arith}
 use Rattle.paper.specs.Kinds.{about}

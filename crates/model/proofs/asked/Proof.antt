@@ -1,7 +1,6 @@
 use borrow.Author.Needs.{needs}
 use Rattle.model.proofs.asked.Statement.{statement}
 use Rattle.model.proofs.asked.Tie as tie
-
 use mathlib.Core.Path.{_≡_, sym, ap, _∙_}
 use native.Mathlib.Omega.{arith}
 use lib.Dec.{leb}

@@ -1,7 +1,6 @@
 use borrow.Author.Needs.{needs}
 use Rattle.model.proofs.build.Statement.{statement}
 use Rattle.model.proofs.build.Tie as tie
-
 use mathlib.Core.Path.{_≡_, sym, ap, _∙_}
 use native.Mathlib.Omega.{arith}
 use Rattle.whole.specs.Packed.{matrix}

@@ -1,7 +1,6 @@
 use borrow.Author.Needs.{needs}
 use Rattle.model.proofs.made.Statement.{statement}
 use Rattle.model.proofs.made.Tie as tie
-
 use mathlib.Core.Path.{_≡_, sym, ap, _∙_}
 use Rattle.paper.specs.Building.{slices}
 use Rattle.model.proofs.Built.{whole-ready, built-refused, built-done}

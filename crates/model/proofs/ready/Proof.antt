@@ -1,7 +1,6 @@
 use borrow.Author.Needs.{needs}
 use Rattle.model.proofs.ready.Statement.{statement}
 use Rattle.model.proofs.ready.Tie as tie
-
 use mathlib.Core.Path.{_≡_, sym, ap, _∙_}
 use Prim.Native.Nat.{ℕ, _≤_}
 use native.Mathlib.Omega.{arith}

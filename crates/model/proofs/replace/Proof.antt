@@ -1,7 +1,6 @@
 use borrow.Author.Needs.{needs}
 use Rattle.model.proofs.replace.Statement.{statement}
 use Rattle.model.proofs.replace.Tie as tie
-
 use mathlib.Core.Path.{_≡_, refl, sym, ap, subst, _∙_}
 use mathlib.Core.Bool.{Bool}
 use mathlib.Core.List.{List, []}

@@ -1,5 +1,6 @@
 -- The invariant: the rows of the columns so far have their terms, and row i's own sum has the same columns.
 use Rattle.residual.proofs.row.Statement.{statement}
+use Rattle.whole.specs.Sums.{sum as total}
 use Rattle.residual.proofs.row.Tie as tie
 use borrow.Author.Needs.{needs}
 use mathlib.Core.Path.{_≡_, sym, _∙_}

@@ -1,6 +1,5 @@
 use Rattle.run.proofs.steps.Statement.{statement}
 use Rattle.run.proofs.steps.Tie as tie
-
 use borrow.Author.Needs.{needs}
 use mathlib.Core.Path.{_≡_, refl, _∙_}
 use mathlib.Core.List.{[]}

@@ -1,6 +1,5 @@
 use Rattle.step.proofs.judged_step.Statement.{statement}
 use Rattle.step.proofs.judged_step.Tie as tie
-
 use borrow.Author.Needs.{needs}
 use mathlib.Core.Path.{sym, _∙_}
 use native.Mathlib.Omega.{arith}

@@ -1,6 +1,5 @@
 use Rattle.step.proofs.narrow.Statement.{statement}
 use Rattle.step.proofs.narrow.Tie as tie
-
 use borrow.Author.Needs.{needs}
 use mathlib.Core.Path.{sym}
 use Prim.Native.Nat.{_-_}

@@ -1,6 +1,5 @@
 use Rattle.step.proofs.prepared.Statement.{statement}
 use Rattle.step.proofs.prepared.Tie as tie
-
 use borrow.Author.Needs.{needs}
 
 fixed-requires : tie.Need-fixed-requires

@@ -1,6 +1,5 @@
 use Rattle.step.proofs.widen.Statement.{statement}
 use Rattle.step.proofs.widen.Tie as tie
-
 use borrow.Author.Needs.{needs}
 use Prim.Native.Nat.{_-_}
 use native.Mathlib.Omega.{arith}
