@@ -198,7 +198,7 @@ module _ (t : List ℕ) (row : ℕ) (new : List ℕ) (h : Renews t row new) wher
               ap (λ (x : Part). natAbs (addsA x i j)) (part-row t row),
               adds-size t new (h .changes .card) (solid-new t row new h) new-distinct few i j,
               adds-size t (rowAt t row) (old-card t row new (h .changes)) (solid-old t row new h) (subst (λ (x : Part). Distinct (x .corners)) (part-row t row) old-distinct)
-              (subst (λ (x : Part). length (x .corners) ≤ 3) (part-row t row) (subst (λ (ns : List ℕ). length ns ≤ 3) same-corners few)) i j,
+                  (subst (λ (x : Part). length (x .corners) ≤ 3) (part-row t row) (subst (λ (ns : List ℕ). length ns ≤ 3) same-corners few)) i j,
             )
 
       module _ (u : List (List ℤ)) (s : u ≡ squareOf (λ i j. squareP (partFor t new) i j -ℤ squareP (partFor t (rowAt t row)) i j)) where

@@ -172,7 +172,7 @@ pub card-at : (t : List ℕ) (row : ℕ) → Deck t → suc row < rows t → Car
 card-at t row d h = record {
   deck = d;
   fits = λ k l. subst (λ (v : ℕ). within (getD (columns (countsAt t) (kindOf v)) k (0 ⋯ 0)) (getD (rowAt t row) (suc k) 0) ≡ true) (sym (row-field t row 0 (omega arith)))
-  (subst (λ (v : ℕ). within (getD (columns (countsAt t) (kindIn t row)) k (0 ⋯ 0)) v ≡ true) (sym (row-field t row (suc k) (omega arith))) (d .span row k h l));
+      (subst (λ (v : ℕ). within (getD (columns (countsAt t) (kindIn t row)) k (0 ⋯ 0)) v ≡ true) (sym (row-field t row (suc k) (omega arith))) (d .span row k h l));
 }
 
 -- ---- sizes of squares

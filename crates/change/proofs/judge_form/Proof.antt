@@ -1,7 +1,6 @@
 use borrow.Author.Needs.{needs}
 use Rattle.change.proofs.judge_form.Statement.{statement}
 use Rattle.change.proofs.judge_form.Tie as tie
-
 use mathlib.Core.Path.{_≡_, sym, ap, subst, _∙_}
 use Prim.Native.Nat.{ℕ}
 use Rattle.paper.specs.Cards.{elements}

@@ -1,7 +1,6 @@
 use borrow.Author.Needs.{needs}
 use Rattle.change.proofs.put.Statement.{statement}
 use Rattle.change.proofs.put.Tie as tie
-
 use mathlib.Core.Path.{_≡_, ap, _∙_}
 use mathlib.Core.List.{List, _++_}
 use Prim.Native.Nat.{ℕ, _+_, _-_, _*_}
@@ -16,6 +15,7 @@ unfolding cards.put
 in-place t card ys row e =
     let six : row * 6 + 6 - row * 6 ≡ 6 = omega arith in
     (λ i. take (row * 6) t ++ (e i ++ drop (six i) (drop (row * 6) t))) ∙ ap (λ (z : List ℕ). take (row * 6) t ++ (card ++ z)) (drop-drop 6 (row * 6) t)
+
 mul-at : tie.Need-mul-at
 mul-at c = search needs
 

@@ -1,7 +1,6 @@
 use borrow.Author.Needs.{needs}
 use Rattle.change.proofs.square.Statement.{statement}
 use Rattle.change.proofs.square.Tie as tie
-
 use mathlib.Core.Path.{_≡_, sym, ap, subst, _∙_}
 use mathlib.Core.List.{List}
 use Prim.Native.Nat.{ℕ}

@@ -1,7 +1,6 @@
 use borrow.Author.Needs.{needs}
 use Rattle.element.proofs.element_card.Statement.{statement}
 use Rattle.element.proofs.element_card.Tie as tie
-
 use mathlib.Core.Path.{_∙_, ap}
 use Rattle.paper.specs.Cards.{rowAt}
 

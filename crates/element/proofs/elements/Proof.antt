@@ -1,7 +1,6 @@
 use borrow.Author.Needs.{needs}
 use Rattle.element.proofs.elements.Statement.{statement}
 use Rattle.element.proofs.elements.Tie as tie
-
 use mathlib.Core.Path.{ap}
 use Prim.Native.Nat.{ℕ, _-_}
 use native.Mathlib.Omega.{arith}

@@ -1,7 +1,6 @@
 use borrow.Author.Needs.{needs}
 use Rattle.element.proofs.judge_card.Statement.{statement}
 use Rattle.element.proofs.judge_card.Tie as tie
-
 use mathlib.Core.Path.{_∙_, ap, sym, subst}
 use Rattle.paper.specs.Corners.{Body}
 use Rattle.paper.specs.Elements as paper

@@ -1,7 +1,6 @@
 use borrow.Author.Needs.{needs}
 use Rattle.element.proofs.judge_element.Statement.{statement}
 use Rattle.element.proofs.judge_element.Tie as tie
-
 use mathlib.Core.Path.{_∙_, ap, sym, subst}
 use mathlib.Core.List.{List}
 use Prim.Native.Nat.{ℕ}

@@ -1,6 +1,5 @@
 use Rattle.element.proofs.judge_elements.Statement.{statement}
 use Rattle.element.proofs.judge_elements.Tie as tie
-
 use borrow.Author.Needs.{needs}
 use mathlib.Core.Path.{_≡_, sym, _∙_, ap}
 use mathlib.Core.List.{List}
@@ -34,6 +33,7 @@ refused n e t all r h j q = j ∙ sym (turn n e t h ∙ ap (λ (a : Answer). and
 none-left : (n e : ℕ) (t : List ℕ) (all : Answer) → n < e → elementsFrom (n + 1 - e) e t ≡ all → Done ≡ all
 unfolding elementsFrom
 none-left n e t all h q = let z : n + 1 - e ≡ zero = omega arith in rw z at q
+
 elements-requires : tie.Need-elements-requires Inv-loop μ-loop
 elements-requires c κs = search needs
 

@@ -1,7 +1,6 @@
 use borrow.Author.Needs.{needs}
 use Rattle.element.proofs.triangle_of.Statement.{statement}
 use Rattle.element.proofs.triangle_of.Tie as tie
-
 use mathlib.Core.Path.{_≡_, _∙_, ap}
 use mathlib.Core.List.{List}
 use Prim.Native.Nat.{ℕ, _+_}
@@ -11,6 +10,7 @@ use Rattle.paper.specs.Elements.{bodyOf, elementOf}
 
 stuff : {v r : ℕ} (t : List ℕ) (m k : ℕ) → r ≡ cards.field t v k → v ≡ cards.materialRow t m → r ≡ cards.field t (cards.materialRow t m) k
 stuff t m k p q = p ∙ ap (λ (z : ℕ). cards.field t z k) q
+
 shape-of-requires : tie.Need-shape-of-requires
 shape-of-requires c κs = search needs
 

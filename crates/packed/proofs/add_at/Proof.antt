@@ -1,7 +1,6 @@
 use borrow.Author.Needs.{needs}
 use Rattle.packed.proofs.add_at.Statement.{statement}
 use Rattle.packed.proofs.add_at.Tie as tie
-
 use mathlib.Core.Path.{ap, _∙_}
 use mathlib.Core.List.{List}
 use Prim.Native.Nat.{ℕ, _+_, _-_, _^_, _≤_}
@@ -16,6 +15,7 @@ use Rattle.packed.specs.Asks.{Bounded}
 
 sum-is : (xs : List ℤ) (k : ℕ) (v : ℤ) → Bounded (2 ^ 56) xs → natAbs v ≤ 2 ^ 52 → Is (rd (cell xs k) +ℤ rd v) (cell xs k +ℤ v) (2 ^ 56 + 2 ^ 52)
 sum-is xs k v h l = plus (num (cell xs k) (h .each k) (lit< tt)) (num v l (lit< tt))
+
 node-row-requires : tie.Need-node-row-requires
 node-row-requires c κs = search needs
 

@@ -1,7 +1,6 @@
 use borrow.Author.Needs.{needs}
 use Rattle.packed.proofs.add_card.Statement.{statement}
 use Rattle.packed.proofs.add_card.Tie as tie
-
 use Rattle.packed.proofs.Turn.{stays-A, stays-P, turn-card, turn-solid, turn-a-takes, turn-a-gives, turn-p-takes, turn-p-gives}
 
 field-requires : tie.Need-field-requires
@@ -46,7 +45,7 @@ returns-2 : tie.Need-returns-2
 returns-2 c = (
   turn-p-gives (c .before .before .before .before .before .before .before .before .before .before .before .before .before .before .before .args .table .now) (c .before .before .before .before .before .before .before .before .before .before .before .before .before .before .before .args .row) (c .before .before .before .before .before .before .before .before .before .before .before .before .before .field .ensures) (c .before .before .before .before .before .before .before .before .before .before .before .before .stirs .ensures) (c .before .before .before .before .before .before .before .before .before .before .before .if1 .left) (c .before .before .before .before .before .before .before .before .before .before .before .before .before .before .before .args .p .now) (c .before .before .before .before .before .before .before .before .before .before .before .before .before .before .before .pre .0) (c .before .before .before .before .before .before .before .before .before .before .card-at .ensures) (c .before .before .before .before .before .before .before .before .before .corners-of .result) (c .before .before .before .before .before .before .before .before .before .corners-of .ensures .0) (c .before .before .before .before .before .before .before .before .before .corners-of .ensures .1) (c .before .before .before .before .before .before .mass .result) (c .before .before .before .before .before .before .before .stored .ensures .0) (c .before .before .before .before .before .before .mass .ensures) (c .before .before .before .before .before .add-square .ensures),
   turn-a-gives (c .before .before .before .before .before .before .before .before .before .before .before .before .before .before .before .args .table .now) (c .before .before .before .before .before .before .before .before .before .before .before .before .before .before .before .args .row) (c .before .before .before .before .before .before .before .before .before .before .before .before .before .field .ensures) (c .before .before .before .before .before .before .before .before .before .before .before .before .stirs .ensures) (c .before .before .before .before .before .before .before .before .before .before .before .if1 .left) (c .before .before .before .before .before .before .before .before .before .before .before .before .before .before .before .args .a .now) (c .before .before .before .before .before .before .before .before .before .before .before .before .before .before .before .pre .1) (c .before .before .before .before .before .before .before .before .before .before .card-at .ensures) (c .before .before .before .before .before .before .before .before .before .corners-of .result) (c .before .before .before .before .before .before .before .before .before .corners-of .ensures .0) (c .before .before .before .before .before .before .before .before .before .corners-of .ensures .1) (c .before .before .square-a .result) (c .before .before .square-a .ensures) (c .before .add-square2 .ensures),
-  )
+)
 
 pub add-card-spec : {M : Type 1} → statement M
 add-card-spec =

@@ -1,6 +1,5 @@
 use Rattle.packed.proofs.add_row.Statement.{statement}
 use Rattle.packed.proofs.add_row.Tie as tie
-
 use borrow.Author.Needs.{needs}
 use Prim.Native.Nat.{suc, _-_}
 use native.Mathlib.Omega.{arith}

@@ -1,6 +1,5 @@
 use Rattle.packed.proofs.add_square.Statement.{statement}
 use Rattle.packed.proofs.add_square.Tie as tie
-
 use borrow.Author.Needs.{needs}
 use Prim.Native.Nat.{_-_}
 use native.Mathlib.Omega.{arith}

@@ -1,7 +1,6 @@
 use borrow.Author.Needs.{needs}
 use Rattle.packed.proofs.add_to_a.Statement.{statement}
 use Rattle.packed.proofs.add_to_a.Tie as tie
-
 use Rattle.packed.proofs.Turn.{stays-A, turn-card, turn-solid, turn-a-takes, turn-a-gives}
 
 field-requires : tie.Need-field-requires

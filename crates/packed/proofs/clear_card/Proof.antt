@@ -1,7 +1,6 @@
 use borrow.Author.Needs.{needs}
 use Rattle.packed.proofs.clear_card.Statement.{statement}
 use Rattle.packed.proofs.clear_card.Tie as tie
-
 use mathlib.Core.Path.{_≡_, sym, ap, _∙_}
 use mathlib.Core.Bool.{Bool, _&&_}
 use mathlib.Core.List.{List}
@@ -26,6 +25,7 @@ is-T t row e f q = sym e ∙ q ∙ ap (λ (a : About). a .letter) f
 
 node-of : (t : List ℕ) (row : ℕ) → Deck t → row < rows t → letter t row ≡ letterOf T → In 1 (nodes t) (field t row 1)
 node-of t row d h e = names-T t d row h (kind-of (letter t row) T e)
+
 field-requires : tie.Need-field-requires
 field-requires c κs = search needs
 

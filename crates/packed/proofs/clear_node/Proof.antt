@@ -1,6 +1,5 @@
 use Rattle.packed.proofs.clear_node.Statement.{statement}
 use Rattle.packed.proofs.clear_node.Tie as tie
-
 use borrow.Author.Needs.{needs}
 use mathlib.Core.Path.{_≡_, sym, ap, _∙_}
 use mathlib.Core.List.{List}
@@ -22,6 +21,7 @@ abbrev μ-loop : tie.MeasureT-loop
 
 long : (n i j : ℕ) (xs₀ xs : List ℤ) → xs ≡ swept n xs₀ i j → length xs ≡ tri n
 long n i j xs₀ xs e = ap length e ∙ length-lower n _
+
 node-row-requires : tie.Need-node-row-requires Inv-loop μ-loop
 node-row-requires c κs = search needs
 

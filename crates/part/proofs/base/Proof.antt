@@ -1,7 +1,6 @@
 use borrow.Author.Needs.{needs}
 use Rattle.part.proofs.base.Statement.{statement}
 use Rattle.part.proofs.base.Tie as tie
-
 use mathlib.Core.Path.{_≡_, sym, ap, subst, _∙_}
 use Prim.Native.Nat.{ℕ}
 use Rattle.paper.specs.Cards.{rowAt, elements, elementRow}

@@ -1,7 +1,6 @@
 use borrow.Author.Needs.{needs}
 use Rattle.part.proofs.by_kind.Statement.{statement}
 use Rattle.part.proofs.by_kind.Tie as tie
-
 use mathlib.Core.Path.{sym, ap, _∙_}
 use Rattle.part.specs.Forms.{doesBy}
 

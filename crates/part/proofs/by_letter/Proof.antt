@@ -1,7 +1,6 @@
 use borrow.Author.Needs.{needs}
 use Rattle.part.proofs.by_letter.Statement.{statement}
 use Rattle.part.proofs.by_letter.Tie as tie
-
 use mathlib.Core.Path.{ap, _∙_}
 use Rattle.part.specs.Forms.{doesBy}
 

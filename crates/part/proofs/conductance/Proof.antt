@@ -1,7 +1,6 @@
 use borrow.Author.Needs.{needs}
 use Rattle.part.proofs.conductance.Statement.{statement}
 use Rattle.part.proofs.conductance.Tie as tie
-
 use borrow.Author.Tests.{not-true, not-false}
 use Rattle.part.proofs.Ways.{is-element, placed-here, solid-here, conducts-none, conducts}
 

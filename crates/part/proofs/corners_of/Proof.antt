@@ -1,7 +1,6 @@
 use borrow.Author.Needs.{needs}
 use Rattle.part.proofs.corners_of.Statement.{statement}
 use Rattle.part.proofs.corners_of.Tie as tie
-
 use mathlib.Core.Path.{refl}
 use Rattle.part.proofs.Ways.{no-corners, some-corners, has-base}
 

@@ -1,7 +1,6 @@
 use borrow.Author.Needs.{needs}
 use Rattle.part.proofs.film.Statement.{statement}
 use Rattle.part.proofs.film.Tie as tie
-
 use borrow.Author.Tests.{not-true, not-false}
 use Rattle.part.proofs.Ways.{films-none, films-over, films-asks, films}
 

@@ -1,7 +1,6 @@
 use borrow.Author.Needs.{needs}
 use Rattle.part.proofs.film_load.Statement.{statement}
 use Rattle.part.proofs.film_load.Tie as tie
-
 use native.Mathlib.Omega.{arith}
 use native.Mathlib.Nat.{mul-le-mul}
 use Prim.Native.Nat.{ℕ, _*_, _^_, _≤_, _<_}
@@ -9,6 +8,7 @@ use Prim.Native.Nat.{ℕ, _*_, _^_, _≤_, _<_}
 -- at most 4 films of 349,500, times a u32
 product : (f a : ℕ) → f ≤ 349500 → a < 2 ^ 32 → 4 * f * a < 2 ^ 64
 product f a h k = let m : 4 * f * a ≤ 1398000 * 2 ^ 32 = mul-le-mul {n₂ = 1398000} {m₂ = 2 ^ 32} (omega arith) (omega arith) in omega arith
+
 mul-result : tie.Need-mul-result
 mul-result c = search needs
 

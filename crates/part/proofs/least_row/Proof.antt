@@ -1,6 +1,5 @@
 use Rattle.part.proofs.least_row.Statement.{statement}
 use Rattle.part.proofs.least_row.Tie as tie
-
 use borrow.Author.Needs.{needs}
 use mathlib.Core.Path.{_≡_, refl, sym, ap, _∙_}
 use mathlib.Core.List.{List}

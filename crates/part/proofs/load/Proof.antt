@@ -1,7 +1,6 @@
 use borrow.Author.Needs.{needs}
 use Rattle.part.proofs.load.Statement.{statement}
 use Rattle.part.proofs.load.Tie as tie
-
 use mathlib.Core.Path.{_≡_, ap, _∙_}
 use lib.IntN.{pos}
 use Rattle.part.proofs.Ways.{heats, loads}

@@ -1,7 +1,6 @@
 use borrow.Author.Needs.{needs}
 use Rattle.part.proofs.square_a.Statement.{statement}
 use Rattle.part.proofs.square_a.Tie as tie
-
 use mathlib.Core.Path.{refl}
 use Rattle.part.proofs.Ways.{asks-first, asks-second, in-A}
 

@@ -1,7 +1,6 @@
 use borrow.Author.Needs.{needs}
 use Rattle.part.proofs.stirs.Statement.{statement}
 use Rattle.part.proofs.stirs.Tie as tie
-
 use mathlib.Core.Path.{_≡_, sym, ap, _∙_}
 use mathlib.Core.Bool.{Bool, true, false, _||_}
 use Rattle.paper.specs.Kinds.{kindOf}

@@ -1,7 +1,6 @@
 use borrow.Author.Needs.{needs}
 use Rattle.part.proofs.stored.Statement.{statement}
 use Rattle.part.proofs.stored.Tie as tie
-
 use mathlib.Core.Path.{_≡_, sym, ap, _∙_}
 use borrow.Author.Tests.{not-true, not-false}
 use Rattle.part.proofs.Ways.{is-element, placed-here, sized-here, stores-none, stores}

@@ -1,7 +1,6 @@
 use borrow.Author.Needs.{needs}
 use Rattle.work.proofs.change.Statement.{statement}
 use Rattle.work.proofs.change.Tie as tie
-
 use mathlib.Core.Path.{sym, ap, subst, _∙_}
 use mathlib.Core.List.{List}
 use lib.IntN.{ℤ}

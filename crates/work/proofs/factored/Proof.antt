@@ -1,7 +1,6 @@
 use borrow.Author.Needs.{needs}
 use Rattle.work.proofs.factored.Statement.{statement}
 use Rattle.work.proofs.factored.Tie as tie
-
 use mathlib.Core.Path.{ap, _∙_}
 use Prim.Native.Nat.{ℕ}
 use lib.IntN.{pos}

@@ -1,7 +1,6 @@
 use borrow.Author.Needs.{needs}
 use Rattle.work.proofs.hand_over.Statement.{statement}
 use Rattle.work.proofs.hand_over.Tie as tie
-
 use mathlib.Core.Path.{_∙_}
 use Rattle.whole.proofs.Lists.{tail-is}
 

@@ -1,7 +1,6 @@
 use borrow.Author.Needs.{needs}
 use Rattle.work.proofs.lay.Statement.{statement}
 use Rattle.work.proofs.lay.Tie as tie
-
 use native.Mathlib.Omega.{arith}
 use Rattle.work.specs.Asks.{added, addedFixed}
 use Rattle.work.proofs.Redoing.{laid-over}

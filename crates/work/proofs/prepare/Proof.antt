@@ -1,7 +1,6 @@
 use borrow.Author.Needs.{needs}
 use Rattle.work.proofs.prepare.Statement.{statement}
 use Rattle.work.proofs.prepare.Tie as tie
-
 use mathlib.Core.Path.{_∙_}
 use Rattle.paper.specs.Cards.{nodes}
 use Rattle.paper.specs.Matrices.{A, fixed}

@@ -1,7 +1,6 @@
 use borrow.Author.Needs.{needs}
 use Rattle.work.proofs.refactored.Statement.{statement}
 use Rattle.work.proofs.refactored.Tie as tie
-
 use mathlib.Core.Path.{transport}
 use Prim.Native.Nat.{ℕ, _-_}
 use native.Mathlib.Omega.{arith}
