@@ -49,8 +49,10 @@ use Rattle.work.proofs.Redoing.{put-below, redone-length, fixed-length}
 use Rattle.change.specs.Asks.{Changes, Renews}
 use Rattle.change.proofs.Forming.{stirs-new, row-room}
 use Rattle.change.proofs.Redone.{some-corners, least-is, least-low, takes-A, takes-P, added-A-is, added-P-is, small-added, redone-is}
-use Rattle.model.specs.Asks.{askedJudged, storedSquare, Accepts}
-use Rattle.model.proofs.Leaving.{zeros-over, kept, stopped, accepted, alone, plain-and, plain-cond, refused-first, then-rest}
+use Rattle.admit.specs.Asks.{askedJudged}
+use Rattle.admit.proofs.Asking.{refuses, passes, chain, asked-plain, Allowed}
+use Rattle.model.specs.Asks.{storedSquare, Accepts}
+use Rattle.work.proofs.Leaving.{zeros-over, kept, stopped, accepted, alone, plain-and, plain-cond, refused-first, then-rest}
 
 -- ---- lists
 
@@ -74,87 +76,6 @@ twice-lent k w x y h ex ey =
     let long-once : length once ≡ length w = omega (arith, length-append x (drop (k - 0) w), length-drop (k - 0) w) in
     let long-y : length y ≡ k - 0 = ey ∙ length-take-le (k - 0) once (omega arith) in
     omega (arith, length-append y (drop (k - 0) once), length-drop (k - 0) once)
-
--- ---- refusals but the factor's
-
-refusal-same : {X : Type 0} (q r : Refusal) → Refused q ≡ Refused r → _≡_ {A = Outcome X} (refused q) (refused r)
-refusal-same q r e = ap (λ (a : Answer). after a (refused r)) e
-
-refuses : {X : Type 0} (a : Answer) (o : Outcome X) (r : Refusal) → a ≡ Refused r → after a o ≡ refused r
-refuses a o r e = ap (λ (x : Answer). after x o) e
-
-passes : {X : Type 0} (a : Answer) (o : Outcome X) → a ≡ Done → after a o ≡ o
-passes a o e = ap (λ (x : Answer). after x o) e
-
-chain : {X : Type 0} (a b c d : Answer) (o : Outcome X) (r : Refusal) → (d ≡ Refused r → o ≡ refused r) → andThen a (andThen b (andThen c d)) ≡ Refused r → after a (after b (after c o)) ≡ refused r
-chain Done Done Done d o r f e = f e
-chain Done Done (Refused q) d o r f e = refusal-same q r e
-chain Done (Refused q) c d o r f e = refusal-same q r e
-chain (Refused q) b c d o r f e = refusal-same q r e
-
-lent-plain : (n : ℕ) (s : Slices) (b : Bool) → Plain (lentJudged n s b)
-unfolding lentJudged
-lent-plain n s b = plain-cond (enough n s && b) _ _ (plain-cond (foreign n (opened n s)) _ _ refl tt) refl
-
--- in turn, as code tells them
-module _ (t : List ℕ) (s : Slices) (w : List ℤ) (card : ℕ) (new : List ℕ) where
-  form : Answer
-  form = cond (stirs t (card - 1)) (formOf (put t (card - 1) new) (card - 1)) Done
-
-  pub no-card : {q : Answer} (r : Refusal) → judged t ≡ Done → q ≡ newJudged t card new → q ≡ Refused r → Refused r ≡ askedJudged t s w card new
-  no-card r ok e g = refused-first (newJudged t card new) _ r (sym e ∙ g) ∙ then-rest (judged t) _ ok
-
-  pub no-slices : {q : Answer} (r : Refusal) → judged t ≡ Done → newJudged t card new ≡ Done → q ≡ lentJudged (nodes t) s (roomy (nodes t) w) → q ≡ Refused r → Refused r ≡ askedJudged t s w card new
-  no-slices r ok fit e g = refused-first (lentJudged (nodes t) s (roomy (nodes t) w)) _ r (sym e ∙ g) ∙ then-rest (newJudged t card new) _ fit ∙ then-rest (judged t) _ ok
-
-  pub form-left : {q : Answer} → judged t ≡ Done → newJudged t card new ≡ Done → lentJudged (nodes t) s (roomy (nodes t) w) ≡ Done
-      → q ≡ cond (stirs t (card - 1)) (formOf (put t (card - 1) new) (card - 1)) Done → q ≡ askedJudged t s w card new
-  form-left ok fit own e = e ∙ then-rest (lentJudged (nodes t) s (roomy (nodes t) w)) _ own ∙ then-rest (newJudged t card new) _ fit ∙ then-rest (judged t) _ ok
-
-  asked-plain : Plain (askedJudged t s w card new)
-  asked-plain =
-      plain-and (judged t) _ (judged-plain t)
-      (plain-and (newJudged t card new) _ (new-plain t card new)
-      (plain-and (lentJudged (nodes t) s (roomy (nodes t) w)) _ (lent-plain (nodes t) s (roomy (nodes t) w))
-      (plain-cond (stirs t (card - 1)) _ Done (element-plain (put t (card - 1) new) _) tt)))
-
--- ---- what they let pass
-
-new-range : (t : List ℕ) (card : ℕ) (new : List ℕ) → newJudged t card new ≡ Done → inRange (columnsOf (countsAt t) new) new 5 0 ≡ true
-unfolding newJudged
-new-range t card new e =
-    let (_, e₁) = cond-done (ltb (orderOf new) (about Other .order) && clean new) _ (Form card) e in
-    let (_, e₂) = cond-done (answers t card new) _ (Replacement card) e₁ in
-    cond-done (inRange (columnsOf (countsAt t) new) new 5 0) Done (Range card) e₂ .0
-
-pub changes-of : (t : List ℕ) (card : ℕ) (new : List ℕ) → length new ≡ 6 → judged t ≡ Done → newJudged t card new ≡ Done → Changes t (card - 1) new
-changes-of t card new six ok fit = record {
-  deck = deck t ok;
-  change = change t card new six ok fit;
-  deck′ = deck (put t (card - 1) new) (stays t card new six ok fit);
-  card = record { deck = deck t ok; fits = λ k l. range-each (columnsOf (countsAt t) new) new 5 0 k (new-range t card new fit) (omega arith) (omega arith) };
-}
-
-pub record Allowed (t : List ℕ) (p a f w : List ℤ) (card : ℕ) (new : List ℕ) : Type 0 where
-  pub ok : judged t ≡ Done
-  pub fit : newJudged t card new ≡ Done
-  pub own : lentJudged (nodes t) (slices p a f) (roomy (nodes t) w) ≡ Done
-  pub form : cond (stirs t (card - 1)) (formOf (put t (card - 1) new) (card - 1)) Done ≡ Done
-  pub changes : Changes t (card - 1) new
-  pub place : (1 ≤ card) × (card ≤ rows t)
-  pub for-p : matrix (nodes t) ≤ length p
-  pub for-a : matrix (nodes t) ≤ length a
-  pub for-f : matrix (nodes t) ≤ length f
-  pub for-w : matrix (nodes t) ≤ length w
-
-pub allowed : {q : Answer} (t : List ℕ) (p a f w : List ℤ) (card : ℕ) (new : List ℕ) → length new ≡ 6 → q ≡ askedJudged t (slices p a f) w card new → q ≡ Done → Allowed t p a f w card new
-allowed t p a f w card new six e g =
-    let (ok, e₁) = both-done (judged t) _ (sym e ∙ g) in
-    let (fit, e₂) = both-done (newJudged t card new) _ e₁ in
-    let (own, form) = both-done (lentJudged (nodes t) (slices p a f) (roomy (nodes t) w)) _ e₂ in
-    let told = lent-told (nodes t) (slices p a f) (roomy (nodes t) w) own in
-    let (lp, la, lf) = enough-told (nodes t) (slices p a f) (told .room) in
-    record { ok = ok; fit = fit; own = own; form = form; changes = changes-of t card new six ok fit; place = new-place t card new fit; for-p = lp; for-a = la; for-f = lf; for-w = leb-true (matrix (nodes t)) (length w) (told .other) }
 
 -- as code tells it
 pub stirring : {b c : Bool} (t : List ℕ) (row : ℕ) (new : List ℕ) → Changes t row new → ((s x : List ℕ) → b ≡ partOf s x (kindOf (getD new 0 0)) .stirs) → b ≡ c → stirs t row ≡ c

@@ -1,10 +1,10 @@
 use borrow.Author.Needs.{needs}
-use Rattle.model.proofs.build.Statement.{statement}
-use Rattle.model.proofs.build.Tie as tie
+use Rattle.fresh.proofs.build.Statement.{statement}
+use Rattle.fresh.proofs.build.Tie as tie
 use mathlib.Core.Path.{_≡_, sym, ap, _∙_}
 use native.Mathlib.Omega.{arith}
 use Rattle.whole.specs.Packed.{matrix}
-use Rattle.model.proofs.Built.{fit, lengths, build-refused, build-ended}
+use Rattle.fresh.proofs.Built.{fit, lengths, build-refused, build-ended}
 
 ready-requires : tie.Need-ready-requires
 ready-requires c κs = search needs

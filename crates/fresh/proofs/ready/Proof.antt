@@ -1,6 +1,6 @@
 use borrow.Author.Needs.{needs}
-use Rattle.model.proofs.ready.Statement.{statement}
-use Rattle.model.proofs.ready.Tie as tie
+use Rattle.fresh.proofs.ready.Statement.{statement}
+use Rattle.fresh.proofs.ready.Tie as tie
 use mathlib.Core.Path.{_≡_, sym, ap, _∙_}
 use Prim.Native.Nat.{ℕ, _≤_}
 use native.Mathlib.Omega.{arith}
@@ -12,8 +12,8 @@ use Rattle.paper.specs.Building.{slices}
 use Rattle.paper.specs.Cards.{nodes}
 use Rattle.paper.specs.Lent.{enough}
 use Rattle.paper.proofs.Judged.{deck}
-use Rattle.model.proofs.Leaving.{refused-first}
-use Rattle.model.proofs.Built.{no-room, all-elements}
+use Rattle.work.proofs.Leaving.{refused-first}
+use Rattle.fresh.proofs.Built.{no-room, all-elements}
 
 judge-requires : tie.Need-judge-requires
 judge-requires c κs = search needs

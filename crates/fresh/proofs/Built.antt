@@ -37,8 +37,8 @@ use Rattle.packed.specs.Asks.{Sound}
 use Rattle.factor.specs.Asks.{Ready}
 use Rattle.work.specs.Asks.{made, Factored}
 use Rattle.work.proofs.Stages.{cleared-size}
-use Rattle.model.specs.Asks.{readyJudged, factorOf, builtOf, Lengths, Built}
-use Rattle.model.proofs.Leaving.{over-cut, whole-again, zeros-over, kept, stopped, accepted, plain-and, plain-cond, after-and}
+use Rattle.fresh.specs.Asks.{readyJudged, factorOf, builtOf, Lengths, Built}
+use Rattle.work.proofs.Leaving.{over-cut, whole-again, zeros-over, kept, stopped, accepted, plain-and, plain-cond, after-and}
 
 -- ---- refusals but the factor's
 

@@ -1,6 +1,6 @@
 use borrow.Author.Needs.{needs}
-use Rattle.model.proofs.asked.Statement.{statement}
-use Rattle.model.proofs.asked.Tie as tie
+use Rattle.admit.proofs.judge.Statement.{statement}
+use Rattle.admit.proofs.judge.Tie as tie
 use mathlib.Core.Path.{_≡_, sym, ap, _∙_}
 use native.Mathlib.Omega.{arith}
 use lib.Dec.{leb}
@@ -10,8 +10,8 @@ use Rattle.paper.specs.Building.{slices}
 use Rattle.paper.specs.Lent.{lentJudged}
 use Rattle.paper.proofs.Judged.{deck}
 use Rattle.paper.proofs.NewCard.{new-place}
-use Rattle.model.proofs.Leaving.{refused-first}
-use Rattle.model.proofs.Replacing.{no-card, no-slices, form-left, changes-of}
+use Rattle.work.proofs.Leaving.{refused-first}
+use Rattle.admit.proofs.Asking.{no-card, no-slices, form-left, changes-of}
 
 judge-requires : tie.Need-judge-requires
 judge-requires c κs = search needs
@@ -64,8 +64,8 @@ judge-form-requires c κs = changes-of (c .before .before .before .before .befor
 returns-4 : tie.Need-returns-4
 returns-4 c = form-left (c .before .before .before .before .before .before .before .before .before .before .before .before .before .args .table .now) (slices (c .before .before .before .before .before .before .before .before .before .before .before .before .before .args .p .now) (c .before .before .before .before .before .before .before .before .before .before .before .before .before .args .a .now) (c .before .before .before .before .before .before .before .before .before .before .before .before .before .args .factor .now)) (c .before .before .before .before .before .before .before .before .before .before .before .before .before .args .work .now) (c .before .before .before .before .before .before .before .before .before .before .before .before .before .args .card) (c .before .before .before .before .before .before .before .before .before .before .before .before .before .args .new) (sym (c .before .before .before .before .before .before .before .before .before .before .before .judge .ensures) ∙ c .before .before .before .before .before .before .before .before .before .enum-told .given .1) (sym (c .before .before .before .before .before .before .before .before .judge-new .ensures) ∙ c .before .before .before .before .before .before .enum-told2 .given .1) (sym (c .before .before .before .judge2 .ensures ∙ (λ i. lentJudged (c .before .before .before .before .before .nodes .ensures i) (slices (c .before .before .before .before .before .before .before .before .before .before .before .before .before .args .p .now) (c .before .before .before .before .before .before .before .before .before .before .before .before .before .args .a .now) (c .before .before .before .before .before .before .before .before .before .before .before .before .before .args .factor .now)) (leb ((c .before .before .before .before .matrix .ensures ∙ ap matrix (c .before .before .before .before .before .nodes .ensures)) i) (length (c .before .before .before .before .before .before .before .before .before .before .before .before .before .args .work .now))))) ∙ c .before .enum-told3 .given .1) (c .judge-form .ensures)
 
-pub asked-spec : {M : Type 1} → statement M
-asked-spec =
+pub judge-spec : {M : Type 1} → statement M
+judge-spec =
     tie.close
     (tie.spec
     judge-requires

@@ -1,9 +1,9 @@
 use borrow.Author.Needs.{needs}
-use Rattle.model.proofs.made.Statement.{statement}
-use Rattle.model.proofs.made.Tie as tie
+use Rattle.fresh.proofs.made.Statement.{statement}
+use Rattle.fresh.proofs.made.Tie as tie
 use mathlib.Core.Path.{_≡_, sym, ap, _∙_}
 use Rattle.paper.specs.Building.{slices}
-use Rattle.model.proofs.Built.{whole-ready, built-refused, built-done}
+use Rattle.fresh.proofs.Built.{whole-ready, built-refused, built-done}
 
 prepare-requires : tie.Need-prepare-requires
 prepare-requires c κs = search needs
