@@ -4,6 +4,12 @@ use libc::STDIN_FILENO;
 use libc::STDOUT_FILENO;
 use paper::Answer;
 use paper::Ran;
+use paper::Refusal;
+
+// The matrix length of 96 nodes, the most that a deck has.
+const LONGEST: usize = 4_656;
+
+const NODES: usize = 96;
 
 fn number(n: u64) {
     io::write_all(STDOUT_FILENO, b" ");
@@ -17,9 +23,9 @@ fn line(letter: &[u8], a: u64, b: u64) {
     io::write_all(STDOUT_FILENO, b"\n");
 }
 
-// A refusal out of a packed answer.
-fn refused(answer: u64) {
-    line(b"R", answer % 256, answer / 65_536);
+fn refused(why: Refusal) {
+    let g = paper::given_by(why);
+    line(b"R", g.number as u64, g.place as u64);
 }
 
 // Each node's temperature, then Z with the steps done and the lines to go back.
@@ -53,24 +59,24 @@ fn size(x: u32) -> usize {
 fn stepped(table: &[u32], p: &[i64], a: &[i64], factor: &[i64], temperatures: &mut [i64]) {
     match run::run(table, p, a, factor, &mut temperatures[..]) {
         Ran::Finished(steps) => printed(&temperatures[..], steps),
-        Ran::Refused(why) => refused(paper::packed_answer(Answer::Refused(why))),
+        Ran::Refused(why) => refused(why),
     }
 }
 
 fn ran(table: &[u32]) {
-    let mut p = [0i64; 4_656];
-    let mut a = [0i64; 4_656];
-    let mut factor = [0i64; 4_656];
-    let mut work = [0i64; 4_656];
-    let mut temperatures = [0i64; 96];
+    let mut p = [0i64; LONGEST];
+    let mut a = [0i64; LONGEST];
+    let mut factor = [0i64; LONGEST];
+    let mut work = [0i64; LONGEST];
+    let mut temperatures = [0i64; NODES];
     let answer = model::build(table, &mut p, &mut a, &mut factor, &mut work);
     if let Answer::Refused(why) = answer {
-        refused(paper::packed_answer(Answer::Refused(why)));
+        refused(why);
         return;
     }
     let n = nodes(table);
     whole::slices::fill(&mut temperatures, start(table) as i64);
-    if n <= 96 {
+    if n <= NODES {
         stepped(table, &p, &a, &factor, &mut temperatures[0..n]);
     }
 }
@@ -82,7 +88,7 @@ fn main() {
     let n = io::read_full(STDIN_FILENO, &mut bytes);
     let part = deck::read(&bytes[..n], &mut table, &mut answer);
     if answer != 0 {
-        refused(answer);
+        line(b"R", answer % 256, answer / 65_536);
         return;
     }
     let k = part.len() / 42 * 6;
