@@ -28,7 +28,8 @@ use Rattle.paper.specs.declared.Stepped.the-variants.{Refused}
 use Rattle.paper.proofs.Judged.{deck}
 use Rattle.lent.specs.Rows.{Light, Factored, Mild, Passed}
 use Rattle.lent.proofs.Told.{mild, passed}
-use Rattle.step.specs.Asks.{Own, Ready, answerOf, leftOf, Exits}
+use Rattle.settle.specs.Asks.{Ready, answerOf, leftOf, Exits}
+use Rattle.step.specs.Asks.{Own}
 
 refusing : (why : Refusal) {old : List ℤ} {o : Outcome Settling} → refused why ≡ o → Exits (Refused why) old old o
 refusing why {old} e = record { answer-is = ap answerOf e; left-is = ap (leftOf old) e }

@@ -1,12 +1,12 @@
-use Rattle.step.proofs.narrow.Statement.{statement}
-use Rattle.step.proofs.narrow.Tie as tie
+use Rattle.settle.proofs.narrow.Statement.{statement}
+use Rattle.settle.proofs.narrow.Tie as tie
 use borrow.Author.Needs.{needs}
 use mathlib.Core.Path.{sym}
 use Prim.Native.Nat.{_-_}
 use native.Mathlib.Omega.{arith}
 use lib.ListN.{length}
 use Rattle.whole.specs.Packed.{cell}
-use Rattle.step.proofs.Copying.{CopyInv, copy-start, copy-long, copy-next, copy-end, narrow-fits, narrow-is}
+use Rattle.settle.proofs.Copying.{CopyInv, copy-start, copy-long, copy-next, copy-end, narrow-fits, narrow-is}
 
 abbrev Inv-loop : tie.InvT-loop
 Inv-loop from to₀ k₀ to k = CopyInv from to₀ to k

@@ -18,7 +18,7 @@ use Rattle.residual.proofs.Paper.{residual-size}
 use Rattle.loads.specs.Asks.{Each}
 use Rattle.loads.proofs.Walk.{load-size}
 use Rattle.loads.proofs.Held.{held-size}
-use Rattle.step.specs.Asks.{Ready, Trying}
+use Rattle.settle.specs.Asks.{Ready, Trying}
 
 load-small : {t : List ℕ} → Deck t → (i : ℕ) → natAbs (loadOf t i) ≤ 2 ^ 57
 unfolding loadOf

@@ -1,6 +1,6 @@
 -- The invariant: r holds the residuals of t, and what is left of the corrections from here is the whole.
-use Rattle.step.proofs.attempts.Statement.{statement}
-use Rattle.step.proofs.attempts.Tie as tie
+use Rattle.settle.proofs.attempts.Statement.{statement}
+use Rattle.settle.proofs.attempts.Tie as tie
 use borrow.Author.Needs.{needs}
 use mathlib.Core.Path.{_≡_, refl, sym, subst, _∙_}
 use Prim.Native.Nat.{ℕ, _-_}
@@ -9,8 +9,8 @@ use lib.ListN.{length}
 use Rattle.paper.specs.Step.{boardOf}
 use Rattle.lent.specs.Rows.{Mild}
 use Rattle.correction.specs.Asks.{Forth}
-use Rattle.step.proofs.Boards.{fair, count-is, again}
-use Rattle.step.proofs.Corrections.{LoopInv, loop-start, loop-forth, loop-refused, loop-mild, loop-settled, loop-last, loop-on}
+use Rattle.settle.proofs.Boards.{fair, count-is, again}
+use Rattle.settle.proofs.Corrections.{LoopInv, loop-start, loop-forth, loop-refused, loop-mild, loop-settled, loop-last, loop-on}
 
 abbrev Inv-loop : tie.InvT-loop
 Inv-loop table p a l fixed old t₀ r₀ n c₀ t r c = (length t ≡ length t₀) × (length r ≡ length r₀) × LoopInv (boardOf table p a old) l t₀ t r c

@@ -1,17 +1,14 @@
 -- How the corrections end, and what that leaves in place of the old temperatures.
 use mathlib.Core.Path.{_≡_, sym, ap, _∙_}
 use mathlib.Core.List.{List}
-use Prim.Native.Nat.{ℕ, _-_, _≤_}
-use native.Mathlib.Omega.{arith}
+use Prim.Native.Nat.{ℕ}
 use lib.IntN.{ℤ}
-use lib.ListN.{length, take}
-use lib.Seq.{length-take-le}
 use Rattle.paper.specs.Refusals.{Outcome}
 use Rattle.paper.specs.Step.{boardOf, residuals, Settling, attempts, stepped}
 use Rattle.paper.specs.declared.Refusal.{Refusal}
 use Rattle.paper.specs.declared.Stepped.{Stepped}
 use Rattle.paper.specs.declared.Stepped.the-variants.{Settled, Refused}
-use Rattle.step.specs.Asks.{ended, answerOf, leftOf, Exits}
+use Rattle.settle.specs.Asks.{ended, answerOf, leftOf, Exits}
 
 module _ (e : Stepped) (u : List ℤ) {old : List ℤ} {o : Outcome Settling} (q : ended e u ≡ o) where
   pub exits-refused : (why : Refusal) → e ≡ Refused why → Exits e old old o
@@ -28,7 +25,3 @@ module _ (e : Stepped) (u : List ℤ) {old : List ℤ} {o : Outcome Settling} (q
 pub from-old : (t : List ℕ) (p a l old u : List ℤ) → u ≡ old → attempts (boardOf t p a old) l 3 1 u (residuals (boardOf t p a old) u) ≡ stepped (boardOf t p a old) l
 unfolding stepped boardOf
 from-old t p a l old u e = ap (λ (x : List ℤ). attempts (boardOf t p a old) l 3 1 x (residuals (boardOf t p a old) x)) e
-
--- `&mut t[0..n]` of an array of 96
-pub part-long : (s : List ℤ) (n : ℕ) → length s ≡ 96 → n ≤ 96 → length (take (n - 0) s) ≡ n
-part-long s n e h = length-take-le (n - 0) s (omega arith) ∙ omega arith

@@ -15,8 +15,8 @@ use Rattle.paper.specs.declared.Stepped.the-variants.{Settled, Refused}
 use Rattle.lent.specs.Rows.{Mild}
 use Rattle.correction.specs.Asks.{Forth, outOf, Corrected}
 use Rattle.residual.specs.Asks.{Fair, Weighed}
-use Rattle.step.specs.Asks.{ended}
-use Rattle.step.proofs.Boards.{forth}
+use Rattle.settle.specs.Asks.{ended}
+use Rattle.settle.proofs.Boards.{forth}
 
 -- ---- one correction of k + 1
 

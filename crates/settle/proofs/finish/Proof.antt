@@ -1,14 +1,14 @@
 -- A refusal leaves the old temperatures as they were.
 use borrow.Author.Needs.{needs}
-use Rattle.step.proofs.finish.Statement.{statement}
-use Rattle.step.proofs.finish.Tie as tie
+use Rattle.settle.proofs.finish.Statement.{statement}
+use Rattle.settle.proofs.finish.Tie as tie
 use mathlib.Core.Path.{sym, subst, _∙_}
 use mathlib.Core.List.{List}
 use Prim.Native.Nat.{ℕ}
 use lib.IntN.{ℤ}
 use Rattle.lent.specs.Rows.{Mild}
-use Rattle.step.proofs.Boards.{again}
-use Rattle.step.proofs.Ends.{exits-refused, exits-settled, from-old}
+use Rattle.settle.proofs.Boards.{again}
+use Rattle.settle.proofs.Ends.{exits-refused, exits-settled, from-old}
 
 narrow-requires : tie.Need-narrow-requires
 narrow-requires c κs = subst (λ (m : ℕ). Mild (c .before .before .before .args .old .now) m) (sym (c .before .before .before .pre .2)) (c .before .before .before .pre .0 .u-mild)

@@ -1,12 +1,12 @@
-use Rattle.step.proofs.widen.Statement.{statement}
-use Rattle.step.proofs.widen.Tie as tie
+use Rattle.settle.proofs.widen.Statement.{statement}
+use Rattle.settle.proofs.widen.Tie as tie
 use borrow.Author.Needs.{needs}
 use Prim.Native.Nat.{_-_}
 use native.Mathlib.Omega.{arith}
 use lib.ListN.{length}
 use Rattle.whole.specs.Packed.{cell}
 use Rattle.lent.proofs.Narrow.{wide-fits, wide-is}
-use Rattle.step.proofs.Copying.{CopyInv, copy-start, copy-long, copy-next, copy-end}
+use Rattle.settle.proofs.Copying.{CopyInv, copy-start, copy-long, copy-next, copy-end}
 
 abbrev Inv-loop : tie.InvT-loop
 Inv-loop from to₀ k₀ to k = CopyInv from to₀ to k

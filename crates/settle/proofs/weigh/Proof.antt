@@ -1,8 +1,8 @@
 -- The loads, then the pass over the rows: the board is the deck's.
 use borrow.Author.Needs.{needs}
-use Rattle.step.proofs.weigh.Statement.{statement}
-use Rattle.step.proofs.weigh.Tie as tie
-use Rattle.step.proofs.Boards.{loads-asks, pass-asks, pass-is}
+use Rattle.settle.proofs.weigh.Statement.{statement}
+use Rattle.settle.proofs.weigh.Tie as tie
+use Rattle.settle.proofs.Boards.{loads-asks, pass-asks, pass-is}
 
 loads-requires : tie.Need-loads-requires
 loads-requires c κs = loads-asks (c .before .before .pre)
