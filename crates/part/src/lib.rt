@@ -201,11 +201,11 @@ fn heat_load(heat: u32) -> u64
 }
 
 // A corner's row of the film, which sums to 4 of it, times the ambient.
-fn film_load(film: u64, ambient: u32) -> u64
+fn film_load(film: u64, ambient: Ticks) -> u64
     requires { ⌜ film ≤ 349500 ⌝ }
-    ensures { λ r. ⌜ r ≡ 4 * film * ambient ⌝ }
+    ensures { λ r. ⌜ r ≡ 4 * film * ambient .0 ⌝ }
 {
-    4 * film * ambient as u64
+    4 * film * ambient.0 as u64
 }
 
 // What one corner gets.
@@ -217,7 +217,7 @@ fn load(table: &[u32], card: [u32; 6]) -> u64
     if it.heats {
         return heat_load(card[2]);
     }
-    film_load(film(table, card), card[3])
+    film_load(film(table, card), Ticks(card[3]))
 }
 
 // The share of each corner.

@@ -23,8 +23,8 @@ returns c = λ a. ap pos (c .heat-load .ensures) ∙ heats (c .before .before .b
 film-requires : tie.Need-film-requires
 film-requires c κs = search needs
 
-array-read-film-load : tie.Need-array-read-film-load
-array-read-film-load c = search needs
+array-read-t7 : tie.Need-array-read-t7
+array-read-t7 c = search needs
 
 film-load-requires : tie.Need-film-load-requires
 film-load-requires c κs = search needs
@@ -42,6 +42,6 @@ load-spec =
     heat-load-requires
     returns
     film-requires
-    array-read-film-load
+    array-read-t7
     film-load-requires
     returns-2)
