@@ -5,6 +5,7 @@ use libc::STDOUT_FILENO;
 use paper::Answer;
 use paper::Ran;
 use paper::Refusal;
+use paper::Ticks;
 
 // The matrix length of 96 nodes, the most that a deck has.
 const LONGEST: usize = 4_656;
@@ -39,8 +40,11 @@ fn printed(temperatures: &[i64], steps: u32) {
 }
 
 // D's start temperature.
-fn start(table: &[u32]) -> u32 {
-    if table.len() < 3 { 0 } else { table[2] }
+fn start(table: &[u32]) -> Ticks {
+    if table.len() < 3 {
+        return Ticks(0);
+    }
+    Ticks(table[2])
 }
 
 // Z's count of nodes.
@@ -75,7 +79,8 @@ fn ran(table: &[u32]) {
         return;
     }
     let n = nodes(table);
-    whole::slices::fill(&mut temperatures, start(table) as i64);
+    let first = start(table);
+    whole::slices::fill(&mut temperatures, first.0 as i64);
     if n <= NODES {
         stepped(table, &p, &a, &factor, &mut temperatures[0..n]);
     }

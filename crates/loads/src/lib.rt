@@ -1,6 +1,7 @@
 // What the cards of a judged deck say of each node: its loads, and the temperature that it is held at.
 use paper::Kind;
 use paper::Node;
+use paper::Ticks;
 use part::Corners;
 ghost use mathlib.Core.Path.{_≡_};
 ghost use mathlib.Core.Bool.{cond};
@@ -90,7 +91,8 @@ fn hold(table: &[u32], f: &mut [i32], row: usize)
     }
     let node = element::node(element::field(table, row, 1));
     let k = element::node_row(node) - 1;
-    let v = element::field(table, row, 2) as i32;
+    let held = Ticks(element::field(table, row, 2));
+    let v = held.0 as i32;
     f[k] = v;
 }
 

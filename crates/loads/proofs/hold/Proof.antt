@@ -32,19 +32,19 @@ field-requires-3 : tie.Need-field-requires-3
 field-requires-3 c κs = search needs
 
 cast-v : tie.Need-cast-v
-cast-v c = value-small (c .before .before .before .before .before .before .before .before .before .pre) (sym (c .before .before .before .before .before .before .field .ensures) ∙ c .before .before .before .before .if1 .left ∙ letter-T (c .before .before .before .before .before .before .before .about .ensures)) (c .field3 .ensures)
+cast-v c = value-small (c .before .before .before .before .before .before .before .before .before .before .pre) (sym (c .before .before .before .before .before .before .before .field .ensures) ∙ c .before .before .before .before .before .if1 .left ∙ letter-T (c .before .before .before .before .before .before .before .before .about .ensures)) (c .before .field3 .ensures)
 
 mul-v : tie.Need-mul-v
 mul-v c = search needs
 
 slice-set-from-v : tie.Need-slice-set-from-v
-slice-set-from-v c = omega (arith, c .before .node-row .ensures, c .before .before .node .ensures, c .before .before .before .field2 .ensures, node-some (c .before .before .before .before .before .before .before .before .before .pre) (sym (c .before .before .before .before .before .before .field .ensures) ∙ c .before .before .before .before .if1 .left ∙ letter-T (c .before .before .before .before .before .before .before .about .ensures)), node-in (c .before .before .before .before .before .before .before .before .before .pre) (sym (c .before .before .before .before .before .before .field .ensures) ∙ c .before .before .before .before .if1 .left ∙ letter-T (c .before .before .before .before .before .before .before .about .ensures)))
+slice-set-from-v c = omega (arith, c .before .before .node-row .ensures, c .before .before .before .node .ensures, c .before .before .before .before .field2 .ensures, node-some (c .before .before .before .before .before .before .before .before .before .before .pre) (sym (c .before .before .before .before .before .before .before .field .ensures) ∙ c .before .before .before .before .before .if1 .left ∙ letter-T (c .before .before .before .before .before .before .before .before .about .ensures)), node-in (c .before .before .before .before .before .before .before .before .before .before .pre) (sym (c .before .before .before .before .before .before .before .field .ensures) ∙ c .before .before .before .before .before .if1 .left ∙ letter-T (c .before .before .before .before .before .before .before .before .about .ensures)))
 
 same-length : tie.Need-same-length
 same-length c = search needs
 
 returns-2 : tie.Need-returns-2
-returns-2 c = hold-is (c .before .before .before .before .before .before .before .before .before .pre) (sym (c .before .before .before .before .before .before .field .ensures) ∙ c .before .before .before .before .if1 .left ∙ letter-T (c .before .before .before .before .before .before .before .about .ensures)) (c .before .node-row .result) (c .field3 .result) (c .before .node-row .ensures ∙ c .before .before .node .ensures ∙ c .before .before .before .field2 .ensures) (c .field3 .ensures)
+returns-2 c = hold-is (c .before .before .before .before .before .before .before .before .before .before .pre) (sym (c .before .before .before .before .before .before .before .field .ensures) ∙ c .before .before .before .before .before .if1 .left ∙ letter-T (c .before .before .before .before .before .before .before .before .about .ensures)) (c .before .before .node-row .result) (c .before .field3 .result) (c .before .before .node-row .ensures ∙ c .before .before .before .node .ensures ∙ c .before .before .before .before .field2 .ensures) (c .before .field3 .ensures)
 
 pub hold-spec : {M : Type 1} → statement M
 hold-spec =
