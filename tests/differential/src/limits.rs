@@ -8,15 +8,6 @@ const P: usize = 0;
 const A: usize = 1;
 const FACTOR: usize = 2;
 
-/// A triangle with one card of each kind: D, three N, M, E, H, F, T, Z.
-fn one_of_each() -> Vec<u32> {
-    let mut groups = Groups::base();
-    groups.heats.push([1, 3]);
-    groups.films.push([1, 480, 19_660_800]);
-    groups.fixed.push([3, 19_000_000]);
-    groups.table()
-}
-
 /// A deck built, with all that the calls take exactly as long as they ask.
 fn built(trial: &mut Trial, table: Vec<u32>) -> Lent {
     let (bytes, nodes) = (7 * table.len(), nodes_of(&table));
@@ -40,7 +31,7 @@ fn same(table: &[u32], row: usize) -> Call {
 }
 
 pub fn short_buffers(trial: &mut Trial) {
-    let whole = built(trial, one_of_each());
+    let whole = built(trial, Groups::one_of_each().table());
     let [element, heat] = [5, 6].map(|row| same(&whole.table, row));
     for which in 0..4 {
         for call in [Call::Build, element, heat, Call::Step] {
@@ -88,7 +79,7 @@ pub fn off_the_card(trial: &mut Trial) {
 
 /// Refusal 10, and 7 and 8 of a replacement's factor.
 pub fn lent_numbers(trial: &mut Trial) {
-    let whole = built(trial, one_of_each());
+    let whole = built(trial, Groups::one_of_each().table());
     for at in 0..6 {
         let diagonal = [0, 2, 5].contains(&at);
         let most = if diagonal { 1 << 38 } else { 1 << 24 };

@@ -231,17 +231,8 @@ fn text_of(table: &[u32]) -> Vec<u8> {
     text.into_bytes()
 }
 
-/// The base with a card of every kind: D, three N, M, E, H, F, T, Z.
-fn one_of_each() -> Vec<u32> {
-    let mut groups = Groups::base();
-    groups.heats.push([1, 3]);
-    groups.films.push([1, 480, 19_660_800]);
-    groups.fixed.push([3, 19_000_000]);
-    groups.table()
-}
-
 fn small() -> Vec<u8> {
-    bytes_of(&one_of_each())
+    bytes_of(&Groups::one_of_each().table())
 }
 
 /// Card, field, and the field's range in `one_of_each`.
@@ -269,7 +260,7 @@ const RANGES: [(usize, usize, u32, u32); 17] = [
 fn edges(record: &mut Record) {
     for (card, field, least, most) in RANGES {
         for value in [least.saturating_sub(1), least, most, most + 1] {
-            let mut table = one_of_each();
+            let mut table = Groups::one_of_each().table();
             table[6 * card + field] = value;
             record.deck(&text_of(&table));
         }
