@@ -1,3 +1,4 @@
+// SPDX-License-Identifier: GPL-2.0-only OR MIT
 /* driver DECK: an e-reader's page loop over Gormulast, as a panel driver has it.
  *
  * After each page the model takes one step. The reading light and the case are cards of the deck: switching the light
@@ -81,9 +82,14 @@ static uint64_t panel_case(struct panel *panel, int open)
 
 static int refused(const char *what, uint64_t answer)
 {
-	if (GORMULAST_NUMBER(answer))
-		printf("%s refused: %u, place %u\n", what, GORMULAST_NUMBER(answer), GORMULAST_PLACE(answer));
-	return GORMULAST_NUMBER(answer) != 0;
+	unsigned number = GORMULAST_NUMBER(answer);
+
+	if (!number)
+		return 0;
+	printf("%s refused: ", what);
+	printf(gormulast_words(number), GORMULAST_PLACE(answer));
+	printf("\n");
+	return 1;
 }
 
 /* In hundredths of a degree, rounded. */

@@ -1,3 +1,4 @@
+/* SPDX-License-Identifier: GPL-2.0-only OR MIT */
 /* Gormulast: a heat model of a board, all in whole numbers.
  *
  * Compiles as C99, as C++ and in a Linux kernel, on 64-bit machines. No call allocates, prints, waits or keeps state; each
@@ -30,22 +31,36 @@ extern "C" {
 #define GORMULAST_CORRECTIONS(answer) ((unsigned)(((answer) >> 8) & 255))
 #define GORMULAST_PLACE(answer)       ((uint32_t)((answer) >> 16))
 
-/* The refusals, and what the place of each counts (from 1; 0 where it has none). */
-enum gormulast_refusal {
-	GORMULAST_LENGTH = 1,       /* bytes or table of a length that no deck has; 0 */
-	GORMULAST_TRAILER = 2,      /* Z malformed, a count out of bounds, bytes back wrong; 0 */
-	GORMULAST_FORM = 3,         /* letter, columns or newline wrong, or an unused field used; card */
-	GORMULAST_RANGE = 4,        /* field out of its range, or not rising; card */
-	GORMULAST_FLAT = 5,         /* corners on one line; element */
-	GORMULAST_STIFF = 6,        /* capacity or conductance above 4,000,000; element */
-	GORMULAST_PIVOT = 7,        /* d under 16; row */
-	GORMULAST_BOUND = 8,        /* w, l, y or x past its bound; row */
-	GORMULAST_SHORT = 9,        /* a buffer is too short; 0 */
-	GORMULAST_FOREIGN = 10,     /* P, A or factor that no deck has; 0 */
-	GORMULAST_OFF_SCALE = 11,   /* temperature off the scale; lowest node */
-	GORMULAST_UNSETTLED = 12,   /* not settled after four corrections; lowest such row */
-	GORMULAST_REPLACEMENT = 13  /* the new card can't stand for the old one; the card number asked for */
-};
+/* The refusals: name, number, plain words. Where the words have a %u, it is the place, from 1; elsewhere the place is 0. */
+#define GORMULAST_REFUSALS(row) \
+	row(LENGTH, 1, "no deck has so few or so many bytes or numbers") \
+	row(TRAILER, 2, "the last card is no trailer, or its counts don't fit") \
+	row(FORM, 3, "card %u is malformed, or stands where it may not") \
+	row(RANGE, 4, "card %u has a field out of its range, or a key that does not rise") \
+	row(FLAT, 5, "element %u has no area") \
+	row(STIFF, 6, "element %u conducts or stores too much") \
+	row(PIVOT, 7, "row %u of the factor has a pivot under 16") \
+	row(BOUND, 8, "row %u has a number of the factor or of a step past its bound") \
+	row(SHORT, 9, "a lent buffer is too short") \
+	row(FOREIGN, 10, "the lent P, A or factor has numbers that no build gives") \
+	row(OFF_SCALE, 11, "node %u has a temperature off the scale") \
+	row(UNSETTLED, 12, "row %u is not settled after four corrections") \
+	row(REPLACEMENT, 13, "card %u can't become that card, or there is no such card")
+
+#define GORMULAST_NUMBERED(name, number, words) GORMULAST_##name = number,
+enum gormulast_refusal { GORMULAST_REFUSALS(GORMULAST_NUMBERED) GORMULAST_ACCEPTED = 0 };
+#undef GORMULAST_NUMBERED
+
+/* A refusal's words, by its number: a format for its place. */
+#define GORMULAST_SAID(name, number, words) case number: return words;
+static inline const char *gormulast_words(unsigned number)
+{
+	switch (number) {
+	GORMULAST_REFUSALS(GORMULAST_SAID)
+	default: return "accepted";
+	}
+}
+#undef GORMULAST_SAID
 
 /* A temperature is a count of ticks, 0 to GORMULAST_TOP. */
 #define GORMULAST_KELVIN 65536

@@ -3,6 +3,7 @@
 use reference::{Answer, Card, MAX_ROWS};
 
 const E: u32 = b'E' as u32;
+const H: u32 = b'H' as u32;
 
 pub struct Board {
     pub bytes: Vec<u8>,
@@ -35,6 +36,31 @@ impl Board {
             Answer::Done
         );
         matrices
+    }
+
+    /// Its factor with pivots some parts of 64 larger, so that the first step takes so many corrections; none where all nodes
+    /// are as warm as they are held.
+    pub fn factor_for(&self, corrections: u64) -> Option<Vec<i64>> {
+        let [p, a, own, _] = self.built();
+        (64..256).find_map(|part| {
+            let mut factor = own.clone();
+            for i in 0..self.nodes {
+                let d = &mut factor[i * (i + 3) / 2];
+                *d = *d * part / 64;
+            }
+            let mut temperatures = vec![i64::from(self.table[2]); self.nodes];
+            let answer = reference::step(&self.table, &p, &a, &factor, &mut temperatures).packed();
+            (answer == 256 * corrections).then_some(factor)
+        })
+    }
+
+    /// The first H card: its number, the card.
+    pub fn heat(&self) -> (u32, Card) {
+        let mut cards = (1..).zip(self.table.chunks_exact(6));
+        let (number, card) = cards
+            .find(|(_, card)| card[0] == H)
+            .expect("a board is heated");
+        (number, card.try_into().unwrap())
     }
 
     /// The E card whose least corner is nearest to a node: that corner, the card's number, the card.

@@ -31,18 +31,26 @@ fn main() {
         show("read", board, reads(board));
         show("write", board, writes(board));
         show("build", board, builds(board));
-        // In the first quarter of the nodes, in the middle and as near to the last as a board has one.
-        for eighths in [1, 4, 7] {
+        // In each quarter of the nodes, and in the middle.
+        for eighths in [1, 3, 4, 5, 7] {
             let (least, card, even) = board.element_near(board.nodes as u32 * eighths / 8);
             show(
                 &format!("replace at {least}"),
                 board,
-                replaces(board, card, even),
+                replaces(board, card, even, 5),
             );
         }
-        show("step", board, steps(board));
+        let (card, even) = board.heat();
+        show("replace H", board, replaces(board, card, even, 2));
+        show("step", board, steps(board, &board.built()[2]));
+        // The most that a step can do.
+        if let Some(factor) = board.factor_for(4) {
+            show("step by 4", board, steps(board, &factor));
+        }
     }
-    growth(&boards);
+    if boards.len() > 1 {
+        growth(&boards);
+    }
 }
 
 fn show(call: &str, board: &Board, times: Times) {
@@ -130,10 +138,10 @@ fn builds(board: &Board) -> Times {
     )
 }
 
-/// An element a micrometre thicker and back.
-fn replaces(board: &Board, card: u32, even: Card) -> Times {
+/// A field one more and back: an element's thickness, a heat.
+fn replaces(board: &Board, card: u32, even: Card, field: usize) -> Times {
     let mut odd = even;
-    odd[5] += 1;
+    odd[field] += 1;
     let ([mut p, mut a, mut factor, mut work], mut ours) = (board.built(), board.built());
     let (mut right_table, mut our_table) = (board.table.clone(), board.table.clone());
     let (mut right_turn, mut our_turn) = (false, false);
@@ -175,8 +183,8 @@ fn replaces(board: &Board, card: u32, even: Card) -> Times {
 }
 
 /// Always the first step of the deck.
-fn steps(board: &Board) -> Times {
-    let [p, a, factor, _] = &board.built();
+fn steps(board: &Board, factor: &[i64]) -> Times {
+    let [p, a, ..] = &board.built();
     let table = &board.table;
     let start = vec![i64::from(table[2]); board.nodes];
     let (mut right, mut ours) = (start.clone(), start.clone());

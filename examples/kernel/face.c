@@ -1,3 +1,4 @@
+// SPDX-License-Identifier: GPL-2.0-only OR MIT
 /* One model of a board, for all who may open its files.
  *
  *   /dev/gormulast                       written: a deck, taken when the file is closed; read: the deck as it stands
@@ -224,4 +225,4 @@ static void __exit board_unload(void)
 module_exit(board_unload);
 
 MODULE_DESCRIPTION("A heat model of a board, in whole numbers");
-MODULE_LICENSE("GPL");
+MODULE_LICENSE("Dual MIT/GPL");

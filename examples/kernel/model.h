@@ -1,3 +1,4 @@
+/* SPDX-License-Identifier: GPL-2.0-only OR MIT */
 /* A board's model as a driver keeps it: all the memory that the calls are lent.
  *
  * No call here allocates, sleeps or locks. The caller holds one lock over each.

@@ -141,7 +141,7 @@ pub struct Deck<'a> {
 
 impl<'a> Deck<'a> {
     pub fn judge(table: &'a [u32]) -> Result<Deck<'a>, Refusal> {
-        if !table.len().is_multiple_of(6) || table.len() < 12 || table.len() > 6 * MAX_ROWS {
+        if table.len() % 6 != 0 || table.len() < 12 || table.len() > 6 * MAX_ROWS {
             return Err(Refusal::whole(LENGTH));
         }
         let last = table.len() / 6 - 1;

@@ -119,6 +119,6 @@ int main(int count, char **words)
 	measure_replaces();
 	for (i = 0; i < GORMULAST_MAX_NODES; i++)
 		temperatures[i] = table[2];
-	measure("step", call_step, 3072);
+	measure("step", call_step, 2048 + 256); /* a frame, and what the functions below it take */
 	return failed;
 }

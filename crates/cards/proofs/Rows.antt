@@ -4,8 +4,12 @@ use mathlib.Core.List.{List}
 use Prim.Native.Nat.{ℕ, _+_, _-_, _*_, _<_}
 use native.Mathlib.Omega.{arith}
 use lib.ListN.{getD, take, drop}
-use Rattle.paper.specs.Cards.{kindOf, kindAt, rowAt, field}
+use Rattle.paper.specs.Kinds.{kindOf, kindAt}
+use Rattle.paper.specs.Cards.{rowAt, field}
+use Rattle.paper.specs.Judge.{judgeCard}
+use Rattle.paper.specs.declared.Counts.{Counts}
 use Rattle.paper.proofs.Tables.{row-field}
+use Rattle.paper.proofs.Judging.{card-same}
 
 -- the part that the code lends is row i
 pub lent : (t : List ℕ) (i : ℕ) → take (i * 6 + 6 - i * 6) (drop (i * 6) t) ≡ rowAt t i
@@ -22,3 +26,8 @@ pub letter-at : (t : List ℕ) (i : ℕ) → kindOf (getD t (i * 6) 0) ≡ kindA
 letter-at t i =
     let e : i * 6 ≡ i * 6 + 0 = omega arith in
     ap (λ (k : ℕ). kindOf (getD t k 0)) e ∙ ap kindOf (at-row t i 0 (omega arith))
+
+-- the judge of the part is the judge of the row
+pub lent-card : (z : Counts) (t : List ℕ) (i p key : ℕ)
+    → judgeCard z (λ (j : ℕ). take (i * 6 + 6 - i * 6) (drop (i * 6) t)) i p key ≡ judgeCard z (rowAt t) i p key
+lent-card z t i p key = card-same z (λ (j : ℕ). take (i * 6 + 6 - i * 6) (drop (i * 6) t)) (rowAt t) i p key (lent t i)

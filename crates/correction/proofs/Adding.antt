@@ -10,7 +10,7 @@ use lib.IntN.{ℤ, pos, natAbs, _+ℤ_}
 use lib.Signed.{_<ℤ_}
 use lib.ListN.{set, length-set}
 use lib.Seq.{getD-set-same, getD-set-other}
-use mir.Syntax.{w64}
+use mir.Syntax.{w32, w64}
 use mir.Val.{SFits}
 use mir.Facts.{toZ-ofZ}
 use borrow.Author.Tests.{eqb-true, eqb-false}
@@ -24,6 +24,7 @@ use Rattle.paper.specs.Step.{warmed, addFrom}
 use Rattle.paper.specs.declared.Refusal.the-variants.{OffScale}
 use Rattle.paper.proofs.Scale.{on-scale-size}
 use Rattle.lent.specs.Rows.{Mild}
+use Rattle.lent.proofs.Narrow.{rd32, small32, num32, wide-is}
 use Rattle.correction.specs.Asks.{Back, Added}
 
 -- ---- one temperature
@@ -38,17 +39,17 @@ module _ (x : ℤ) (h : natAbs x ≤ 2 ^ 36) where
   divided-size : natAbs (nearest x 256) ≤ 2 ^ 36
   divided-size = rw (nearest-size x 256) (omega (arith, nearestN-le (natAbs x) 256 (lit< tt)))
 
-module _ (t x : ℤ) (ht : natAbs t ≤ 2 ^ 25) (hx : natAbs x ≤ 2 ^ 36) (q : ℤ) (eq : q ≡ nearest (rd x) 256) where
+module _ (t x : ℤ) (ft : SFits w32 t) (ht : natAbs t ≤ 2 ^ 25) (hx : natAbs x ≤ 2 ^ 36) (q : ℤ) (eq : q ≡ nearest (rd x) 256) where
   q-is : Is (rd q) (nearest x 256) (2 ^ 36)
   q-is = again (is (eq ∙ ap (λ (z : ℤ). nearest z 256) (x-is x hx .eq)) (divided-size x hx)) (lit< tt)
 
-  t-is : Is (rd t) t (2 ^ 25)
-  t-is = num t ht (lit< tt)
+  t-is : Is (rd (rd32 t)) t (2 ^ 25)
+  t-is = is (wide-is ft) ht
 
-  pub warmed-asks : natAbs (rd t) + natAbs (rd q) < 2 ^ 63
+  pub warmed-asks : natAbs (rd (rd32 t)) + natAbs (rd q) < 2 ^ 63
   warmed-asks = omega (arith, size-of t-is, size-of q-is)
 
-  pub warmed-is : (z : ℤ) → z ≡ rd t +ℤ rd q → rd z ≡ t +ℤ nearest x 256
+  pub warmed-is : (z : ℤ) → z ≡ rd (rd32 t) +ℤ rd q → rd z ≡ t +ℤ nearest x 256
   warmed-is z e = let v = plus t-is q-is in again (is (e ∙ v .eq) (v .size)) (lit< tt) .eq
 
 -- ---- all of them
@@ -62,13 +63,13 @@ pub add-start : (x : List ℤ) (n : ℕ) (t : List ℤ) → Mild t n → AddInv 
 add-start x n t s = record { upto = omega arith; mild = s; rest = ap (λ (k : ℕ). addFrom x k 0 t) (omega arith) }
 
 module _ {x : List ℤ} {n : ℕ} {t₀ t : List ℤ} {i : ℕ} (v : AddInv x n t₀ t i) (h : i < n) (y : Back x 0 n) where
-  pub add-asks : (natAbs (rd (cell t i)) ≤ 2 ^ 25) × (natAbs (rd (cell x i)) ≤ 2 ^ 36)
-  add-asks = (size-of (num (cell t i) (v .mild .each i h) (lit< tt)), size-of (num (cell x i) (y .above i (omega arith) h) (lit< tt)))
+  pub add-asks : (natAbs (rd32 (cell t i)) ≤ 2 ^ 25) × (natAbs (rd (cell x i)) ≤ 2 ^ 36)
+  add-asks = (size-of (num32 (cell t i) (v .mild .each i h) (lit< tt)), size-of (num (cell x i) (y .above i (omega arith) h) (lit< tt)))
 
-  module _ (z : ℤ) (f : SFits w64 z) (ez : z ≡ rd (cell t i) +ℤ nearest (rd (cell x i)) 256) (r : Bool) (er : r ≡ onScale (rd z)) where
+  module _ (z : ℤ) (f : SFits w64 z) (ez : z ≡ rd32 (cell t i) +ℤ nearest (rd (cell x i)) 256) (r : Bool) (er : r ≡ onScale (rd z)) where
     sum-is : rd z ≡ warmed x t i
     unfolding warmed
-    sum-is = toZ-ofZ f ∙ ez ∙ (λ w. num (cell t i) (v .mild .each i h) (lit< tt) .eq w +ℤ nearest (num (cell x i) (y .above i (omega arith) h) (lit< tt) .eq w) 256)
+    sum-is = toZ-ofZ f ∙ ez ∙ (λ w. num32 (cell t i) (v .mild .each i h) (lit< tt) .eq w +ℤ nearest (num (cell x i) (y .above i (omega arith) h) (lit< tt) .eq w) 256)
 
     scale-test : r ≡ onScale (warmed x t i)
     scale-test = er ∙ ap onScale sum-is
@@ -85,10 +86,16 @@ module _ {x : List ℤ} {n : ℕ} {t₀ t : List ℤ} {i : ℕ} (v : AddInv x n 
           ok = λ e. absurd (omega arith);
         })
 
-    pub add-yes : r ≡ true → AddInv x n t₀ (set t i (rd z)) (i + 1)
+    scaled : r ≡ true → natAbs (warmed x t i) ≤ 2 ^ 25
+    scaled k = on-scale-size (warmed x t i) (sym scale-test ∙ k)
+
+    pub add-fits : r ≡ true → SFits w32 (rd z)
+    add-fits k = subst (SFits w32) (sym sum-is) (small32 (omega (arith, scaled k)))
+
+    pub add-yes : r ≡ true → AddInv x n t₀ (set t i (rd32 (rd z))) (i + 1)
     add-yes k =
         let s : onScale (warmed x t i) ≡ true = sym scale-test ∙ k in
-        subst (λ (w : ℤ). AddInv x n t₀ (set t i w) (i + 1)) (sym sum-is)
+        subst (λ (w : ℤ). AddInv x n t₀ (set t i w) (i + 1)) (sym (toZ-ofZ (add-fits k) ∙ sum-is))
         (record {
           upto = omega arith;
           mild = record { long = length-set t i (warmed x t i) ∙ v .mild .long; each = λ j g. new (on-scale-size (warmed x t i) s) j g };

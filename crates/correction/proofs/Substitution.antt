@@ -3,7 +3,7 @@ use mathlib.Core.Path.{_≡_, sym, ap, subst, _∙_}
 use mathlib.Core.Bool.{Bool, true, false}
 use mathlib.Core.Logic.{⊎-elim}
 use mathlib.Core.List.{List}
-use Prim.Native.Nat.{ℕ, suc, _+_, _-_, _*_, _^_, _≤_, _<_}
+use Prim.Native.Nat.{ℕ, suc, _+_, _-_, _*_, _^_, _≤_, _<_, max}
 use native.Mathlib.Nat.{eq-or-lt-of-le}
 use native.Mathlib.Numerals.{add-one}
 use native.Mathlib.Omega.{arith}
@@ -28,9 +28,9 @@ use Rattle.paper.specs.Refusals.{when}
 use Rattle.paper.specs.Factor.{R, small}
 use Rattle.paper.specs.Step.{yAt, xAt, forwardFrom, backFrom}
 use Rattle.paper.specs.declared.Refusal.the-variants.{Bound}
-use Rattle.lent.specs.Rows.{Sound}
-use Rattle.lent.proofs.Told.{sound-above}
-use Rattle.correction.specs.Asks.{Forth, Back, Left, leftTerm, downTerm, Forwarded, Backed}
+use Rattle.lent.specs.Rows.{Factored}
+use Rattle.lent.proofs.Told.{factored-above}
+use Rattle.correction.specs.Asks.{Forth, Back, Left, Under, leftTerm, downTerm, Forwarded, Backed}
 
 -- ---- one turn of a sum
 
@@ -54,12 +54,15 @@ module _ {l ys : List ℤ} {at n : ℕ} (q : Left l at ys n) where
   pub left-asks : (k : ℕ) → k < n → (natAbs (rd (cell l (at + k))) ≤ 2 ^ 24) × (natAbs (rd (cell ys k)) ≤ 2 ^ 52)
   left-asks k h = (size-of (num (cell l (at + k)) (q .low k h) (lit< tt)), size-of (num (cell ys k) (q .each k h) (lit< tt)))
 
+  pub low-asks : Under ys n (2 ^ 38) → (k : ℕ) → k < n → (natAbs (rd (cell l (at + k))) ≤ 2 ^ 24) × (natAbs (rd (cell ys k)) ≤ 2 ^ 38)
+  low-asks u k h = (left-asks k h .0, size-of (num (cell ys k) (u k h) (lit< tt)))
+
   pub left-more : (k : ℕ) → k < n → (s z : ℤ) → s ≡ sum k (leftTerm l at ys) → z ≡ R (rd (cell l (at + k)) *ℤ rd (cell ys k)) → Is (s +ℤ rd z) (sum (k + 1) (leftTerm l at ys)) (96 * 2 ^ 56)
   left-more k h s z es ez =
       let v = turned (leftTerm l at ys) (2 ^ 56) n k (lit< tt) h left-terms s z es (term-is (cell l (at + k)) (cell ys k) z (q .low k h) (q .each k h) ez) in
       record { eq = v .eq; size = omega (arith, v .size, q .few) }
 
-pub left-of : {l ys : List ℤ} {i n : ℕ} (at : ℕ) → at ≡ tri i → i < n → Sound l n → Forth ys i n → Left l at ys i
+pub left-of : {l ys : List ℤ} {i n : ℕ} (at : ℕ) → at ≡ tri i → i < n → Factored l n → Forth ys i n → Left l at ys i
 left-of {l} {ys} {i} {n} at e h q y =
     subst (λ (k : ℕ). Left l k ys i) (sym e)
     (record {
@@ -70,7 +73,7 @@ left-of {l} {ys} {i} {n} at e h q y =
       each = y .below;
     })
 
-module _ {l ys : List ℤ} {i n : ℕ} (at : ℕ) (e : at ≡ tri i) (h : i < n) (q : Sound l n) (y : Forth ys i n) (s : ℤ) (es : s ≡ sum i (leftTerm l at ys)) where
+module _ {l ys : List ℤ} {i n : ℕ} (at : ℕ) (e : at ≡ tri i) (h : i < n) (q : Factored l n) (y : Forth ys i n) (s : ℤ) (es : s ≡ sum i (leftTerm l at ys)) where
   left-is : Is (rd s) (sum i (leftTerm l (tri i) ys)) (95 * 2 ^ 56)
   left-is =
       let b : natAbs (sum i (leftTerm l at ys)) ≤ 95 * 2 ^ 56 = omega (arith, sum-size-each i (leftTerm l at ys) (2 ^ 56) (left-terms (left-of at e h q y)), q .rows .few) in
@@ -135,6 +138,17 @@ module _ {l : List ℤ} {n : ℕ} {ys₀ ys : List ℤ} {i : ℕ} (v : ForwardIn
           (λ q. subst (λ (w : ℤ). natAbs w ≤ 2 ^ 52) (sym (getD-set-other ys i j (yAt l i ys) (pos 0) (omega arith))) (v .state .below j q))
           (eq-or-lt-of-le (let r : j ≤ i = omega arith in r))
 
+-- the largest so far
+pub under-start : (ys : List ℤ) → Under ys 0 0
+under-start ys k h = absurd (omega arith)
+
+pub under-next : {n : ℕ} {ys : List ℤ} {i most : ℕ} → Forth ys i n → Under ys i most → i < n → (z : ℤ) (m : ℕ) → m ≡ natAbs z → (w : ℕ) → w ≡ max most m → Under (set ys i z) (i + 1) w
+under-next {n} {ys} {i} {most} y u h z m em w ew j p =
+    ⊎-elim
+    (λ e. subst (λ (k : ℕ). natAbs (cell (set ys i z) k) ≤ w) (sym e) (subst (λ (x : ℤ). natAbs x ≤ w) (sym (getD-set-same ys i z (pos 0) (omega (arith, y .long)))) (omega (arith, em, ew))))
+    (λ q. subst (λ (x : ℤ). natAbs x ≤ w) (sym (getD-set-other ys i j z (pos 0) (omega arith))) (omega (arith, u j q, ew)))
+    (eq-or-lt-of-le (let r : j ≤ i = omega arith in r))
+
 pub forward-end : {l : List ℤ} {n : ℕ} {ys₀ ys : List ℤ} {i : ℕ} → ForwardInv l n ys₀ ys i → n ≤ i → Forwarded 0 l n ys₀ ys
 unfolding forwardFrom
 forward-end {l} {n} {ys₀} {ys} {i} v h =
@@ -163,7 +177,7 @@ quotient-size y d h k =
     rw (nearest-size (pos 256 *ℤ y) (natAbs d))
     (omega (arith, nearestN-le (natAbs (pos 256 *ℤ y)) (natAbs d) (above-zero k), natAbs-times (pos 256) y))
 
-module _ {l xs : List ℤ} {i n : ℕ} (h : i < n) (q : Sound l n) (y : Back xs (i + 1) n) where
+module _ {l xs : List ℤ} {i n : ℕ} (h : i < n) (q : Factored l n) (y : Back xs (i + 1) n) where
   down-terms : (m : ℕ) → m < n - suc i → natAbs (downTerm l i xs m) ≤ 2 ^ 42
   down-terms m k =
       scaled-size (cell l (tri (suc i + m) + i)) (cell xs (suc i + m)) (q .low (suc i + m) i (omega arith) (omega arith))
@@ -199,7 +213,7 @@ module _ {l xs : List ℤ} {i n : ℕ} (h : i < n) (q : Sound l n) (y : Back xs 
     own-ok = y .below i (omega arith)
 
     diag-ok : pos 0 <ℤ cell l (at + i)
-    diag-ok = subst (λ (p : ℕ). pos 0 <ℤ cell l (p + i)) (sym ea) (sound-above q i h)
+    diag-ok = subst (λ (p : ℕ). pos 0 <ℤ cell l (p + i)) (sym ea) (factored-above q i h)
 
     pub x-z-asks : SFits w64 (cell l (at + i)) → (natAbs (rd (cell xs i)) ≤ 2 ^ 52) × (pos 0 <ℤ rd (cell l (at + i)))
     x-z-asks f = (size-of (num (cell xs i) own-ok (lit< tt)), subst (λ (z : ℤ). pos 0 <ℤ z) (sym (toZ-ofZ f)) diag-ok)
@@ -209,7 +223,7 @@ module _ {l xs : List ℤ} {i n : ℕ} (h : i < n) (q : Sound l n) (y : Back xs 
       first-is =
           let x : rd (cell xs i) ≡ cell xs i = num (cell xs i) own-ok (lit< tt) .eq in
           let d : rd (cell l (at + i)) ≡ cell l (tri i + i) = toZ-ofZ fd ∙ ap (λ (p : ℕ). cell l (p + i)) ea in
-          again (is (er ∙ (λ w. nearest (pos 256 *ℤ x w) (natAbs (d w)))) (quotient-size (cell xs i) (cell l (tri i + i)) own-ok (sound-above q i h))) (lit< tt)
+          again (is (er ∙ (λ w. nearest (pos 256 *ℤ x w) (natAbs (d w)))) (quotient-size (cell xs i) (cell l (tri i + i)) own-ok (factored-above q i h))) (lit< tt)
 
       below-is : Is (rd s) (sum (n - suc i) (downTerm l i xs)) (95 * 2 ^ 42)
       below-is = again (is es (omega (arith, sum-size-each (n - suc i) (downTerm l i xs) (2 ^ 42) down-terms, q .rows .few))) (lit< tt)

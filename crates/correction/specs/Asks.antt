@@ -43,6 +43,10 @@ pub record Left (l : List ℤ) (at : ℕ) (ys : List ℤ) (n : ℕ) : Type 0 whe
   pub low : (k : ℕ) → k < n → natAbs (cell l (at + k)) ≤ 2 ^ 24
   pub each : (k : ℕ) → k < n → natAbs (cell ys k) ≤ 2 ^ 52
 
+-- none of the first n is larger
+abbrev pub Under : List ℤ → ℕ → ℕ → Type 0
+Under ys n most = (k : ℕ) → k < n → natAbs (cell ys k) ≤ most
+
 -- a row that was refused, from 1, or 0 and the list
 abbrev pub outAt : (ℕ → Refusal) → ℕ → List ℤ → Outcome (List ℤ)
 outAt why zero xs = done xs

@@ -8,12 +8,20 @@ use borrow.Rule.Slice.PartMut.{putMid}
 use lib.ListN.{length, take, drop, take-append-drop}
 use Rattle.whole.proofs.Lists.{put-next}
 use Rattle.paper.specs.Text.{cardOf}
+use Rattle.paper.specs.Judge.{judgeCard}
 use Rattle.paper.specs.Calls.{joined, cardAt}
+use Rattle.paper.specs.declared.Counts.{Counts}
+use Rattle.paper.proofs.Judging.{card-same}
 
 pub lent : (b : List ℕ) (start i : ℕ) → cardOf (take (start + i * 42 + 42 - (start + i * 42)) (drop (start + i * 42) b)) ≡ cardAt b start i
 lent b start i =
     let e : start + i * 42 + 42 - (start + i * 42) ≡ 42 = omega arith in
     rw e
+
+-- the judge of a card that was read is the judge of the text's
+pub read-card : (z : Counts) (b : List ℕ) (start i p key : ℕ) {card : List ℕ} → card ≡ cardAt b start i
+    → judgeCard z (λ (j : ℕ). card) i p key ≡ judgeCard z (cardAt b start) i p key
+read-card z b start i p key {card} e = card-same z (λ (j : ℕ). card) (cardAt b start) i p key e
 
 module _ (piece : ℕ → List ℕ) (w n i : ℕ) where
   pub rows-more : (out ys whole : List ℕ) → i < n → i * w + w ≤ length out → length ys ≡ w → ys ≡ piece i → (i + 1) * w ≡ i * w + w

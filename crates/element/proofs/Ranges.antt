@@ -1,49 +1,97 @@
 -- The ranges of a judged deck's fields are what an element's numbers are asked to have.
-use mathlib.Core.Path.{_≡_}
-use mathlib.Core.List.{List}
-use Prim.Native.Nat.{ℕ, _+_, _*_, _≤_, _<_}
+use mathlib.Core.Path.{_≡_, refl, sym, ap, _∙_}
+use mathlib.Core.List.{List, [], _∷_}
+use Prim.Native.Nat.{ℕ, suc, zero, _+_, _*_, _-_, _≤_, _<_}
 use native.Mathlib.Omega.{arith}
-use lib.ListN.{length}
-use Rattle.paper.specs.Cards.{field, rows, materials, elements, elementRow, stepOf}
-use Rattle.paper.specs.Triangle.{Shape, shapeAt, triangleAt}
-use Rattle.paper.proofs.Decks.{Deck, In}
-use Rattle.paper.proofs.Elements.{coordinates-in}
+use lib.ListN.{length, getD, length-drop}
+use lib.Seq.{length-take-le, getD-drop, ext-getD}
+use Rattle.paper.specs.Cards.{field, rowAt, rows, nodes, elements, elementRow, stepOf}
+use Rattle.paper.specs.Corners.{Body, shapeOf}
+use Rattle.paper.specs.Elements.{bodyOf, elementOf}
+use Rattle.paper.proofs.Letters as kinds
+use Rattle.paper.proofs.Decks.{Deck, In, kindIn}
+use Rattle.paper.proofs.Tables.{row-field, row-ext}
+use Rattle.paper.proofs.Spans.{coordinate, step-in, kx-in, ky-in, capacity-in, body-corners, body-material, thickness-in, is-body}
 use Rattle.triangle.specs.Asks.{Placed, Sized, Step}
-use Rattle.element.specs.Forms.{with}
+use Rattle.triangle.specs.Forms.{madeOf}
 use Rattle.element.specs.Asks.{ElementCard}
 
-pub placed-at : (t : List ℕ) (row : ℕ) → ElementCard t row → Placed (shapeAt t row)
-placed-at t row h = record {
-  x = λ a l. coordinates-in t row (h .deck) (h .inside) (h .isE) a l .0;
-  y = λ a l. coordinates-in t row (h .deck) (h .inside) (h .isE) a l .1;
-}
+pub placed-of : (t card : List ℕ) → ElementCard t card → Placed (bodyOf t card .shape)
+unfolding bodyOf shapeOf
+placed-of t card h = record { three = refl; x = axis 0 (omega arith); y = axis 1 (omega arith) }
+  where
+    axis : (k : ℕ) → k < 2 → (a : ℕ) → a < 3 → getD (field t (getD card 1 0) (suc k) ∷ field t (getD card 2 0) (suc k) ∷ field t (getD card 3 0) (suc k) ∷ []) a 0 ≤ 4095
+    axis k l zero m = coordinate t (h .deck) (getD card 1 0) k (h .corners .0) l
+    axis k l (suc zero) m = coordinate t (h .deck) (getD card 2 0) k (h .corners .1 .0) l
+    axis k l (suc (suc zero)) m = coordinate t (h .deck) (getD card 3 0) k (h .corners .1 .1 .0) l
+    axis k l (suc (suc (suc a))) m = absurd (omega arith)
 
-pub sized-with : (t : List ℕ) (s : Shape) (m thickness : ℕ) → Deck t → Placed s → In 1 (materials t) m → thickness ≤ 4000 → Sized (with t s m thickness)
-unfolding with
-sized-with t s m thickness d p h l = record {
-  placed = p;
-  kx = d .kx m (h .0) (h .1) .1;
-  ky = d .ky m (h .0) (h .1) .1;
-  capacity = d .capacity m (h .0) (h .1) .1;
-  thickness = l;
+pub sized-of : (t card : List ℕ) → ElementCard t card → Sized (bodyOf t card)
+unfolding bodyOf
+sized-of t card h = record {
+  placed = placed-of t card h;
+  kx = kx-in t (h .deck) (getD card 4 0) (h .material) .1;
+  ky = ky-in t (h .deck) (getD card 4 0) (h .material) .1;
+  capacity = capacity-in t (h .deck) (getD card 4 0) (h .material) .1;
+  thickness = h .thickness;
 }
-
-pub sized-at : (t : List ℕ) (row : ℕ) → ElementCard t row → Sized (triangleAt t row)
-unfolding triangleAt with
-sized-at t row h =
-    sized-with t (shapeAt t row) (field t row 4) (field t row 5) (h .deck) (placed-at t row h) (h .deck .material row (h .inside) (h .isE)) (h .deck .thickness row (h .inside) (h .isE) .1)
 
 pub step-of : (t : List ℕ) → Deck t → Step (stepOf t)
-step-of t d = record { least = d .step .0; most = d .step .1 }
+step-of t d = record { least = step-in t d .0; most = step-in t d .1 }
+
+-- what a body makes is what its card makes
+pub made-is : (t card : List ℕ) → madeOf (stepOf t) (bodyOf t card) ≡ elementOf t card
+unfolding elementOf
+made-is t card = refl
 
 -- the card of element e
-pub card-of : (t : List ℕ) (e : ℕ) → Deck t → In 1 (elements t) e → ElementCard t (elementRow t e)
-card-of t e d h = record { deck = d; inside = omega (arith, d .all); isE = d .isE e (h .0) (h .1) }
+pub card-of : (t : List ℕ) (e : ℕ) → Deck t → In 1 (elements t) e → ElementCard t (rowAt t (elementRow t e))
+card-of t e d h = go (is-body t d e h)
+  where
+    r : ℕ
+    r = elementRow t e
 
--- a field of a row stands in the table
+    inside : r < rows t
+    inside = omega (arith, d .all, h .1)
+
+    go : kinds.Body (kindIn t r) → ElementCard t (rowAt t r)
+    go b = record {
+      deck = d;
+      corners = rw (row-field t r 1 (omega arith), row-field t r 2 (omega arith), row-field t r 3 (omega arith)) (body-corners t d r inside b);
+      material = rw (row-field t r 4 (omega arith)) (body-material t d r inside b);
+      thickness = thick b;
+    }
+      where
+        thick : kinds.Body (kindIn t r) → getD (rowAt t r) 5 0 ≤ 4000
+        thick (kinds.flat k) = omega (arith, row-field t r 5 (omega arith), thickness-in t d r inside k .1)
+
+-- a field of a row stands in the table, and the whole row
 pub within : (t : List ℕ) (row k : ℕ) → Deck t → row < rows t → k < 6 → row * 6 + k < length t
 within t row k d h l = omega (arith, d .whole)
 
--- so does a field of the node that is corner k
-pub corner-field : {v : ℕ} (t : List ℕ) (row k j : ℕ) → ElementCard t row → 1 ≤ k → k ≤ 3 → j < 6 → v ≡ field t row k → v * 6 + j < length t
-corner-field t row k j h lo hi l e = omega (arith, h .deck .corner row (h .inside) (h .isE) k lo hi, h .deck .whole, h .deck .all)
+pub row-within : (t : List ℕ) (e : ℕ) → Deck t → In 1 (elements t) e → elementRow t e * 6 + 6 ≤ length t
+row-within t e d h = omega (arith, d .whole, d .all, h .1)
+
+-- so does a field of a node
+pub node-field : {v : ℕ} (t : List ℕ) (n j : ℕ) → Deck t → In 1 (nodes t) n → j < 6 → v ≡ n → v * 6 + j < length t
+node-field t n j d h l e = omega (arith, h, d .whole, d .all)
+
+pub few-nodes : (t : List ℕ) (n : ℕ) → Deck t → In 1 (nodes t) n → n < 256
+few-nodes t n d h = omega (arith, h, d .someN)
+
+-- ---- a row read number by number
+
+pub copied-row : (t : List ℕ) (row : ℕ) → row * 6 + 6 ≤ length t
+    → getD t (row * 6) 0 ∷ getD t (row * 6 + 1) 0 ∷ getD t (row * 6 + 2) 0 ∷ getD t (row * 6 + 3) 0 ∷ getD t (row * 6 + 4) 0 ∷ getD t (row * 6 + 5) 0 ∷ [] ≡ rowAt t row
+unfolding field
+copied-row t row h =
+    sym (row-ext t row _ h refl each)
+  where
+    each : (k : ℕ) → k < 6 → field t row k ≡ getD (getD t (row * 6) 0 ∷ getD t (row * 6 + 1) 0 ∷ getD t (row * 6 + 2) 0 ∷ getD t (row * 6 + 3) 0 ∷ getD t (row * 6 + 4) 0 ∷ getD t (row * 6 + 5) 0 ∷ []) k 0
+    each zero l = ap (λ (n : ℕ). getD t n 0) (omega arith)
+    each (suc zero) l = refl
+    each (suc (suc zero)) l = refl
+    each (suc (suc (suc zero))) l = refl
+    each (suc (suc (suc (suc zero)))) l = refl
+    each (suc (suc (suc (suc (suc zero))))) l = refl
+    each (suc (suc (suc (suc (suc (suc k)))))) l = absurd (omega arith)

@@ -1,12 +1,13 @@
--- What the functions ask of the table.
-use mathlib.Core.List.{List}
-use Prim.Native.Nat.{ℕ, _<_}
-use Rattle.paper.specs.Cards.{rows}
-use Rattle.paper.specs.declared.Kind.the-variants.{E}
-use Rattle.paper.proofs.Decks.{Deck, Is}
+-- What the functions ask of a card: to be an element of a judged deck, in it or yet to be put there.
+use mathlib.Core.List.{List, [], _∷_}
+use Prim.Native.Nat.{ℕ, _≤_}
+use lib.ListN.{getD}
+use Rattle.paper.specs.Cards.{nodes, materials}
+use Rattle.paper.proofs.Decks.{Deck, In}
+use Rattle.paper.proofs.Spans.{Inside}
 
--- a row of a judged deck that holds an E card
-pub record ElementCard (t : List ℕ) (row : ℕ) : Type 0 where
+pub record ElementCard (t card : List ℕ) : Type 0 where
   pub deck : Deck t
-  pub inside : row < rows t
-  pub isE : Is E t row
+  pub corners : Inside (nodes t) (getD card 1 0 ∷ getD card 2 0 ∷ getD card 3 0 ∷ [])
+  pub material : In 1 (materials t) (getD card 4 0)
+  pub thickness : getD card 5 0 ≤ 4000

@@ -1,3 +1,2 @@
--- What an element is read as, and what reading it asks.
-pub mod Forms
+-- What reading an element asks.
 pub mod Asks

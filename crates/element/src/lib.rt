@@ -1,4 +1,4 @@
-// The elements of a judged deck, each read from its table once.
+// The elements of a judged deck, by keys made of its cards' fields.
 use paper::Answer;
 use paper::Element;
 use paper::Material;
@@ -7,20 +7,59 @@ use triangle::Shape;
 use triangle::Triangle;
 ghost use mathlib.Core.Path.{_≡_};
 ghost use Prim.Native.Nat.{_+_, _*_, _<_, _≤_};
-ghost use lib.ListN.{length};
-ghost use Rattle.paper.specs.Cards.{field, nodes, materials, elements, materialRow, elementRow};
-ghost use Rattle.paper.specs.Triangle.{shapeAt, triangleAt, elementJudged};
+ghost use lib.ListN.{length, getD};
+ghost use Rattle.paper.specs.Cards.{field, rowAt, nodes, materials, elements, materialRow, elementRow};
+ghost use Rattle.paper.specs.Elements.{bodyOf, elementOf, formJudged, elementJudged};
 ghost use Rattle.paper.specs.Building.{elementsFrom};
 ghost use Rattle.paper.proofs.Decks.{Deck, In};
-ghost use Rattle.triangle.specs.Forms.{shapeOf, triangleOf};
-ghost use Rattle.element.specs.Forms.{with};
+ghost use Rattle.triangle.specs.Forms.{asShape, asBody};
 ghost use Rattle.element.specs.Asks.{ElementCard};
+
+// ---- keys: each is made here alone
+
+pub fn node(number: u32) -> Node
+    requires { ⌜ number < 256 ⌝ }
+    ensures { λ r. ⌜ r .0 ≡ number ⌝ }
+{
+    Node(number as u8)
+}
+
+pub fn material(number: u32) -> Material
+    requires { ⌜ number < 256 ⌝ }
+    ensures { λ r. ⌜ r .0 ≡ number ⌝ }
+{
+    Material(number as u8)
+}
+
+pub fn element(number: u32) -> Element
+    requires { ⌜ number < 256 ⌝ }
+    ensures { λ r. ⌜ r .0 ≡ number ⌝ }
+{
+    Element(number as u8)
+}
+
+// ---- fields and cards
 
 pub fn field(table: &[u32], row: usize, k: usize) -> u32
     requires { ⌜ row * 6 + k < length (now table) ⌝ }
     ensures { λ r. ⌜ r ≡ field (now (table .entry)) row k ⌝ }
 {
     table[row * 6 + k]
+}
+
+pub fn card_at(table: &[u32], row: usize) -> [u32; 6]
+    requires { ⌜ row * 6 + 6 ≤ length (now table) ⌝ }
+    ensures { λ r. ⌜ r ≡ rowAt (now (table .entry)) row ⌝ }
+{
+    let at = row * 6;
+    [
+        table[at],
+        table[at + 1],
+        table[at + 2],
+        table[at + 3],
+        table[at + 4],
+        table[at + 5],
+    ]
 }
 
 // ---- what Z counts
@@ -39,11 +78,11 @@ fn materials(table: &[u32]) -> usize
     table[table.len() - 3] as usize
 }
 
-pub fn elements(table: &[u32]) -> usize
+pub fn elements(table: &[u32]) -> u32
     requires { ⌜ Deck (now table) ⌝ }
     ensures { λ r. ⌜ r ≡ elements (now (table .entry)) ⌝ }
 {
-    table[table.len() - 2] as usize
+    table[table.len() - 2]
 }
 
 // ---- the row of each kind of number
@@ -68,22 +107,22 @@ pub fn element_row(table: &[u32], e: Element) -> usize
     nodes(table) + materials(table) + e.0 as usize
 }
 
-// ---- the element whose card stands in a row
-
-fn corner(table: &[u32], row: usize, k: usize) -> Node
-    requires { ⌜ ElementCard (now table) row × (1 ≤ k) × (k ≤ 3) ⌝ }
-    ensures { λ r. ⌜ r .0 ≡ field (now (table .entry)) row k ⌝ }
+pub fn element_card(table: &[u32], e: Element) -> [u32; 6]
+    requires { ⌜ Deck (now table) × In 1 (elements (now table)) (e .0) ⌝ }
+    ensures { λ r. ⌜ r ≡ rowAt (now (table .entry)) (elementRow (now (table .entry)) (e .0)) ⌝ }
 {
-    Node(field(table, row, k) as u8)
+    card_at(table, element_row(table, e))
 }
 
-pub fn shape_at(table: &[u32], row: usize) -> Shape
-    requires { ⌜ ElementCard (now table) row ⌝ }
-    ensures { λ r. ⌜ shapeOf r ≡ shapeAt (now (table .entry)) row ⌝ }
+// ---- the element that a card makes
+
+pub fn shape_of(table: &[u32], card: [u32; 6]) -> Shape
+    requires { ⌜ ElementCard (now table) card ⌝ }
+    ensures { λ r. ⌜ asShape r ≡ elementOf (now (table .entry)) card .shape ⌝ }
 {
-    let a = corner(table, row, 1);
-    let b = corner(table, row, 2);
-    let c = corner(table, row, 3);
+    let a = node(card[1]);
+    let b = node(card[2]);
+    let c = node(card[3]);
     let i = node_row(a);
     let j = node_row(b);
     let k = node_row(c);
@@ -94,38 +133,36 @@ pub fn shape_at(table: &[u32], row: usize) -> Shape
     }
 }
 
-// A shape with the material and the thickness that an E card gives it.
-pub fn with_material(table: &[u32], shape: Shape, m: Material, thickness: u32) -> Triangle
-    requires { ⌜ Deck (now table) × In 1 (materials (now table)) (m .0) ⌝ }
-    ensures { λ r. ⌜ triangleOf r ≡ with (now (table .entry)) (shapeOf shape) (m .0) thickness ⌝ }
+pub fn triangle_of(table: &[u32], card: [u32; 6]) -> Triangle
+    requires { ⌜ ElementCard (now table) card ⌝ }
+    ensures { λ r. ⌜ asBody r ≡ bodyOf (now (table .entry)) card ⌝ }
 {
-    let row = material_row(table, m);
+    let shape = shape_of(table, card);
+    let row = material_row(table, material(card[4]));
     Triangle {
         shape: shape,
         kx: field(table, row, 1),
         ky: field(table, row, 2),
         capacity: field(table, row, 3),
-        thickness: thickness,
+        thickness: card[5],
     }
 }
 
-pub fn triangle_at(table: &[u32], row: usize) -> Triangle
-    requires { ⌜ ElementCard (now table) row ⌝ }
-    ensures { λ r. ⌜ triangleOf r ≡ triangleAt (now (table .entry)) row ⌝ }
-{
-    let shape = shape_at(table, row);
-    let m = Material(field(table, row, 4) as u8);
-    with_material(table, shape, m, field(table, row, 5))
-}
-
 // ---- refusals 5 and 6
+
+// Of the element that a card makes, under a number.
+pub fn judge_card(table: &[u32], card: [u32; 6], e: Element) -> Answer
+    requires { ⌜ ElementCard (now table) card ⌝ }
+    ensures { λ r. ⌜ r ≡ formJudged (elementOf (now (table .entry)) card) (e .0) ⌝ }
+{
+    triangle::judge(triangle_of(table, card), field(table, 0, 1), e)
+}
 
 pub fn judge_element(table: &[u32], e: Element) -> Answer
     requires { ⌜ Deck (now table) × In 1 (elements (now table)) (e .0) ⌝ }
     ensures { λ r. ⌜ r ≡ elementJudged (now (table .entry)) (e .0) ⌝ }
 {
-    let it = triangle_at(table, element_row(table, e));
-    triangle::judge(it, field(table, 0, 1), e)
+    judge_card(table, element_card(table, e), e)
 }
 
 // Of all elements, in turn.
@@ -133,10 +170,10 @@ pub fn judge_elements(table: &[u32]) -> Answer
     requires { ⌜ Deck (now table) ⌝ }
     ensures { λ r. ⌜ r ≡ elementsFrom (elements (now (table .entry))) 1 (now (table .entry)) ⌝ }
 {
-    let n = elements(table) as u8;
-    let mut e: u8 = 1;
+    let n = elements(table);
+    let mut e: u32 = 1;
     while e <= n {
-        let answer = judge_element(table, Element(e));
+        let answer = judge_element(table, element(e));
         let Answer::Done = answer else {
             return answer;
         };

@@ -4,6 +4,13 @@ use libc::STDIN_FILENO;
 use libc::STDOUT_FILENO;
 use paper::Answer;
 use paper::Ran;
+use paper::Refusal;
+use paper::Ticks;
+
+// The matrix length of 96 nodes, the most that a deck has.
+const LONGEST: usize = 4_656;
+
+const NODES: usize = 96;
 
 fn number(n: u64) {
     io::write_all(STDOUT_FILENO, b" ");
@@ -17,9 +24,9 @@ fn line(letter: &[u8], a: u64, b: u64) {
     io::write_all(STDOUT_FILENO, b"\n");
 }
 
-// A refusal out of a packed answer.
-fn refused(answer: u64) {
-    line(b"R", answer % 256, answer / 65_536);
+fn refused(why: Refusal) {
+    let g = paper::given_by(why);
+    line(b"R", g.number as u64, g.place as u64);
 }
 
 // Each node's temperature, then Z with the steps done and the lines to go back.
@@ -33,8 +40,11 @@ fn printed(temperatures: &[i64], steps: u32) {
 }
 
 // D's start temperature.
-fn start(table: &[u32]) -> u32 {
-    if table.len() < 3 { 0 } else { table[2] }
+fn start(table: &[u32]) -> Ticks {
+    if table.len() < 3 {
+        return Ticks(0);
+    }
+    Ticks(table[2])
 }
 
 // Z's count of nodes.
@@ -51,42 +61,43 @@ fn size(x: u32) -> usize {
 
 // D's steps of a built model.
 fn stepped(table: &[u32], p: &[i64], a: &[i64], factor: &[i64], temperatures: &mut [i64]) {
-    match step::run(table, p, a, factor, &mut temperatures[..]) {
+    match run::run(table, p, a, factor, &mut temperatures[..]) {
         Ran::Finished(steps) => printed(&temperatures[..], steps),
-        Ran::Refused(why) => refused(deck::packed_refusal(why)),
+        Ran::Refused(why) => refused(why),
     }
 }
 
 fn ran(table: &[u32]) {
-    let mut p = [0i64; 4_656];
-    let mut a = [0i64; 4_656];
-    let mut factor = [0i64; 4_656];
-    let mut work = [0i64; 4_656];
-    let mut temperatures = [0i64; 96];
+    let mut p = [0i64; LONGEST];
+    let mut a = [0i64; LONGEST];
+    let mut factor = [0i64; LONGEST];
+    let mut work = [0i64; LONGEST];
+    let mut temperatures = [0i64; NODES];
     let answer = model::build(table, &mut p, &mut a, &mut factor, &mut work);
     if let Answer::Refused(why) = answer {
-        refused(deck::packed_refusal(why));
+        refused(why);
         return;
     }
     let n = nodes(table);
-    whole::slices::fill(&mut temperatures, start(table) as i64);
-    if n <= 96 {
+    let first = start(table);
+    whole::slices::fill(&mut temperatures, first.0 as i64);
+    if n <= NODES {
         stepped(table, &p, &a, &factor, &mut temperatures[0..n]);
     }
 }
 
 fn main() {
-    let mut bytes = [0u8; 65_537];
-    let mut table = [0u32; 4_092];
+    let mut bytes = [0u8; deck::BYTES + 1];
+    let mut table = [0u32; deck::NUMBERS];
     let mut answer: u64 = 0;
     let n = io::read_full(STDIN_FILENO, &mut bytes);
     let part = deck::read(&bytes[..n], &mut table, &mut answer);
     if answer != 0 {
-        refused(answer);
+        line(b"R", answer % 256, answer / 65_536);
         return;
     }
     let k = part.len() / 42 * 6;
-    if k <= 4_092 {
+    if k <= deck::NUMBERS {
         ran(&table[0..k]);
     }
 }

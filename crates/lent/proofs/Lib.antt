@@ -1,3 +1,4 @@
--- What refusal 10 leaves, for callers.
+-- What refusals 9 to 11 leave, for callers.
 pub mod Told
+pub mod Narrow
 mod Turns

@@ -1,25 +1,28 @@
--- What is lent of n nodes: room for n rows, and the bounds that refusals 10 and 11 leave.
+-- What is lent of n nodes: room for n rows, and the bounds that refusals 9, 10 and 11 leave.
 use mathlib.Core.Path.{_≡_}
-use Prim.Native.Nat.{ℕ, suc, _+_, _^_, _≤_, _<_, min}
+use mathlib.Core.Bool.{Bool, true}
+use Prim.Native.Nat.{ℕ, zero, suc, _+_, _^_, _≤_, _<_, min, max}
 use mathlib.Core.List.{List}
 use lib.IntN.{ℤ, pos, natAbs}
 use lib.Signed.{_≤ℤ_}
 use lib.ListN.{length}
 use Rattle.whole.specs.Sums.{sumN}
-use Rattle.whole.specs.Packed.{tri, cell, entry}
+use Rattle.whole.specs.Packed.{tri, matrix, cell, entry}
 use Rattle.paper.specs.Building.{Slices}
-use Rattle.paper.specs.Lent.{rowSize}
-
-abbrev pub lent : List ℤ → List ℤ → List ℤ → Slices
-lent p a factor = record { p = p; a = a; factor = factor }
+use Rattle.paper.specs.Lent.{rowSize, opened}
 
 pub record Rows (m : List ℤ) (n : ℕ) : Type 0 where
   pub few : n ≤ 96
-  pub room : tri n ≤ length m
+  pub room : matrix n ≤ length m
 
 pub record InRow (m : List ℤ) (i n : ℕ) : Type 0 where
   pub rows : Rows m n
   pub here : i < n
+
+-- the largest size of the first j
+unfoldable pub largest : ℕ → List ℤ → ℕ
+largest zero m = 0
+largest (suc j) m = max (largest j m) (natAbs (cell m j))
 
 -- a size for the row sums of refusal 10, where more than 2^33 is as good as 2^33 + 1
 abbrev pub capped : ℤ → ℕ
@@ -34,8 +37,8 @@ pub record Light (m : List ℤ) (n : ℕ) : Type 0 where
   pub rows : Rows m n
   pub each : (i : ℕ) → i < n → rowSize n m i ≤ 2 ^ 33
 
--- a factor
-pub record Sound (l : List ℤ) (n : ℕ) : Type 0 where
+-- n rows of a factor
+pub record Factored (l : List ℤ) (n : ℕ) : Type 0 where
   pub rows : Rows l n
   pub low : (i k : ℕ) → i < n → k < i → natAbs (cell l (tri i + k)) ≤ 2 ^ 24
   pub least : (i : ℕ) → i < n → pos 16 ≤ℤ cell l (tri i + i)
@@ -45,3 +48,13 @@ pub record Sound (l : List ℤ) (n : ℕ) : Type 0 where
 pub record Mild (t : List ℤ) (n : ℕ) : Type 0 where
   pub long : length t ≡ n
   pub each : (j : ℕ) → j < n → natAbs (cell t j) ≤ 2 ^ 25
+
+-- slices of any length that refusals 9 and 10 let pass, and that whatever else is lent is long enough
+pub record Passed (n : ℕ) (s : Slices) (rest : Bool) : Type 0 where
+  pub p-long : matrix n ≤ length (s .p)
+  pub a-long : matrix n ≤ length (s .a)
+  pub factor-long : matrix n ≤ length (s .factor)
+  pub rest-long : rest ≡ true
+  pub p-light : Light (opened n s .p) n
+  pub a-light : Light (opened n s .a) n
+  pub factored : Factored (opened n s .factor) n

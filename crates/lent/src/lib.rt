@@ -1,17 +1,38 @@
-// Refusals 10 and 11: lent numbers that no build gives, and temperatures off the scale. The numbers may be of any size, the
-// least i64 too.
+// Refusals 9, 10 and 11: slices too short, lent numbers that no build gives, and temperatures off the scale. The numbers may be of
+// any size, the least i64 too.
+use paper::Answer;
+use paper::Refusal;
 use paper::Ticks;
 ghost use mathlib.Core.Path.{_≡_};
-ghost use mathlib.Core.Bool.{not};
+ghost use mathlib.Core.Bool.{not, _&&_};
 ghost use Prim.Native.Nat.{_+_, _^_, _≤_, _<_, max};
 ghost use lib.Dec.{leb};
 ghost use lib.ListN.{length};
-ghost use Rattle.whole.specs.Sums.{any};
-ghost use Rattle.whole.specs.Packed.{cell};
-ghost use Rattle.paper.specs.Factor.{small};
-ghost use Rattle.paper.specs.Lent.{rowSize, heavy, pivot, badRow, noFactor, foreign};
+ghost use Rattle.paper.specs.Building.{slices};
+ghost use Rattle.paper.specs.Lent.{rowSize, heavy, pivot, badRow, noFactor, foreign, enough, lentJudged};
 ghost use Rattle.paper.specs.Step.{offScale};
-ghost use Rattle.lent.specs.Rows.{InRow, Rows, capped, cappedTo, lent};
+ghost use Rattle.lent.specs.Rows.{InRow, Rows, largest, capped, cappedTo};
+
+// ---- the largest
+
+fn larger(a: u64, b: u64) -> u64
+    ensures { λ r. ⌜ r ≡ max a b ⌝ }
+{
+    if a < b { b } else { a }
+}
+
+// The largest size: one pass over a slice as it lies, with no branch that leaves it.
+fn largest(m: &[i64]) -> u64
+    ensures { λ r. ⌜ r ≡ largest (length (now (m .entry))) (now (m .entry)) ⌝ }
+{
+    let mut most: u64 = 0;
+    let mut j = 0;
+    while j < m.len() {
+        most = larger(most, whole::size(m[j]));
+        j += 1;
+    }
+    most
+}
 
 // ---- P and A
 
@@ -62,7 +83,7 @@ fn heavy_row(m: &[i64], i: usize, n: usize) -> bool
     8_589_934_592 < down(m, left(m, i, n), i, n)
 }
 
-pub fn heavy(m: &[i64], n: usize) -> bool
+fn heavy_rows(m: &[i64], n: usize) -> bool
     requires { ⌜ Rows (now m) n ⌝ }
     ensures { λ r. ⌜ r ≡ heavy n (now (m .entry)) ⌝ }
 {
@@ -76,27 +97,18 @@ pub fn heavy(m: &[i64], n: usize) -> bool
     false
 }
 
-// ---- a factor
-
-fn larger(a: u64, b: u64) -> u64
-    ensures { λ r. ⌜ r ≡ max a b ⌝ }
+// Where no number passes 2^26, no row of 96 passes 2^33.
+fn heavy(m: &[i64], n: usize) -> bool
+    requires { ⌜ Rows (now m) n ⌝ }
+    ensures { λ r. ⌜ r ≡ heavy n (now (m .entry)) ⌝ }
 {
-    if a < b { b } else { a }
-}
-
-// Whether one of the n numbers from `at` on is no l.
-fn large(l: &[i64], at: usize, n: usize) -> bool
-    requires { ⌜ at + n ≤ length (now l) ⌝ }
-    ensures { λ r. ⌜ r ≡ any n (λ j. not (small 24 (cell (now (l .entry)) (at + j)))) ⌝ }
-{
-    let mut most: u64 = 0;
-    let mut j = 0;
-    while j < n {
-        most = larger(most, whole::size(l[at + j]));
-        j += 1;
+    if largest(m) <= 67_108_864 {
+        return false;
     }
-    16_777_216 < most
+    heavy_rows(m, n)
 }
+
+// ---- a factor
 
 fn pivot(d: i64) -> bool
     ensures { λ r. ⌜ r ≡ pivot d ⌝ }
@@ -109,10 +121,10 @@ fn bad_row(l: &[i64], i: usize, n: usize) -> bool
     ensures { λ r. ⌜ r ≡ badRow (now (l .entry)) i ⌝ }
 {
     let at = whole::start(i);
-    large(l, at, i) || !pivot(l[at + i])
+    16_777_216 < largest(&l[at..at + i]) || !pivot(l[at + i])
 }
 
-pub fn no_factor(l: &[i64], n: usize) -> bool
+fn no_factor(l: &[i64], n: usize) -> bool
     requires { ⌜ Rows (now l) n ⌝ }
     ensures { λ r. ⌜ r ≡ noFactor n (now (l .entry)) ⌝ }
 {
@@ -129,9 +141,9 @@ pub fn no_factor(l: &[i64], n: usize) -> bool
 // ---- all that is lent
 
 // P, A, then the factor.
-pub fn foreign(p: &[i64], a: &[i64], factor: &[i64], n: usize) -> bool
+fn foreign(p: &[i64], a: &[i64], factor: &[i64], n: usize) -> bool
     requires { ⌜ Rows (now p) n × Rows (now a) n × Rows (now factor) n ⌝ }
-    ensures { λ r. ⌜ r ≡ foreign n (lent (now (p .entry)) (now (a .entry)) (now (factor .entry))) ⌝ }
+    ensures { λ r. ⌜ r ≡ foreign n (slices (now (p .entry)) (now (a .entry)) (now (factor .entry))) ⌝ }
 {
     if heavy(p, n) {
         return true;
@@ -140,6 +152,39 @@ pub fn foreign(p: &[i64], a: &[i64], factor: &[i64], n: usize) -> bool
         return true;
     }
     no_factor(factor, n)
+}
+
+// Whether P, A and the factor have the matrix length; rest: whether what else is lent is long enough.
+pub fn enough(p: &[i64], a: &[i64], factor: &[i64], rest: bool, n: usize) -> bool
+    requires { ⌜ n ≤ 96 ⌝ }
+    ensures { λ r. ⌜ r ≡ (enough n (slices (now (p .entry)) (now (a .entry)) (now (factor .entry))) && rest) ⌝ }
+{
+    let long = whole::matrix(n);
+    if p.len() < long {
+        return false;
+    }
+    if a.len() < long {
+        return false;
+    }
+    if factor.len() < long {
+        return false;
+    }
+    rest
+}
+
+// Refusals 9 and 10 of slices of any length.
+pub fn judge(p: &[i64], a: &[i64], factor: &[i64], rest: bool, n: usize) -> Answer
+    requires { ⌜ n ≤ 96 ⌝ }
+    ensures { λ r. ⌜ r ≡ lentJudged n (slices (now (p .entry)) (now (a .entry)) (now (factor .entry))) rest ⌝ }
+{
+    if !enough(p, a, factor, rest, n) {
+        return Answer::Refused(Refusal::Short);
+    }
+    let long = whole::matrix(n);
+    if foreign(&p[0..long], &a[0..long], &factor[0..long], n) {
+        return Answer::Refused(Refusal::Foreign);
+    }
+    Answer::Done
 }
 
 // Refusal 11: the lowest node off the scale, from 1, or 0.

@@ -1,12 +1,12 @@
--- A share at a corner, and at all three.
-use mathlib.Core.Path.{_≡_, sym, ap, subst, _∙_}
+-- A share at a corner, and at each corner in turn.
+use mathlib.Core.Path.{_≡_, refl, sym, ap, subst, _∙_}
 use mathlib.Core.Bool.{Bool, true, false, cond}
 use mathlib.Core.List.{List}
 use Prim.Native.Nat.{ℕ, suc, _+_, _-_, _^_, _≤_, _<_}
 use native.Mathlib.Omega.{arith}
 use lib.Dec.{eqb, lit<}
-use lib.IntN.{ℤ, pos, natAbs, _+ℤ_, +ℤ-idr}
-use lib.ListN.{length, getD, set, List·getD-map}
+use lib.IntN.{ℤ, pos, natAbs, _+ℤ_, +ℤ-assoc, +ℤ-idr}
+use lib.ListN.{length, getD, set}
 use mir.Syntax.{w64}
 use mir.Val.{toZ}
 use mir.Facts.{toZ-pos}
@@ -14,12 +14,12 @@ use borrow.Author.Tests.{eq-eqb, ne-eqb}
 use Rattle.whole.specs.Sums.{sum, table}
 use Rattle.whole.specs.Packed.{cell}
 use Rattle.whole.proofs.Signs.{natAbs-plus}
-use Rattle.whole.proofs.Linear.{zarith, plusL}
-use Rattle.whole.proofs.Sums.{set-table, table-at, table-ext, table-length}
+use Rattle.whole.proofs.Sums.{sum-more, sum-size-each, set-table, table-at, table-cells, table-ext, table-length}
 use Rattle.whole.proofs.Calc.{Is, rd, num, is, plus, again, size-of}
-use Rattle.paper.specs.Matrices.{share}
-use Rattle.paper.specs.declared.Node.{Node}
-use Rattle.loads.specs.Asks.{Corner, plusAt, numbers, Corners}
+use Rattle.paper.specs.Corners.{share}
+use Rattle.paper.proofs.Decks.{In}
+use Rattle.paper.proofs.Spans.{inside-each}
+use Rattle.loads.specs.Asks.{Corner, plusAt, Spread}
 
 -- ---- one corner
 
@@ -44,93 +44,66 @@ module _ {r : List ℤ} {k v : ℕ} (q : Corner r k v) (j : ℕ) (ej : j ≡ k) 
       (again (is (ez ∙ s .eq) (s .size)) (lit< tt) .eq ∙ ap (λ (b : Bool). cell r (j - 1) +ℤ cond b (pos v) (pos 0)) (sym (eq-eqb k (suc (j - 1)) m)))
       (λ i l n. sym (ap (λ (b : Bool). cell r i +ℤ cond b (pos v) (pos 0)) (ne-eqb k (suc i) (λ e. n (omega arith))) ∙ +ℤ-idr (cell r i)))
 
--- ---- three
+-- ---- one after another
 
-abbrev nodeOf : List Node → ℕ → ℕ
-nodeOf ns a = getD ns a (record { 0 = 0 }) .0
+-- what the first so many of them add at node i
+abbrev pub soFar : List ℕ → List ℕ → ℕ → ℕ → ℤ
+soFar ns vs a i = sum a (λ b. cond (eqb (getD ns b 0) (suc i)) (pos (getD vs b 0)) (pos 0))
 
-number-of : (ns : List Node) (a : ℕ) → getD (numbers ns) a 0 ≡ nodeOf ns a
-number-of ns a = List·getD-map (λ (n : Node). n .0) ns a (record { 0 = 0 })
+pub record SpreadInv (r₀ r : List ℤ) (ns vs : List ℕ) (a : ℕ) : Type 0 where
+  pub upto : a ≤ length ns
+  pub cells : r ≡ table (length r₀) (λ i. cell r₀ i +ℤ soFar ns vs a i)
+
+pub spread-start : (r : List ℤ) (ns vs : List ℕ) → SpreadInv r r ns vs 0
+unfolding sum
+spread-start r ns vs = record {
+  upto = omega arith;
+  cells = sym (table-cells r (length r) refl) ∙ table-ext (length r) (cell r) _ (λ i h. sym (+ℤ-idr (cell r i)));
+}
 
 share-size : (b : Bool) (v : ℕ) → v ≤ 2 ^ 46 → natAbs (cond b (pos v) (pos 0)) ≤ 2 ^ 46
 share-size true v h = h
 share-size false v h = omega arith
 
--- the next list, and the sizes in it
-module _ (n : ℕ) (r s : List ℤ) (k v c : ℕ) (e : s ≡ table n (plusAt r k v)) where
-  next-at : (i : ℕ) → i < n → cell s i ≡ plusAt r k v i
-  next-at i h = ap (λ (x : List ℤ). cell x i) e ∙ table-at n i (plusAt r k v) h
+module _ {r₀ r : List ℤ} {ns vs : List ℕ} {a : ℕ} (q : Spread r₀ ns vs) (w : SpreadInv r₀ r ns vs a) where
+  pub spread-long : length r ≡ length r₀
+  spread-long = ap length (w .cells) ∙ table-length (length r₀) (λ i. cell r₀ i +ℤ soFar ns vs a i)
 
-  next-long : length s ≡ n
-  next-long = ap length e ∙ table-length n (plusAt r k v)
+  spread-at : (i : ℕ) → i < length r₀ → cell r i ≡ cell r₀ i +ℤ soFar ns vs a i
+  spread-at i h = ap (λ (x : List ℤ). cell x i) (w .cells) ∙ table-at (length r₀) i (λ i. cell r₀ i +ℤ soFar ns vs a i) h
 
-  next-size : v ≤ 2 ^ 46 → ((i : ℕ) → i < n → natAbs (cell r i) ≤ c) → (i : ℕ) → i < n → natAbs (cell s i) ≤ c + 2 ^ 46
-  next-size hv h i l =
-      subst (λ (z : ℤ). natAbs z ≤ c + 2 ^ 46) (sym (next-at i l))
-      (omega (arith, natAbs-plus (cell r i) (cond (eqb k (suc i)) (pos v) (pos 0)), h i l, share-size (eqb k (suc i)) v hv))
+  spread-size : (i : ℕ) → i < length r₀ → natAbs (cell r i) ≤ 2 ^ 58
+  spread-size i h =
+      subst (λ (z : ℤ). natAbs z ≤ 2 ^ 58) (sym (spread-at i h))
+      (omega (
+        arith,
+        natAbs-plus (cell r₀ i) (soFar ns vs a i),
+        q .small i h,
+        sum-size-each a (λ b. cond (eqb (getD ns b 0) (suc i)) (pos (getD vs b 0)) (pos 0)) (2 ^ 46) (λ b l. share-size (eqb (getD ns b 0) (suc i)) (getD vs b 0) (q .share-small b (omega (arith, w .upto, q .few)))),
+        w .upto,
+        q .few,
+      ))
 
-module _ {r : List ℤ} (ns : List Node) {v : ℕ} (q : Corners r (numbers ns) v) where
-  least-of : (a : ℕ) → a < 3 → 1 ≤ nodeOf ns a
-  least-of a h = omega (arith, q .least a h, number-of ns a)
+  -- the next corner is k
+  module _ (l : a < length ns) (k : ℕ) (ek : getD ns a 0 ≡ k) (v : ℕ) (ev : getD vs a 0 ≡ v) where
+    small-here : v ≤ 2 ^ 46
+    small-here = subst (λ (x : ℕ). x ≤ 2 ^ 46) ev (q .share-small a (omega (arith, q .few)))
 
-  most-of : (a : ℕ) → a < 3 → nodeOf ns a ≤ length r
-  most-of a h = omega (arith, q .most a h, number-of ns a)
+    pub spread-corner : Corner r k v
+    spread-corner =
+        let (lo, hi) = subst (In 1 (length r₀)) ek (inside-each (length r₀) ns (q .inside) a l) in
+        record { least = lo; most = omega (arith, spread-long); share-small = small-here; small = λ i h. spread-size i (omega (arith, spread-long)) }
 
-  pub corner-0 : Corner r (nodeOf ns 0) v
-  corner-0 = record { least = least-of 0 (lit< tt); most = most-of 0 (lit< tt); share-small = q .share-small; small = λ i h. omega (arith, q .small i h) }
-
-  module _ {r₁ : List ℤ} (e₁ : r₁ ≡ table (length r) (plusAt r (nodeOf ns 0) v)) where
-    long₁ : length r₁ ≡ length r
-    long₁ = next-long (length r) r r₁ (nodeOf ns 0) v 0 e₁
-
-    size₁ : (i : ℕ) → i < length r → natAbs (cell r₁ i) ≤ 2 ^ 57 + 2 ^ 46
-    size₁ = next-size (length r) r r₁ (nodeOf ns 0) v (2 ^ 57) e₁ (q .share-small) (q .small)
-
-    pub corner-1 : Corner r₁ (nodeOf ns 1) v
-    corner-1 = record {
-      least = least-of 1 (lit< tt);
-      most = omega (arith, most-of 1 (lit< tt), long₁);
-      share-small = q .share-small;
-      small = λ i h. omega (arith, size₁ i (omega (arith, long₁)));
+    pub spread-next : {s : List ℤ} → s ≡ table (length r) (plusAt r k v) → SpreadInv r₀ s ns vs (a + 1)
+    spread-next {s} e = record {
+      upto = omega arith;
+      cells = e ∙ (λ d. table (spread-long d) (plusAt r (sym ek d) (sym ev d)))
+          ∙ table-ext (length r₀) _ _ (λ i h.
+          ap (λ (z : ℤ). z +ℤ cond (eqb (getD ns a 0) (suc i)) (pos (getD vs a 0)) (pos 0)) (spread-at i h)
+          ∙ +ℤ-assoc (cell r₀ i) (soFar ns vs a i) (cond (eqb (getD ns a 0) (suc i)) (pos (getD vs a 0)) (pos 0))
+          ∙ ap (λ (z : ℤ). cell r₀ i +ℤ z) (sym (sum-more a (λ b. cond (eqb (getD ns b 0) (suc i)) (pos (getD vs b 0)) (pos 0)))));
     }
 
-    module _ {r₂ : List ℤ} (e₂ : r₂ ≡ table (length r₁) (plusAt r₁ (nodeOf ns 1) v)) where
-      e₂′ : r₂ ≡ table (length r) (plusAt r₁ (nodeOf ns 1) v)
-      e₂′ = e₂ ∙ ap (λ (m : ℕ). table m (plusAt r₁ (nodeOf ns 1) v)) long₁
-
-      long₂ : length r₂ ≡ length r
-      long₂ = next-long (length r) r₁ r₂ (nodeOf ns 1) v 0 e₂′
-
-      size₂ : (i : ℕ) → i < length r → natAbs (cell r₂ i) ≤ 2 ^ 57 + 2 ^ 46 + 2 ^ 46
-      size₂ = next-size (length r) r₁ r₂ (nodeOf ns 1) v (2 ^ 57 + 2 ^ 46) e₂′ (q .share-small) size₁
-
-      pub corner-2 : Corner r₂ (nodeOf ns 2) v
-      corner-2 = record {
-        least = least-of 2 (lit< tt);
-        most = omega (arith, most-of 2 (lit< tt), long₂);
-        share-small = q .share-small;
-        small = λ i h. omega (arith, size₂ i (omega (arith, long₂)));
-      }
-
-      three : (x a b c : ℤ) → x +ℤ a +ℤ b +ℤ c ≡ x +ℤ (pos 0 +ℤ a +ℤ b +ℤ c)
-      three x a b c =
-          omega (zarith, plusL x a, plusL (x +ℤ a) b, plusL (x +ℤ a +ℤ b) c, plusL (pos 0) a, plusL (pos 0 +ℤ a) b, plusL (pos 0 +ℤ a +ℤ b) c, plusL x (pos 0 +ℤ a +ℤ b +ℤ c))
-
-      at : ℕ → ℕ → ℤ
-      at a i = cond (eqb (nodeOf ns a) (suc i)) (pos v) (pos 0)
-
-      shares : (i : ℕ) → pos 0 +ℤ at 0 i +ℤ at 1 i +ℤ at 2 i ≡ share 3 (numbers ns) (λ a. pos v) i
-      unfolding at share sum
-      shares i = λ d. pos 0 +ℤ one 0 d +ℤ one 1 d +ℤ one 2 d
-        where
-          one : (a : ℕ) → cond (eqb (nodeOf ns a) (suc i)) (pos v) (pos 0) ≡ cond (eqb (getD (numbers ns) a 0) (suc i)) (pos v) (pos 0)
-          one a = ap (λ (m : ℕ). cond (eqb m (suc i)) (pos v) (pos 0)) (sym (number-of ns a))
-
-      pub spread-is : {r₃ : List ℤ} → r₃ ≡ table (length r₂) (plusAt r₂ (nodeOf ns 2) v) → r₃ ≡ table (length r) (λ i. cell r i +ℤ share 3 (numbers ns) (λ a. pos v) i)
-      unfolding at
-      spread-is {r₃} e₃ =
-          e₃ ∙ ap (λ (m : ℕ). table m (plusAt r₂ (nodeOf ns 2) v)) long₂
-          ∙ table-ext (length r) _ _ (λ i h.
-          ap (λ (z : ℤ). z +ℤ at 2 i) (next-at (length r) r₁ r₂ (nodeOf ns 1) v 0 e₂′ i h ∙ ap (λ (z : ℤ). z +ℤ at 1 i) (next-at (length r) r r₁ (nodeOf ns 0) v 0 e₁ i h))
-          ∙ three (cell r i) (at 0 i) (at 1 i) (at 2 i)
-          ∙ ap (λ (z : ℤ). cell r i +ℤ z) (shares i))
+  pub spread-end : length ns ≤ a → r ≡ table (length r₀) (λ i. cell r₀ i +ℤ share ns (λ b. pos (getD vs b 0)) i)
+  unfolding share
+  spread-end h = let e : a ≡ length ns = omega (arith, w .upto) in w .cells ∙ ap (λ (k : ℕ). table (length r₀) (λ i. cell r₀ i +ℤ soFar ns vs k i)) e

@@ -7,8 +7,8 @@ use native.Mathlib.Omega.{arith}
 use lib.Dec.{eqb}
 use lib.IntN.{ℤ, pos, negsuc, natAbs}
 use lib.ListN.{length, set}
-use mir.Syntax.{w64}
-use mir.Val.{toZ}
+use mir.Syntax.{w32}
+use mir.Val.{SFits, toZ}
 use mir.Facts.{toZ-pos}
 use borrow.Author.Tests.{eq-eqb, ne-eqb, eqb-true}
 use Rattle.whole.specs.Sums.{sumN, any, table}
@@ -16,11 +16,21 @@ use Rattle.whole.specs.Packed.{cell}
 use Rattle.whole.proofs.Sums.{any-none, any-more, any-one, sumN-none, sumN-more, sumN-mono, sumN-once, set-table, table-cells, table-at, table-ext, table-length}
 use Rattle.whole.proofs.Tests.{and-told, or-false}
 use Rattle.paper.specs.Ticks.{top}
+use Rattle.paper.specs.Kinds.{about, letterOf}
 use Rattle.paper.specs.Cards.{field, letter, isCard, rows, nodes, materials, elements}
 use Rattle.paper.specs.Matrices.{fixes, fixed, held}
+use Rattle.paper.specs.declared.About.{About}
+use Rattle.paper.specs.declared.Kind.{Kind}
 use Rattle.paper.specs.declared.Kind.the-variants.{T}
-use Rattle.paper.proofs.Decks.{Deck, Is, hold}
+use Rattle.paper.proofs.Decks.{kindIn, Deck}
+use Rattle.paper.proofs.Letters.{kind-of}
+use Rattle.paper.proofs.Spans.{names-T, held-in, in-loads, once}
+use Rattle.lent.proofs.Narrow.{small32}
 use Rattle.loads.specs.Asks.{AtRow}
+
+-- T's letter, as the table of kinds has it
+pub letter-T : {a : About} → a ≡ about T → a .letter ≡ letterOf T
+letter-T e = ap (λ (a : About). a .letter) e
 
 -- what a row leaves
 abbrev pub after : List ℕ → List ℤ → ℕ → ℕ → ℤ
@@ -31,28 +41,37 @@ module _ {t : List ℕ} {f : List ℤ} {row : ℕ} (q : AtRow t f row) where
   d = q .each .deck
 
   -- no T: nothing changes
-  pub hold-none : (Is T t row → ⊥) → f ≡ table (nodes t) (after t f row)
+  pub hold-none : (letter t row ≡ letterOf T → ⊥) → f ≡ table (nodes t) (after t f row)
   hold-none n =
       sym (table-cells f (nodes t) (q .each .long))
-      ∙ table-ext (nodes t) (cell f) (after t f row) (λ i h. sym (ap (λ (b : Bool). cond (b && eqb (field t row 1) (suc i)) (pos (field t row 2)) (cell f i)) (ne-eqb (letter t row) 84 n)))
+      ∙ table-ext (nodes t) (cell f) (after t f row) (λ i h. sym (ap (λ (b : Bool). cond (b && eqb (field t row 1) (suc i)) (pos (field t row 2)) (cell f i)) (ne-eqb (letter t row) (letterOf T) n)))
 
-  module _ (e : Is T t row) where
+  module _ (e : letter t row ≡ letterOf T) where
+    here : row < rows t
+    here = omega (arith, q .inside)
+
+    isT : kindIn t row ≡ T
+    isT = kind-of (letter t row) T e
+
     pub node-small : field t row 1 ≤ 96
-    node-small = omega (arith, d .ofT row (q .inside) e, d .someN)
+    node-small = omega (arith, names-T t d row here isT, d .someN)
 
     pub node-some : 1 ≤ field t row 1
-    node-some = d .ofT row (q .inside) e .0
+    node-some = names-T t d row here isT .0
+
+    pub value-small : {z : ℕ} → z ≡ field t row 2 → SFits w32 (pos z)
+    value-small ez = small32 (omega (arith, ez, held-in t d row here isT))
 
     pub node-in : field t row 1 - 1 < length f
-    node-in = omega (arith, d .ofT row (q .inside) e, q .each .long)
+    node-in = omega (arith, names-T t d row here isT, q .each .long)
 
-    pub hold-is : (k z : ℕ) → k ≡ field t row 1 → z ≡ field t row 2 → set f (k - 1) (toZ w64 z) ≡ table (nodes t) (after t f row)
+    pub hold-is : (k z : ℕ) → k ≡ field t row 1 → z ≡ field t row 2 → set f (k - 1) (toZ w32 z) ≡ table (nodes t) (after t f row)
     hold-is k z ek ez =
-        let p : toZ w64 z ≡ pos (field t row 2) = toZ-pos w64 (omega (arith, d .heldT row (q .inside) e)) ∙ ap pos ez in
+        let p : toZ w32 z ≡ pos (field t row 2) = toZ-pos w32 (omega (arith, held-in t d row here isT)) ∙ ap pos ez in
         let m : field t row 1 ≡ suc (k - 1) = omega (arith, node-some) in
-        set-table f (k - 1) (toZ w64 z) (after t f row) (omega (arith, node-in))
-        (p ∙ (λ j. cond (sym (eq-eqb (letter t row) 84 e) j && sym (eq-eqb (field t row 1) (suc (k - 1)) m) j) (pos (field t row 2)) (cell f (k - 1))))
-        (λ i l n. (λ j. cond (sym (eq-eqb (letter t row) 84 e) j && sym (ne-eqb (field t row 1) (suc i) (λ x. n (omega arith))) j) (pos (field t row 2)) (cell f i)))
+        set-table f (k - 1) (toZ w32 z) (after t f row) (omega (arith, node-in))
+        (p ∙ (λ j. cond (sym (eq-eqb (letter t row) (letterOf T) e) j && sym (eq-eqb (field t row 1) (suc (k - 1)) m) j) (pos (field t row 2)) (cell f (k - 1))))
+        (λ i l n. (λ j. cond (sym (eq-eqb (letter t row) (letterOf T) e) j && sym (ne-eqb (field t row 1) (suc i) (λ x. n (omega arith))) j) (pos (field t row 2)) (cell f i)))
         ∙ ap (λ (m : ℕ). table m (after t f row)) (q .each .long)
 
 -- ---- the walk
@@ -65,17 +84,26 @@ abbrev pub heldBy : List ℕ → ℕ → ℕ → ℤ
 heldBy t row i = cond (any row (fixes t i)) (pos (sumN row (values t i))) (negsuc 0)
 
 pub record HoldInv (t : List ℕ) (f : List ℤ) (row : ℕ) : Type 0 where
-  pub inside : row ≤ rows t
+  pub inside : suc row ≤ rows t
   pub so-far : f ≡ table (nodes t) (heldBy t row)
 
 module _ {t : List ℕ} (d : Deck t) where
-  fixes-told : (i k : ℕ) → fixes t i k ≡ true → (Is T t k) × (field t k 1 ≡ suc i)
+  fixes-told : (i k : ℕ) → fixes t i k ≡ true → (letter t k ≡ letterOf T) × (field t k 1 ≡ suc i)
   fixes-told i k e =
       let (a, b) = and-told (isCard T t k) (eqb (field t k 1) (suc i)) e in
-      (eqb-true (letter t k) 84 a, eqb-true (field t k 1) (suc i) b)
+      (eqb-true (letter t k) (letterOf T) a, eqb-true (field t k 1) (suc i) b)
 
-  before : (i row : ℕ) → row < nodes t + materials t + elements t + 1 → fixes t i row ≡ false
-  before i row l = ap (λ (b : Bool). b && eqb (field t row 1) (suc i)) (ne-eqb (letter t row) 84 (λ e. omega (arith, d .inT row (omega (arith, d .all)) e)))
+  kind-T : (k : ℕ) → letter t k ≡ letterOf T → kindIn t k ≡ T
+  kind-T k e = kind-of (letter t k) T e
+
+  -- a T stands among the loads
+  outside : (i row : ℕ) → row < rows t → ((nodes t + materials t + elements t < row) × (suc row < rows t) → ⊥) → fixes t i row ≡ false
+  unfolding about
+  outside i row l n = ap (λ (b : Bool). b && eqb (field t row 1) (suc i)) (ne-eqb (letter t row) (letterOf T) (λ e. n (in-loads t d row l (ap (λ (k : Kind). about k .section) (kind-T row e)))))
+
+  rises-T : (k : ℕ) → letter t k ≡ letterOf T → 1 ≤ about (kindIn t k) .keys
+  unfolding about
+  rises-T k e = rw (kind-T k e) (omega arith)
 
   -- one T card names a node: if this one does, none before it did
   alone : (i row : ℕ) → row < rows t → fixes t i row ≡ true → (k : ℕ) → k < row → fixes t i k ≡ false
@@ -86,7 +114,7 @@ module _ {t : List ℕ} (d : Deck t) where
       go true p =
           let (a, x) = fixes-told i k p in
           let (b, y) = fixes-told i row e in
-          absurd (let z = d .once k row (omega arith) h (hold a) (a ∙ sym b) (x ∙ sym y) in omega arith)
+          absurd (let z = once t d k row (omega arith) h (rises-T k a) (a ∙ sym b) (x ∙ sym y) in omega arith)
 
   step : (i row : ℕ) → row < rows t → cond (fixes t i row) (pos (field t row 2)) (heldBy t row i) ≡ heldBy t (row + 1) i
   step i row h = go (fixes t i row) refl
@@ -106,25 +134,31 @@ module _ {t : List ℕ} (d : Deck t) where
   hold-start f m row em ef ew = record {
     inside = omega (arith, d .all);
     so-far = ef ∙ ap (λ (k : ℕ). table k (λ i. negsuc 0)) em
-        ∙ table-ext (nodes t) (λ i. negsuc 0) (heldBy t row) (λ i h. sym (ap (λ (b : Bool). cond b (pos (sumN row (values t i))) (negsuc 0)) (any-none row (fixes t i) (λ k l. before i k (omega arith)))));
+        ∙ table-ext (nodes t) (λ i. negsuc 0) (heldBy t row) (λ i h. sym (ap (λ (b : Bool). cond b (pos (sumN row (values t i))) (negsuc 0)) (any-none row (fixes t i) (λ k l. outside i k (omega (arith, d .all)) (λ (a, b). omega arith)))));
   }
 
   module _ {f : List ℤ} {row : ℕ} (w : HoldInv t f row) where
     pub held-long : length f ≡ nodes t
     held-long = ap length (w .so-far) ∙ table-length (nodes t) (heldBy t row)
 
-    pub hold-room : row < rows t → AtRow t f row
+    pub hold-room : suc row < rows t → AtRow t f row
     hold-room h = record { each = record { deck = d; long = held-long }; inside = h }
 
-    pub hold-next : row < rows t → {s : List ℤ} → s ≡ table (nodes t) (after t f row) → HoldInv t s (row + 1)
+    pub hold-next : suc row < rows t → {s : List ℤ} → s ≡ table (nodes t) (after t f row) → HoldInv t s (row + 1)
     hold-next h {s} e = record {
       inside = omega arith;
-      so-far = e ∙ table-ext (nodes t) (after t f row) (heldBy t (row + 1)) (λ i l. ap (λ (z : ℤ). cond (fixes t i row) (pos (field t row 2)) z) (ap (λ (x : List ℤ). cell x i) (w .so-far) ∙ table-at (nodes t) i (heldBy t row) l) ∙ step i row h);
+      so-far = e ∙ table-ext (nodes t) (after t f row) (heldBy t (row + 1)) (λ i l. ap (λ (z : ℤ). cond (fixes t i row) (pos (field t row 2)) z) (ap (λ (x : List ℤ). cell x i) (w .so-far) ∙ table-at (nodes t) i (heldBy t row) l) ∙ step i row (omega arith));
     }
 
-    pub hold-end : rows t ≤ row → f ≡ table (nodes t) (held t)
+    -- Z, the last row, holds none
+    pub hold-end : rows t ≤ suc row → f ≡ table (nodes t) (held t)
     unfolding held fixed
-    hold-end h = let e : row ≡ rows t = omega (arith, w .inside) in w .so-far ∙ ap (λ (k : ℕ). table (nodes t) (heldBy t k)) e
+    hold-end h =
+        let e : row + 1 ≡ rows t = omega (arith, w .inside) in
+        w .so-far
+        ∙ table-ext (nodes t) (heldBy t row) _ (λ i l.
+        sym (ap (λ (b : Bool). cond b (pos (field t row 2)) (heldBy t row i)) (outside i row (omega (arith, w .inside)) (λ (a, b). omega arith)))
+        ∙ step i row (omega (arith, w .inside)) ∙ ap (λ (k : ℕ). heldBy t k i) e)
 
 -- ---- the size of what a node is held at
 
@@ -137,14 +171,14 @@ held-once t d i =
     each k l = go (fixes t i k) refl
       where
         go : (b : Bool) → fixes t i k ≡ b → cond (fixes t i k) (field t k 2) 0 ≤ cond (fixes t i k) top 0
-        go true p = rw p (d .heldT k l (fixes-told d i k p .0))
+        go true p = rw p (held-in t d k l (kind-T d k (fixes-told d i k p .0)) .1)
         go false p = rw p (omega arith)
 
     only : (a b : ℕ) → a < rows t → b < rows t → fixes t i a ≡ true → fixes t i b ≡ true → a ≡ b
     only a b l m p q =
         let (x, u) = fixes-told d i a p in
         let (y, w) = fixes-told d i b q in
-        d .once a b l m (hold x) (x ∙ sym y) (u ∙ sym w)
+        once t d a b l m (rises-T d a x) (x ∙ sym y) (u ∙ sym w)
 
 pub held-size : (t : List ℕ) → Deck t → (i : ℕ) → natAbs (held t i) ≤ 2 ^ 25
 unfolding held

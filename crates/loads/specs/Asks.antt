@@ -1,6 +1,6 @@
--- What the walks ask: a row of a judged deck, and a list of its nodes' numbers.
+-- What the walks ask: a row of a judged deck before Z, and a list of its nodes' numbers.
 use mathlib.Core.Path.{_≡_}
-use mathlib.Core.List.{List, map}
+use mathlib.Core.List.{List}
 use mathlib.Core.Bool.{cond}
 use Prim.Native.Nat.{ℕ, suc, _^_, _≤_, _<_}
 use lib.Dec.{eqb}
@@ -8,9 +8,8 @@ use lib.IntN.{ℤ, pos, natAbs, _+ℤ_}
 use lib.ListN.{length, getD}
 use Rattle.whole.specs.Packed.{cell}
 use Rattle.paper.specs.Cards.{rows, nodes}
-use Rattle.paper.specs.declared.Node.{Node}
-use Rattle.paper.specs.declared.Kind.the-variants.{H, F}
-use Rattle.paper.proofs.Decks.{Deck, Is}
+use Rattle.paper.proofs.Decks.{Deck}
+use Rattle.paper.proofs.Spans.{Inside}
 
 -- a number for each node
 pub record Each (t : List ℕ) (r : List ℤ) : Type 0 where
@@ -19,20 +18,12 @@ pub record Each (t : List ℕ) (r : List ℤ) : Type 0 where
 
 pub record AtRow (t : List ℕ) (r : List ℤ) (row : ℕ) : Type 0 where
   pub each : Each t r
-  pub inside : row < rows t
+  pub inside : suc row < rows t
 
 -- and none of them is large
 pub record Room (t : List ℕ) (r : List ℤ) (row : ℕ) : Type 0 where
   pub here : AtRow t r row
   pub small : (i : ℕ) → i < nodes t → natAbs (cell r i) ≤ 2 ^ 57
-
-pub record HeatCard (t : List ℕ) (r : List ℤ) (row : ℕ) : Type 0 where
-  pub room : Room t r row
-  pub isH : Is H t row
-
-pub record FilmCard (t : List ℕ) (r : List ℤ) (row : ℕ) : Type 0 where
-  pub room : Room t r row
-  pub isF : Is F t row
 
 -- v more at node k
 abbrev pub plusAt : List ℤ → ℕ → ℕ → ℕ → ℤ
@@ -44,12 +35,9 @@ pub record Corner (r : List ℤ) (k v : ℕ) : Type 0 where
   pub share-small : v ≤ 2 ^ 46
   pub small : (i : ℕ) → i < length r → natAbs (cell r i) ≤ 2 ^ 58
 
--- the numbers of three nodes
-abbrev pub numbers : List Node → List ℕ
-numbers ns = map (λ (n : Node). n .0) ns
-
-pub record Corners (r : List ℤ) (ns : List ℕ) (v : ℕ) : Type 0 where
-  pub least : (a : ℕ) → a < 3 → 1 ≤ getD ns a 0
-  pub most : (a : ℕ) → a < 3 → getD ns a 0 ≤ length r
-  pub share-small : v ≤ 2 ^ 46
+-- and at each of these its share
+pub record Spread (r : List ℤ) (ns vs : List ℕ) : Type 0 where
+  pub few : length ns ≤ 3
+  pub inside : Inside (length r) ns
+  pub share-small : (a : ℕ) → a < 3 → getD vs a 0 ≤ 2 ^ 46
   pub small : (i : ℕ) → i < length r → natAbs (cell r i) ≤ 2 ^ 57

@@ -1,19 +1,23 @@
-// What the H, F and T cards of a judged deck say of each node: its loads, and the temperature that it is held at.
-use paper::Element;
+// What the cards of a judged deck say of each node: its loads, and the temperature that it is held at.
+use paper::Kind;
 use paper::Node;
-use triangle::Shape;
+use paper::Ticks;
+use part::Corners;
 ghost use mathlib.Core.Path.{_≡_};
 ghost use mathlib.Core.Bool.{cond};
-ghost use Prim.Native.Nat.{_+_, _<_};
+ghost use Prim.Native.Nat.{_+_};
 ghost use lib.IntN.{pos, _+ℤ_};
-ghost use lib.ListN.{length};
+ghost use lib.ListN.{length, getD, replicate};
 ghost use Rattle.whole.specs.Sums.{table as list};
 ghost use Rattle.whole.specs.Packed.{cell};
-ghost use Rattle.paper.specs.Cards.{field, rows, nodes, materials, elements};
-ghost use Rattle.paper.specs.Matrices.{named, share, addsLoad, loadOf, fixes, held};
-ghost use Rattle.paper.proofs.Decks.{Deck, In};
-ghost use Rattle.triangle.specs.Forms.{shapeOf};
-ghost use Rattle.loads.specs.Asks.{Each, AtRow, Room, HeatCard, FilmCard, Corner, plusAt, numbers, Corners};
+ghost use Rattle.paper.specs.Cards.{field, nodes, materials, elements};
+ghost use Rattle.paper.specs.Corners.{share};
+ghost use Rattle.paper.specs.Parts.{partAt};
+ghost use Rattle.paper.specs.Matrices.{addsLoad, loadOf, fixes, held};
+ghost use Rattle.paper.proofs.Decks.{Deck};
+ghost use Rattle.part.specs.Forms.{cornersOf};
+ghost use Rattle.part.specs.Asks.{Full};
+ghost use Rattle.loads.specs.Asks.{Each, AtRow, Room, Corner, plusAt, Spread};
 
 // The row of the first card after the elements.
 fn first_row(table: &[u32]) -> usize
@@ -36,69 +40,38 @@ fn add(r: &mut [i64], node: Node, v: u64)
     r[k] = sum;
 }
 
-// v more at each of three corners, of which some may be the same.
-fn spread(r: &mut [i64], ns: [Node; 3], v: u64)
-    requires { ⌜ Corners (now r) (numbers ns) v ⌝ }
-    ensures { λ _. ⌜ now (r .exit) ≡ list (length (now (r .entry))) (λ i. cell (now (r .entry)) i +ℤ share 3 (numbers ns) (λ a. pos v) i) ⌝ }
+// At each corner its share; some corners may be the same.
+fn spread(r: &mut [i64], c: Corners, shares: [u64; 3])
+    requires { ⌜ Full c × Spread (now r) (cornersOf c) shares ⌝ }
+    ensures { λ _. ⌜ now (r .exit) ≡ list (length (now (r .entry))) (λ i. cell (now (r .entry)) i +ℤ share (cornersOf c) (λ a. pos (getD shares a 0)) i) ⌝ }
 {
-    add(&mut r[..], ns[0], v);
-    add(&mut r[..], ns[1], v);
-    add(&mut r[..], ns[2], v);
+    let nodes = c.nodes;
+    let mut a = 0;
+    while a < c.count {
+        add(&mut r[..], nodes[a], shares[a]);
+        a += 1;
+    }
 }
 
-// The shape of the element that an H or F card names.
-fn named(table: &[u32], row: usize) -> Shape
-    requires { ⌜ Deck (now table) × (row < rows (now table)) × In 1 (elements (now table)) (field (now table) row 1) ⌝ }
-    ensures { λ r. ⌜ shapeOf r ≡ named (now (table .entry)) row ⌝ }
-{
-    let e = Element(element::field(table, row, 1) as u8);
-    element::shape_at(table, element::element_row(table, e))
-}
-
-fn add_heat(table: &[u32], r: &mut [i64], row: usize)
-    requires { ⌜ HeatCard (now table) (now r) row ⌝ }
-    ensures { λ _. ⌜ now (r .exit) ≡ list (nodes (now (table .entry))) (λ i. cell (now (r .entry)) i +ℤ addsLoad (now (table .entry)) row i) ⌝ }
-{
-    let s = named(table, row);
-    let v = triangle::heat_load(element::field(table, row, 2));
-    let ns = s.corners;
-    spread(&mut r[..], ns, v);
-}
-
-fn add_film(table: &[u32], r: &mut [i64], row: usize)
-    requires { ⌜ FilmCard (now table) (now r) row ⌝ }
-    ensures { λ _. ⌜ now (r .exit) ≡ list (nodes (now (table .entry))) (λ i. cell (now (r .entry)) i +ℤ addsLoad (now (table .entry)) row i) ⌝ }
-{
-    let s = named(table, row);
-    let film = element::field(table, row, 2);
-    let v = triangle::film_load(film, element::field(table, row, 3), s);
-    let ns = s.corners;
-    spread(&mut r[..], ns, v);
-}
-
-// What the card in a row adds, by its letter.
+// What the card in a row adds.
 fn add_card(table: &[u32], r: &mut [i64], row: usize)
     requires { ⌜ Room (now table) (now r) row ⌝ }
-    ensures { λ _. ⌜ now (r .exit) ≡ list (nodes (now (table .entry))) (λ i. cell (now (r .entry)) i +ℤ addsLoad (now (table .entry)) row i) ⌝ }
+    ensures { λ _. ⌜ now (r .exit) ≡ list (nodes (now (table .entry))) (λ i. cell (now (r .entry)) i +ℤ addsLoad (partAt (now (table .entry)) row) i) ⌝ }
 {
-    let letter = element::field(table, row, 0);
-    if letter == 72 {
-        add_heat(table, &mut r[..], row);
-        return;
-    }
-    if letter == 70 {
-        add_film(table, &mut r[..], row);
-    }
+    let card = element::card_at(table, row);
+    let corners = part::corners_of(table, card);
+    let shares = part::shares(table, card);
+    spread(&mut r[..], corners, shares);
 }
 
-// The loads of each node, in place of whatever r held.
+// The loads of each node, in place of whatever r held. Z adds none.
 pub fn loads(table: &[u32], r: &mut [i64])
     requires { ⌜ Each (now table) (now r) ⌝ }
     ensures { λ _. ⌜ now (r .exit) ≡ list (nodes (now (table .entry))) (loadOf (now (table .entry))) ⌝ }
 {
     whole::slices::fill(&mut r[..], 0);
     let mut row = first_row(table);
-    let end = table.len() / 6;
+    let end = table.len() / 6 - 1;
     while row < end {
         add_card(table, &mut r[..], row);
         row += 1;
@@ -108,27 +81,39 @@ pub fn loads(table: &[u32], r: &mut [i64])
 // ---- fixed nodes
 
 // The temperature of the card in a row, if it is a T, at its node.
-fn hold(table: &[u32], f: &mut [i64], row: usize)
+fn hold(table: &[u32], f: &mut [i32], row: usize)
     requires { ⌜ AtRow (now table) (now f) row ⌝ }
     ensures { λ _. ⌜ now (f .exit) ≡ list (nodes (now (table .entry))) (λ i. cond (fixes (now (table .entry)) i row) (pos (field (now (table .entry)) row 2)) (cell (now (f .entry)) i)) ⌝ }
 {
-    if element::field(table, row, 0) != 84 {
+    let t = kinds::about(Kind::T);
+    if element::field(table, row, 0) != t.letter {
         return;
     }
-    let node = Node(element::field(table, row, 1) as u8);
+    let node = element::node(element::field(table, row, 1));
     let k = element::node_row(node) - 1;
-    let v = element::field(table, row, 2) as i64;
+    let held = Ticks(element::field(table, row, 2));
+    let v = held.0 as i32;
     f[k] = v;
 }
 
+fn fill(f: &mut [i32], v: i32)
+    ensures { λ _. ⌜ now (f .exit) ≡ replicate (length (now (f .entry))) v ⌝ }
+{
+    let mut i = 0;
+    while i < f.len() {
+        f[i] = v;
+        i += 1;
+    }
+}
+
 // The temperature that each node is held at, -1 where it is free.
-pub fn fixed(table: &[u32], f: &mut [i64])
+pub fn fixed(table: &[u32], f: &mut [i32])
     requires { ⌜ Each (now table) (now f) ⌝ }
     ensures { λ _. ⌜ now (f .exit) ≡ list (nodes (now (table .entry))) (held (now (table .entry))) ⌝ }
 {
-    whole::slices::fill(&mut f[..], -1);
+    fill(&mut f[..], -1);
     let mut row = first_row(table);
-    let end = table.len() / 6;
+    let end = table.len() / 6 - 1;
     while row < end {
         hold(table, &mut f[..], row);
         row += 1;

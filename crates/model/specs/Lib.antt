@@ -1,2 +1,2 @@
--- What the stages of build and replace ask of each other.
+-- What an accepted replacement asks.
 pub mod Asks

@@ -1,33 +1,24 @@
--- A number added at a place, and a square of them: what `add_at` asks and gives.
+-- A square added by rows: what the loops hold, ask and give.
 use mathlib.Core.Path.{_≡_, refl, sym, ap, subst, _∙_}
-use mathlib.Core.List.{List, [], _∷_}
-use Prim.Native.Nat.{ℕ, zero, suc, _+_, _-_, _^_, _≤_, _<_}
+use mathlib.Core.List.{List}
+use Prim.Native.Nat.{ℕ, zero, suc, _+_, _-_, _*_, _^_, _≤_, _<_}
+use native.Mathlib.Numerals.{add-one}
 use native.Mathlib.Decide.{ℕ-discrete, decLt}
 use native.Mathlib.Omega.{arith}
 use lib.Dec.{lit<}
 use lib.IntN.{ℤ, pos, natAbs, _+ℤ_}
-use lib.ListN.{length, getD, set, length-set}
+use lib.ListN.{length, getD, set}
 use lib.Seq.{getD-set-same, getD-set-other, set-out}
-use Rattle.whole.specs.Packed.{tri, cell, place, entry, lower}
+use Rattle.whole.specs.Packed.{tri, cell, place, entry}
 use Rattle.whole.proofs.Signs.{natAbs-plus}
 use Rattle.whole.proofs.Calc.{rd, num, size-of}
-use Rattle.whole.proofs.Packed.{tri-below, place-in, add}
-use Rattle.paper.specs.Matrices.{spread}
+use Rattle.whole.proofs.Packed.{place-in, add}
 use Rattle.paper.specs.declared.Node.{Node}
-use Rattle.paper.proofs.Places.{cornerRow, Corners, addRow, addSquare, add-square}
-use Rattle.triangle.specs.Forms.{at}
+use Rattle.paper.proofs.Places.{cornerRow, addRow, addSquare, length-row, length-square}
+use Rattle.triangle.specs.Forms.{numbers, at}
 use Rattle.triangle.specs.Asks.{Small}
-use Rattle.packed.specs.Forms.{numbers}
-use Rattle.packed.specs.Asks.{Bounded, AddsAt, Adds, Takes}
-
--- corner k's number, as code reads it
-abbrev pub nth : List Node → ℕ → ℕ
-nth c k = (getD c k (record { 0 = 0 })) .0
-
-pub nth-is : (c : List Node) (k : ℕ) → getD (numbers c) k 0 ≡ nth c k
-nth-is [] k = refl
-nth-is (x ∷ c) zero = refl
-nth-is (x ∷ c) (suc k) = nth-is c k
+use Rattle.part.proofs.Leasts.{nth, nth-is}
+use Rattle.packed.specs.Asks.{Bounded, AddsAt, AddsRow, Takes}
 
 -- ---- sizes
 
@@ -39,68 +30,109 @@ set-size xs p b w h l k = go (ℕ-discrete k p) (decLt p (length xs))
     go (yes e) (no m) = let m′ : p < length xs → ⊥ = m in rw (set-out xs p w (omega arith)) (h k)
     go (no n) m = rw (getD-set-other xs p k w (pos 0) n) (h k)
 
-pub add-size : (xs : List ℤ) (i j b : ℕ) (v : ℤ) → Bounded b xs → natAbs v ≤ 2 ^ 52 → Bounded (b + 2 ^ 52) (add xs i j v)
+add-size : (xs : List ℤ) (i j b : ℕ) (v : ℤ) → Bounded b xs → natAbs v ≤ 2 ^ 52 → Bounded (b + 2 ^ 52) (add xs i j v)
 add-size xs i j b v h l = record {
   each = set-size xs (place i j) (b + 2 ^ 52) (entry xs i j +ℤ v) (λ k. omega (arith, h .each k)) (omega (arith, natAbs-plus (entry xs i j) v, h .each (place i j)));
 }
 
-pub two-size : (b : ℕ) (xs : List ℤ) (ns : List ℕ) (q : List (List ℤ)) → Bounded b xs → Small (2 ^ 52) q → Bounded (b + 2 ^ 52 + 2 ^ 52 + 2 ^ 52) (addSquare 2 xs ns (at q))
-unfolding addSquare addRow
-two-size b xs ns q h s =
-    add-size _ _ _ (b + 2 ^ 52 + 2 ^ 52) (at q 1 1) (add-size _ _ _ (b + 2 ^ 52) (at q 1 0) (add-size xs _ _ b (at q 0 0) h (s .each 0 0)) (s .each 1 0)) (s .each 1 1)
+row-size : (k : ℕ) (b : ℕ) (xs : List ℤ) (ns : List ℕ) (q : List (List ℤ)) (a : ℕ) → Bounded b xs → Small (2 ^ 52) q → Bounded (b + k * 2 ^ 52) (addRow k xs ns (at q) a)
+unfolding addRow
+row-size zero b xs ns q a h s = record { each = λ p. omega (arith, h .each p) }
+row-size (suc k) b xs ns q a h s =
+    let more = add-size (addRow k xs ns (at q) a) (cornerRow ns a) (cornerRow ns k) (b + k * 2 ^ 52) (at q a k) (row-size k b xs ns q a h s) (s .each a k) in
+    record { each = λ p. omega (arith, more .each p) }
 
--- ---- one place
+square-size : (n : ℕ) (b : ℕ) (xs : List ℤ) (ns : List ℕ) (q : List (List ℤ)) → Bounded b xs → Small (2 ^ 52) q → Bounded (b + tri n * 2 ^ 52) (addSquare n xs ns (at q))
+unfolding addSquare tri
+square-size zero b xs ns q h s = record { each = λ p. omega (arith, h .each p) }
+square-size (suc n) b xs ns q h s =
+    let more = row-size (suc n) (b + tri n * 2 ^ 52) (addSquare n xs ns (at q)) ns q n (square-size n b xs ns q h s) s in
+    record { each = λ p. omega (arith, more .each p) }
 
--- a slice of n rows whose numbers are at most b
-pub record Made (n b : ℕ) (xs : List ℤ) : Type 0 where
-  pub long : length xs ≡ tri n
-  pub small : Bounded b xs
+-- ---- a row
 
-pub made-first : {b : ℕ} {xs : List ℤ} {ns : List ℕ} {q : List (List ℤ)} (h : Adds b xs ns q) → Made (h .n) b xs
-made-first h = record { long = h .long; small = h .small }
+-- its first b places are added
+pub record Row (xs₀ : List ℤ) (c : List Node) (q : List (List ℤ)) (a : ℕ) (xs : List ℤ) (b : ℕ) : Type 0 where
+  pub within : b ≤ suc a
+  pub is : xs ≡ addRow b xs₀ (numbers c) (at q) a
 
--- as `add_at` leaves it, v read back from its bits
-pub made-next : {n b : ℕ} {xs ys : List ℤ} (i j : ℕ) (v : ℤ) → Made n b xs → natAbs v ≤ 2 ^ 52 → ys ≡ add xs i j (rd v) → Made n (b + 2 ^ 52) ys
-made-next {n} {b} {xs} i j v m h e =
-    subst (Made n (b + 2 ^ 52)) (sym e) (record {
-      long = length-set xs (place i j) (entry xs i j +ℤ rd v) ∙ m .long;
-      small = add-size xs i j b (rd v) (m .small) (size-of (num v h (lit< tt)));
-    })
+pub row-start : (xs : List ℤ) (c : List Node) (q : List (List ℤ)) (a : ℕ) → Row xs c q a xs 0
+unfolding addRow
+row-start xs c q a = record { within = omega arith; is = refl }
 
--- what `add_at` asks
-pub asks : {b n : ℕ} {xs : List ℤ} (c : List Node) (i j : ℕ) (v : ℤ) → Made n b xs → n ≤ 96 → Corners 3 n (numbers c) → i < 3 → j < 3 → natAbs v ≤ 2 ^ 52 → b ≤ 2 ^ 56
-    → AddsAt xs (nth c i) (nth c j) × (natAbs (rd v) ≤ 2 ^ 52)
-asks {b} {n} {xs} c i j v m few k hi hj h l = (
-  record {
-    inA = (omega (arith, nth-is c i, k .inside i hi), omega (arith, nth-is c i, k .inside i hi));
-    inB = (omega (arith, nth-is c j, k .inside j hj), omega (arith, nth-is c j, k .inside j hj));
-    inside = omega (arith, m .long, place-in (nth c i - 1) (nth c j - 1) n (omega (arith, nth-is c i, k .inside i hi)) (omega (arith, nth-is c j, k .inside j hj)));
-    small = record { each = λ p. omega (arith, m .small .each p) };
-  },
-  size-of (num v h (lit< tt)),
-)
+module _ {xs₀ : List ℤ} {c : List Node} {q : List (List ℤ)} {a : ℕ} (h : AddsRow xs₀ (numbers c) q a) {xs : List ℤ} {b : ℕ} (r : Row xs₀ c q a xs b) where
+  pub row-long : length xs ≡ length xs₀
+  row-long = ap length (r .is) ∙ length-row b xs₀ (numbers c) (at q) a
 
--- and gives
-pub gives : {xs xs′ ys : List ℤ} (c : List Node) (i j : ℕ) (v : ℤ) → natAbs v ≤ 2 ^ 52 → ys ≡ add xs (nth c i - 1) (nth c j - 1) (rd v) → xs ≡ xs′ → ys ≡ add xs′ (cornerRow (numbers c) i) (cornerRow (numbers c) j) v
-gives c i j v h e q = e ∙ (λ d. add (q d) (sym (nth-is c i) d - 1) (sym (nth-is c j) d - 1) (num v h (lit< tt) .eq d))
+  row-bound : Bounded (8 * 2 ^ 52 + b * 2 ^ 52) xs
+  row-bound = subst (Bounded (8 * 2 ^ 52 + b * 2 ^ 52)) (sym (r .is)) (row-size b (8 * 2 ^ 52) xs₀ (numbers c) q a (h .small) (h .square))
 
--- ---- six places
+  pub row-asks : b ≤ a → AddsAt xs (nth c a) (nth c b) × (natAbs (rd (at q a b)) ≤ 2 ^ 52)
+  row-asks l =
+      let (la, ha) = h .corners a (omega arith) in
+      let (lb, hb) = h .corners b l in
+      let ea = nth-is c a in
+      let eb = nth-is c b in (
+        record {
+          inA = (omega (arith, h .few), omega (arith, h .few));
+          inB = (omega (arith, h .few), omega (arith, h .few));
+          inside = omega (arith, row-long, h .long, place-in (nth c a - 1) (nth c b - 1) (h .m) (omega arith) (omega arith));
+          small = record { each = λ p. omega (arith, row-bound .each p, h .last) };
+        },
+        size-of (num (at q a b) (h .square .each a b) (lit< tt)),
+      )
 
-tri-same : (n m : ℕ) → tri n ≡ tri m → n ≡ m
-tri-same n m e = go (ℕ-discrete n m) (decLt n m)
-  where
-    go : Dec (n ≡ m) → Dec (n < m) → n ≡ m
-    go (yes q) l = q
-    go (no q) (yes l) = absurd (omega (arith, tri-below n m l))
-    go (no q) (no l) =
-        let q′ : n ≡ m → ⊥ = q in
-        let l′ : n < m → ⊥ = l in
-        absurd (omega (arith, tri-below m n (omega arith)))
+  pub row-next : {ys : List ℤ} → b ≤ a → ys ≡ add xs (nth c a - 1) (nth c b - 1) (rd (at q a b)) → Row xs₀ c q a ys (b + 1)
+  unfolding addRow
+  row-next {ys} l e =
+      let step : ys ≡ addRow (suc b) xs₀ (numbers c) (at q) a = e ∙ (λ d. add (r .is d) (sym (nth-is c a) d - 1) (sym (nth-is c b) d - 1) (num (at q a b) (h .square .each a b) (lit< tt) .eq d)) in
+      record { within = omega arith; is = subst (λ (k : ℕ). ys ≡ addRow k xs₀ (numbers c) (at q) a) (sym (add-one b)) step }
 
-pub six : {xs ys zs : List ℤ} (ns : List ℕ) (q : List (List ℤ)) → Takes xs ns q → ys ≡ addSquare 2 xs ns (at q) → zs ≡ addRow 3 ys ns (at q) 2
-    → (n : ℕ) → length xs ≡ tri n → zs ≡ lower n (λ i j. entry xs i j +ℤ spread 3 ns (at q) i j)
+  pub row-end : a < b → xs ≡ addRow (suc a) xs₀ (numbers c) (at q) a
+  row-end l = let e : b ≡ suc a = omega (arith, r .within) in r .is ∙ ap (λ (k : ℕ). addRow k xs₀ (numbers c) (at q) a) e
+
+-- ---- a square
+
+-- its first a rows are added
+pub record Square (n : ℕ) (xs₀ : List ℤ) (c : List Node) (q : List (List ℤ)) (xs : List ℤ) (a : ℕ) : Type 0 where
+  pub within : a ≤ n
+  pub is : xs ≡ addSquare a xs₀ (numbers c) (at q)
+
+pub square-start : (n : ℕ) (xs : List ℤ) (c : List Node) (q : List (List ℤ)) → Square n xs c q xs 0
 unfolding addSquare
-six {xs} ns q h e₁ e₂ n long =
-    let same = tri-same (h .adds .n) n (sym (h .adds .long) ∙ long) in
-    let three : Corners 3 n ns = subst (λ (m : ℕ). Corners 3 m ns) same (h .adds .corners) in
-    e₂ ∙ ap (λ (l : List ℤ). addRow 3 l ns (at q) 2) e₁ ∙ add-square 3 n ns (at q) xs three (h .same) long
+square-start n xs c q = record { within = omega arith; is = refl }
+
+-- before its last row a square over three corners has three places
+few-places : (a : ℕ) → a ≤ 2 → tri a ≤ 3
+unfolding tri
+few-places zero h = omega arith
+few-places (suc zero) h = omega arith
+few-places (suc (suc zero)) h = omega arith
+few-places (suc (suc (suc a))) h = absurd (omega arith)
+
+module _ {n : ℕ} {xs₀ : List ℤ} {c : List Node} {q : List (List ℤ)} (h : Takes n xs₀ (numbers c) q) {xs : List ℤ} {a : ℕ} (r : Square n xs₀ c q xs a) where
+  pub square-long : length xs ≡ length xs₀
+  square-long = ap length (r .is) ∙ length-square a xs₀ (numbers c) (at q)
+
+  square-bound : Bounded (2 ^ 52 + tri a * 2 ^ 52) xs
+  square-bound = subst (Bounded (2 ^ 52 + tri a * 2 ^ 52)) (sym (r .is)) (square-size a (2 ^ 52) xs₀ (numbers c) q (h .small) (h .square))
+
+  pub square-asks : a < n → AddsRow xs (numbers c) q a
+  square-asks l = record {
+    m = h .m;
+    few = h .few;
+    long = square-long ∙ h .long;
+    last = omega (arith, h .most);
+    corners = λ k m. h .corners k (omega arith);
+    small = record { each = λ p. omega (arith, square-bound .each p, few-places a (omega (arith, h .most))) };
+    square = h .square;
+  }
+
+  pub square-next : {ys : List ℤ} → a < n → ys ≡ addRow (suc a) xs (numbers c) (at q) a → Square n xs₀ c q ys (a + 1)
+  unfolding addSquare
+  square-next {ys} l e =
+      let step : ys ≡ addSquare (suc a) xs₀ (numbers c) (at q) = e ∙ ap (λ (z : List ℤ). addRow (suc a) z (numbers c) (at q) a) (r .is) in
+      record { within = omega arith; is = subst (λ (k : ℕ). ys ≡ addSquare k xs₀ (numbers c) (at q)) (sym (add-one a)) step }
+
+  pub square-end : n ≤ a → xs ≡ addSquare n xs₀ (numbers c) (at q)
+  square-end l = let e : a ≡ n = omega (arith, r .within) in r .is ∙ ap (λ (k : ℕ). addSquare k xs₀ (numbers c) (at q)) e

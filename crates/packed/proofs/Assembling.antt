@@ -1,97 +1,152 @@
 -- The cards of a deck in turn: each adds its square.
 use mathlib.Core.Path.{_≡_, refl, sym, ap, subst, _∙_}
-use mathlib.Core.List.{List}
-use Prim.Native.Nat.{ℕ, _+_, _^_, _≤_, _<_}
+use mathlib.Core.Bool.{Bool, true, false, cond, _&&_}
+use mathlib.Core.List.{List, []}
+use Prim.Native.Nat.{ℕ, zero, suc, _+_, _-_, _*_, _^_, _≤_, _<_}
 use native.Mathlib.Omega.{arith}
 use lib.IntN.{ℤ, pos, natAbs, _+ℤ_}
-use lib.ListN.{length, replicate}
+use lib.Dec.{eqb}
+use lib.ListN.{length, getD, replicate}
 use Rattle.whole.specs.Sums.{sum}
 use Rattle.whole.specs.Packed.{tri, cell, entry, lower}
-use Rattle.whole.proofs.Signs.{natAbs-plus}
-use Rattle.whole.proofs.Sums.{sum-more}
+use Rattle.whole.proofs.Tests.{never}
+use Rattle.whole.proofs.Sums.{sum-more, sum-none}
 use Rattle.whole.proofs.Packed.{length-lower, lower-at, lower-ext, lower-zeros, lower-size}
-use Rattle.paper.specs.Cards.{field, rows, nodes, elementRow, stepOf}
-use Rattle.paper.specs.Triangle.{shapeAt, triangleAt, S, conductance, mass, u, v}
-use Rattle.paper.specs.Matrices.{spread, named, addsP, addsA}
-use Rattle.paper.specs.declared.Kind.the-variants.{E, F}
-use Rattle.paper.specs.declared.Node.{Node}
-use Rattle.paper.proofs.Decks.{Is}
-use Rattle.paper.proofs.Square.{mass-symmetric}
-use Rattle.paper.proofs.Elements.{sound}
-use Rattle.paper.proofs.Places.{Corners}
-use Rattle.paper.proofs.Adds.{stiff, stiff-symmetric, E-adds-P, E-adds-A, F-adds-A, element-corners}
-use Rattle.triangle.specs.Forms.{at, squareOf}
-use Rattle.triangle.proofs.Sizes.{u-size, v-small, mass-size, conductance-size}
-use Rattle.element.specs.Asks.{ElementCard}
-use Rattle.element.proofs.Ranges.{placed-at, sized-at, step-of, card-of}
-use Rattle.packed.specs.Forms.{numbers}
-use Rattle.packed.specs.Asks.{Takes, Sound, Card}
-use Rattle.packed.proofs.Squares.{takes, spreads}
+use Rattle.paper.specs.Kinds.{about, kindOf, kindAt}
+use Rattle.paper.specs.Cards.{rowAt, letter, rows, nodes, field}
+use Rattle.paper.specs.Corners.{mass, spread}
+use Rattle.paper.specs.Elements.{elementOf}
+use Rattle.paper.specs.Parts.{Part, nothing, loaded, partOf, partFor, partAt}
+use Rattle.paper.specs.Matrices.{addsP, addsA}
+use Rattle.paper.specs.declared.Kind.{Kind}
+use Rattle.paper.specs.declared.Kind.the-variants.{D, N, M, E, H, F, T, Z, Other}
+use Rattle.paper.proofs.Letters.{Body, flat}
+use Rattle.paper.proofs.Decks.{kindIn, Deck}
+use Rattle.paper.proofs.Tables.{row-field}
+use Rattle.paper.proofs.Spans.{part-corners, body-inner, in-loads}
+use Rattle.paper.proofs.Square.{part-sound}
+use Rattle.paper.proofs.Elements.{sound, part-distinct}
+use Rattle.paper.proofs.Places.{addSquare, squareP, squareA, added-P, added-A}
+use Rattle.triangle.specs.Forms.{numbers, at, squareOf}
+use Rattle.triangle.proofs.Sizes.{mass-size}
+use Rattle.part.specs.Forms.{cornersOf, doesBy, does}
+use Rattle.part.specs.Asks.{Card, Solid, Full}
+use Rattle.part.specs.declared.Corners.{Corners}
+use Rattle.part.proofs.Parts.{card-at, stored-size, square-small}
+use Rattle.packed.specs.Asks.{Takes, Sound, Walked}
+use Rattle.packed.proofs.Squares.{takes, gives, unchanged}
 
--- what `add_square` says
-abbrev pub Added : List ℤ → List ℤ → List ℕ → List (List ℤ) → Type 0
-Added xs ys ns q = (n : ℕ) → length xs ≡ tri n → ys ≡ lower n (λ i j. entry xs i j +ℤ spread 3 ns (at q) i j)
+-- ---- the card in a row, as its six numbers
 
-module _ (t : List ℕ) (row : ℕ) (xs : List ℤ) (k : Card t row xs) where
-  pub element : Is E t row → ElementCard t row
-  element e = record { deck = k .sound .deck; inside = k .inside; isE = e }
+pub part-row : (t : List ℕ) (row : ℕ) → partAt t row ≡ partFor t (rowAt t row)
+part-row t row = ap (λ (l : ℕ). partOf t (rowAt t row) (kindOf l)) (sym (row-field t row 0 (omega arith)))
 
-  pub area : Is E t row → 1 ≤ S (shapeAt t row)
-  area e = sound t row (k .sound .deck) (k .sound .passed) (k .inside) e .area
+-- ---- a card that stirs nothing adds nothing
 
-  corners : Is E t row → Corners 3 (nodes t) (shapeAt t row .corners)
-  corners e = element-corners t row (k .sound .deck) (k .inside) e (area e)
+idle : (ns : List ℕ) (q : ℕ → ℤ) (i j : ℕ) → (addsP (loaded ns q) i j ≡ pos 0) × (addsA (loaded ns q) i j ≡ pos 0)
+unfolding addsP addsA spread mass
+idle ns q i j = (
+  sum-none n _ (λ a la. sum-none n _ (λ b lb. nil (eqb (getD ns a 0) (suc i) && eqb (getD ns b 0) (suc j)) (eqb a b))),
+  sum-none n _ (λ a la. sum-none n _ (λ b lb. nil₃ (eqb (getD ns a 0) (suc i) && eqb (getD ns b 0) (suc j)) (eqb a b))),
+)
+  where
+    n : ℕ
+    n = length ns
 
-  -- the element that an F card names
-  pub film-card : Is F t row → ElementCard t (elementRow t (field t row 1))
-  film-card e = card-of t (field t row 1) (k .sound .deck) (k .sound .deck .ofF row (k .inside) e)
+    nil : (t s : Bool) → cond t (cond s (pos (2 * 0)) (pos 0)) (pos 0) ≡ pos 0
+    nil true true = refl
+    nil true false = refl
+    nil false s = refl
 
-  film-corners : Is F t row → Corners 3 (nodes t) (named t row .corners)
-  film-corners e =
-      let r = elementRow t (field t row 1) in
-      let f = film-card e in
-      element-corners t r (f .deck) (f .inside) (f .isE) (sound t r (f .deck) (k .sound .passed) (f .inside) (f .isE) .area)
+    nil₃ : (t s : Bool) → cond t (pos 0 +ℤ cond s (pos (2 * 0)) (pos 0) +ℤ cond s (pos (2 * 0)) (pos 0)) (pos 0) ≡ pos 0
+    nil₃ true true = refl
+    nil₃ true false = refl
+    nil₃ false s = refl
 
-  -- ---- a card's square at its corners, and the slice with what the card adds
-  module _ (c : List Node) (q : List (List ℤ)) where
-    pub p-takes : Is E t row → numbers c ≡ shapeAt t row .corners → q ≡ squareOf (mass (u (stepOf t) (triangleAt t row))) → Takes xs (numbers c) q
-    p-takes e n s =
-        let w = u (stepOf t) (triangleAt t row) in
-        takes t xs c q (shapeAt t row .corners) (mass w) n s (k .sound .deck) (k .long) (k .small) (corners e) (mass-symmetric w)
-        (λ i j h l. omega (arith, mass-size w i j, u-size (stepOf t) (triangleAt t row) (sized-at t row (element e)) (step-of t (k .sound .deck))))
+idle-kind : (t card : List ℕ) (kind : Kind) → partOf t card kind .stirs ≡ false → (i j : ℕ) → (addsP (partOf t card kind) i j ≡ pos 0) × (addsA (partOf t card kind) i j ≡ pos 0)
+unfolding partOf
+idle-kind t card D e = idle [] _
+idle-kind t card N e = idle [] _
+idle-kind t card M e = idle [] _
+idle-kind t card E e = never (sym e)
+idle-kind t card H e = idle _ _
+idle-kind t card F e = never (sym e)
+idle-kind t card T e = idle [] _
+idle-kind t card Z e = idle [] _
+idle-kind t card Other e = idle [] _
 
-    pub p-gives : {ys : List ℤ} → Is E t row → numbers c ≡ shapeAt t row .corners → q ≡ squareOf (mass (u (stepOf t) (triangleAt t row))) → Added xs ys (numbers c) q
-        → ys ≡ lower (nodes t) (λ i j. entry xs i j +ℤ addsP t row i j)
-    p-gives e n s g =
-        g (nodes t) (k .long)
-        ∙ lower-ext (nodes t) _ _ (λ i j a b. ap (λ (z : ℤ). entry xs i j +ℤ z) (spreads t xs c q (shapeAt t row .corners) (mass (u (stepOf t) (triangleAt t row))) n s i j ∙ sym (E-adds-P t row i j e)))
+pub idle-row : (t : List ℕ) (row : ℕ) → partAt t row .stirs ≡ false → (i j : ℕ) → (addsP (partAt t row) i j ≡ pos 0) × (addsA (partAt t row) i j ≡ pos 0)
+idle-row t row = idle-kind t (rowAt t row) (kindIn t row)
 
-    pub e-takes : Is E t row → numbers c ≡ shapeAt t row .corners → q ≡ squareOf (stiff (stepOf t) (triangleAt t row)) → Takes xs (numbers c) q
-    unfolding triangleAt
-    e-takes e n s =
-        let ms = stepOf t in
-        let it = triangleAt t row in
-        let z = sized-at t row (element e) in
-        takes t xs c q (shapeAt t row .corners) (stiff ms it) n s (k .sound .deck) (k .long) (k .small) (corners e) (stiff-symmetric ms it)
-        (λ i j h l. omega (arith, natAbs-plus (conductance it i j) (mass (u ms it) i j), conductance-size it i j z (area e) h l, mass-size (u ms it) i j, u-size ms it z (step-of t (k .sound .deck))))
+-- ---- a card that stirs: it stands before Z, and if it conducts it is an element of some area
 
-    pub e-gives : {ys : List ℤ} → Is E t row → numbers c ≡ shapeAt t row .corners → q ≡ squareOf (stiff (stepOf t) (triangleAt t row)) → Added xs ys (numbers c) q
-        → ys ≡ lower (nodes t) (λ i j. entry xs i j +ℤ addsA t row i j)
-    e-gives e n s g =
-        g (nodes t) (k .long)
-        ∙ lower-ext (nodes t) _ _ (λ i j a b. ap (λ (z : ℤ). entry xs i j +ℤ z) (spreads t xs c q (shapeAt t row .corners) (stiff (stepOf t) (triangleAt t row)) n s i j ∙ sym (E-adds-A t row i j e)))
+module _ (t : List ℕ) (row : ℕ) (d : Deck t) (h : row < rows t) where
+  inner-kind : (kind : Kind) → kindIn t row ≡ kind → partOf t (rowAt t row) kind .stirs ≡ true → suc row < rows t
+  unfolding partOf about
+  inner-kind D e q = never q
+  inner-kind N e q = never q
+  inner-kind M e q = never q
+  inner-kind E e q = body-inner t d row h (flat e)
+  inner-kind H e q = never q
+  inner-kind F e q = in-loads t d row h (rw e) .1
+  inner-kind T e q = never q
+  inner-kind Z e q = never q
+  inner-kind Other e q = never q
 
-    pub f-takes : Is F t row → numbers c ≡ named t row .corners → q ≡ squareOf (mass (v (field t row 2) (named t row))) → Takes xs (numbers c) q
-    f-takes e n s =
-        let w = v (field t row 2) (named t row) in
-        takes t xs c q (named t row .corners) (mass w) n s (k .sound .deck) (k .long) (k .small) (film-corners e) (mass-symmetric w)
-        (λ i j h l. omega (arith, mass-size w i j, v-small (field t row 2) (named t row) (k .sound .deck .filmF row (k .inside) e .1) (placed-at t (elementRow t (field t row 1)) (film-card e))))
+  pub stirring : partAt t row .stirs ≡ true → Card t (rowAt t row)
+  stirring q = card-at t row d (inner-kind (kindIn t row) refl q)
 
-    pub f-gives : {ys : List ℤ} → Is F t row → numbers c ≡ named t row .corners → q ≡ squareOf (mass (v (field t row 2) (named t row))) → Added xs ys (numbers c) q
-        → ys ≡ lower (nodes t) (λ i j. entry xs i j +ℤ addsA t row i j)
-    f-gives e n s g =
-        g (nodes t) (k .long)
-        ∙ lower-ext (nodes t) _ _ (λ i j a b. ap (λ (z : ℤ). entry xs i j +ℤ z) (spreads t xs c q (named t row .corners) (mass (v (field t row 2) (named t row))) n s i j ∙ sym (F-adds-A t row i j e)))
+  conducts-kind : (kind : Kind) → doesBy kind .conducts ≡ true → Body kind
+  unfolding doesBy
+  conducts-kind D q = never q
+  conducts-kind N q = never q
+  conducts-kind M q = never q
+  conducts-kind E q = flat refl
+  conducts-kind H q = never q
+  conducts-kind F q = never q
+  conducts-kind T q = never q
+  conducts-kind Z q = never q
+  conducts-kind Other q = never q
+
+  kind-row : kindAt (rowAt t row) ≡ kindIn t row
+  kind-row = ap kindOf (row-field t row 0 (omega arith))
+
+module _ (t : List ℕ) (row : ℕ) (s : Sound t) (h : row < rows t) where
+  pub solid-row : Solid t (rowAt t row)
+  solid-row = record { some = λ q. sound t row (s .deck) (s .passed) h (subst Body (kind-row t row (s .deck) h) (conducts-kind t row (s .deck) h (kindAt (rowAt t row)) q)) .some }
+
+-- ---- a card's square at its corners, and the slice with what the card adds
+
+module _ (t : List ℕ) (row : ℕ) (xs : List ℤ) (k : Walked t row xs) (q : partAt t row .stirs ≡ true) (c : Corners) (full : Full c) (e : cornersOf c ≡ partFor t (rowAt t row) .corners) where
+  abbrev x : Part
+  x = partAt t row
+
+  at-row : cornersOf c ≡ x .corners
+  at-row = e ∙ ap (λ (y : Part). y .corners) (sym (part-row t row))
+
+  card : Card t (rowAt t row)
+  card = stirring t row (k .sound .deck) (k .inside) q
+
+  module _ (r : List (List ℤ)) where
+    pub a-takes : r ≡ squareOf (squareA (partFor t (rowAt t row))) → Takes (c .count) xs (numbers (c .nodes)) r
+    a-takes s =
+        takes c full (x .corners) at-row r (squareA (partFor t (rowAt t row))) s (nodes t) xs (k .sound .deck .someN .1) (k .long) (k .small) (part-corners t (k .sound .deck) row (k .inside))
+        (λ i j a b. omega (arith, square-small t (rowAt t row) card (solid-row t row (k .sound) (k .inside)) i j a b))
+
+    pub a-gives : {ys : List ℤ} → r ≡ squareOf (squareA (partFor t (rowAt t row))) → ys ≡ addSquare (c .count) xs (numbers (c .nodes)) (at r) → ys ≡ lower (nodes t) (λ i j. entry xs i j +ℤ addsA x i j)
+    a-gives s g =
+        g ∙ gives c full (x .corners) at-row r (squareA x) (s ∙ ap (λ (y : Part). squareOf (squareA y)) (sym (part-row t row))) xs
+        ∙ added-A (nodes t) x xs (part-corners t (k .sound .deck) row (k .inside)) (part-distinct t (k .sound .deck) (k .sound .passed) row (k .inside)) (part-sound t row) (k .long)
+
+    pub p-takes : {w : ℕ} → w ≡ partFor t (rowAt t row) .capacity → r ≡ squareOf (mass w) → Takes (c .count) xs (numbers (c .nodes)) r
+    p-takes {w} z s =
+        takes c full (x .corners) at-row r (mass w) s (nodes t) xs (k .sound .deck .someN .1) (k .long) (k .small) (part-corners t (k .sound .deck) row (k .inside))
+        (λ i j a b. omega (arith, mass-size w i j, z, stored-size t (rowAt t row) card))
+
+    pub p-gives : {ys : List ℤ} {w : ℕ} → w ≡ partFor t (rowAt t row) .capacity → r ≡ squareOf (mass w) → ys ≡ addSquare (c .count) xs (numbers (c .nodes)) (at r) → ys ≡ lower (nodes t) (λ i j. entry xs i j +ℤ addsP x i j)
+    p-gives {ys} {w} z s g =
+        g ∙ gives c full (x .corners) at-row r (squareP x) (s ∙ ap (λ (v : ℕ). squareOf (mass v)) (z ∙ ap (λ (y : Part). y .capacity) (sym (part-row t row)))) xs
+        ∙ added-P (nodes t) x xs (part-corners t (k .sound .deck) row (k .inside)) (part-distinct t (k .sound .deck) (k .sound .passed) row (k .inside)) (part-sound t row) (k .long)
 
 -- ---- the walk over the table: the slice is the sum over the first rows
 
@@ -107,7 +162,7 @@ walk-more n row adds xs ys e g =
     g ∙ lower-ext n _ _ (λ i j a b. (λ d. (ap (λ (l : List ℤ). entry l i j) e ∙ lower-at n i j (λ i j. sum row (λ r. adds r i j)) a b) d +ℤ adds row i j) ∙ sym (sum-more row (λ r. adds r i j)))
 
 -- what a turn asks
-pub walk-card : (t : List ℕ) (adds : ℕ → ℕ → ℕ → ℤ) (row : ℕ) (xs : List ℤ) → Sound t → row < rows t → xs ≡ partly (nodes t) adds row → ((i j : ℕ) → natAbs (sum row (λ r. adds r i j)) ≤ 2 ^ 33) → Card t row xs
+pub walk-card : (t : List ℕ) (adds : ℕ → ℕ → ℕ → ℤ) (row : ℕ) (xs : List ℤ) → Sound t → row < rows t → xs ≡ partly (nodes t) adds row → ((i j : ℕ) → natAbs (sum row (λ r. adds r i j)) ≤ 2 ^ 33) → Walked t row xs
 walk-card t adds row xs s h e b = record {
   sound = s;
   inside = h;

@@ -15,7 +15,9 @@ use Rattle.whole.specs.Sums.{any}
 use Rattle.whole.specs.Packed.{tri, place, entry, lower}
 use Rattle.whole.proofs.Sums.{any-none, any-one}
 use Rattle.whole.proofs.Packed.{place-low, place-swap, place-one, lower-at, lower-ext, lower-eta, lower-set}
+use Rattle.paper.specs.Kinds.{about, letterOf}
 use Rattle.paper.specs.Cards.{field, letter}
+use Rattle.paper.specs.declared.Kind.the-variants.{T}
 use Rattle.paper.specs.Matrices.{fixes, cleared}
 
 -- the places (i, 0), .., (i, j - 1) cleared
@@ -90,8 +92,8 @@ pub clear-other : (n : ℕ) (t : List ℕ) (row : ℕ) (xs : List ℤ) → lengt
 clear-other n t row xs long h = cleared-none n (λ k. fixes t k row) xs long h
 
 -- a T card
-pub clear-T : (n : ℕ) (t : List ℕ) (row : ℕ) (xs : List ℤ) → letter t row ≡ 84 → lower n (cleared (λ k. eqb (field t row 1) (suc k)) (entry xs)) ≡ lower n (cleared (λ k. fixes t k row) (entry xs))
-clear-T n t row xs e = λ d. lower n (cleared (λ k. sym (eq-eqb (letter t row) 84 e) d && eqb (field t row 1) (suc k)) (entry xs))
+pub clear-T : (n : ℕ) (t : List ℕ) (row : ℕ) (xs : List ℤ) → letter t row ≡ letterOf T → lower n (cleared (λ k. eqb (field t row 1) (suc k)) (entry xs)) ≡ lower n (cleared (λ k. fixes t k row) (entry xs))
+clear-T n t row xs e = λ d. lower n (cleared (λ k. sym (eq-eqb (letter t row) (letterOf T) e) d && eqb (field t row 1) (suc k)) (entry xs))
 
 swap4 : (a b x y : Bool) → (a || b) || (x || y) ≡ (a || x) || (b || y)
 swap4 true b x y = refl

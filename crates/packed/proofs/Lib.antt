@@ -3,3 +3,4 @@ pub mod Adding
 pub mod Squares
 mod Assembling
 mod Clearing
+mod Turn

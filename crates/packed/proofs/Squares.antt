@@ -1,39 +1,66 @@
--- A function's square, added at an element's corners: what `add_square` asks of it, and what it gives.
-use mathlib.Core.Path.{_≡_, sym, ap, subst, _∙_}
+-- A part's square at its corners, as code has them: what `add_square` asks of it, and what it gives.
+use mathlib.Core.Path.{_≡_, refl, sym, ap, subst, _∙_}
 use mathlib.Core.List.{List}
-use Prim.Native.Nat.{ℕ, _+_, _^_, _≤_, _<_}
+use Prim.Native.Nat.{ℕ, zero, suc, _+_, _-_, _^_, _≤_, _<_}
+use native.Mathlib.Omega.{arith}
 use lib.IntN.{ℤ, pos, natAbs, _+ℤ_, +ℤ-idr}
-use lib.ListN.{length}
-use Rattle.whole.specs.Packed.{tri, entry, lower}
-use Rattle.whole.proofs.Packed.{lower-ext, lower-eta}
-use Rattle.paper.specs.Cards.{nodes}
-use Rattle.paper.specs.Matrices.{spread}
-use Rattle.paper.specs.declared.Node.{Node}
-use Rattle.paper.proofs.Decks.{Deck}
-use Rattle.paper.proofs.Places.{Corners}
-use Rattle.triangle.specs.Forms.{at, squareOf}
+use lib.ListN.{length, getD, take}
+use lib.Seq.{getD-take}
+use Rattle.whole.specs.Packed.{tri, matrix, entry, lower}
+use Rattle.whole.proofs.Packed.{lower-ext, lower-eta, add}
+use Rattle.paper.proofs.Spans.{Inside, inside-each}
+use Rattle.paper.proofs.Places.{cornerRow, addRow, addSquare}
+use Rattle.triangle.specs.Forms.{numbers, at, squareOf}
 use Rattle.triangle.specs.Asks.{Small}
-use Rattle.triangle.proofs.Squares.{small-square, square-symmetric, spread-square}
-use Rattle.packed.specs.Forms.{numbers}
+use Rattle.triangle.proofs.Squares.{small-square, square-at}
+use Rattle.part.specs.Forms.{cornersOf}
+use Rattle.part.specs.Asks.{Full}
+use Rattle.part.specs.declared.Corners.{Corners}
 use Rattle.packed.specs.Asks.{Bounded, Takes}
 
--- the corners ns as code has them, and f's square
-module _ (t : List ℕ) (xs : List ℤ) (c : List Node) (q : List (List ℤ)) (ns : List ℕ) (f : ℕ → ℕ → ℤ) (e : numbers c ≡ ns) (s : q ≡ squareOf f) where
-  pub takes : Deck t → length xs ≡ tri (nodes t) → Bounded (2 ^ 52) xs → Corners 3 (nodes t) ns → ((a b : ℕ) → f a b ≡ f b a) → ((i j : ℕ) → i < 3 → j < 3 → natAbs (f i j) ≤ 2 ^ 52) → Takes xs (numbers c) q
-  takes d long small three same size = record {
-    adds = record {
-      n = nodes t;
-      few = d .someN .1;
-      long = long;
-      corners = subst (Corners 3 (nodes t)) (sym e) three;
-      small = small;
-      square = subst (Small (2 ^ 52)) (sym s) (small-square (2 ^ 52) f size);
-    };
-    same = subst (λ (p : List (List ℤ)). (a b : ℕ) → at p a b ≡ at p b a) (sym s) (square-symmetric f same);
+-- ---- only the first n corners count, and the first n rows of the square
+
+row-ext : (k : ℕ) (xs : List ℤ) (ns ms : List ℕ) (q r : ℕ → ℕ → ℤ) (a : ℕ) → getD ns a 0 ≡ getD ms a 0 → ((b : ℕ) → b < k → getD ns b 0 ≡ getD ms b 0) → ((b : ℕ) → b < k → q a b ≡ r a b)
+    → addRow k xs ns q a ≡ addRow k xs ms r a
+unfolding addRow
+row-ext zero xs ns ms q r a h e f = refl
+row-ext (suc b) xs ns ms q r a h e f =
+    let below = row-ext b xs ns ms q r a h (λ c l. e c (omega arith)) (λ c l. f c (omega arith)) in
+    λ d. add (below d) (h d - 1) (e b (omega arith) d - 1) (f b (omega arith) d)
+
+pub square-ext : (n : ℕ) (xs : List ℤ) (ns ms : List ℕ) (q r : ℕ → ℕ → ℤ) → ((a : ℕ) → a < n → getD ns a 0 ≡ getD ms a 0) → ((a b : ℕ) → a < n → b < n → q a b ≡ r a b) → addSquare n xs ns q ≡ addSquare n xs ms r
+unfolding addSquare
+square-ext zero xs ns ms q r e f = refl
+square-ext (suc a) xs ns ms q r e f =
+    let above = square-ext a xs ns ms q r (λ c l. e c (omega arith)) (λ c b l k. f c b (omega arith) (omega arith)) in
+    ap (λ (z : List ℤ). addRow (suc a) z ns q a) above
+    ∙ row-ext (suc a) (addSquare a xs ms r) ns ms q r a (e a (omega arith)) (λ b l. e b l) (λ b l. f a b (omega arith) l)
+
+-- ---- the corners ns as code has them, and f's square
+
+module _ (c : Corners) (full : Full c) (ns : List ℕ) (e : cornersOf c ≡ ns) (q : List (List ℤ)) (f : ℕ → ℕ → ℤ) (s : q ≡ squareOf f) where
+  count-is : c .count ≡ length ns
+  count-is = sym (full .full) ∙ ap length e
+
+  corner-at : (a : ℕ) → a < c .count → getD (numbers (c .nodes)) a 0 ≡ getD ns a 0
+  corner-at a l = sym (getD-take (c .count) (numbers (c .nodes)) a 0 l) ∙ ap (λ (z : List ℕ). getD z a 0) e
+
+  pub takes : (m : ℕ) (xs : List ℤ) → m ≤ 96 → length xs ≡ matrix m → Bounded (2 ^ 52) xs → Inside m ns → ((i j : ℕ) → i < 3 → j < 3 → natAbs (f i j) ≤ 2 ^ 52) → Takes (c .count) xs (numbers (c .nodes)) q
+  takes m xs few long small inside size = record {
+    m = m;
+    few = few;
+    long = long;
+    most = full .few;
+    corners = λ k l. rw (corner-at k l) (inside-each m ns inside k (omega (arith, count-is)));
+    small = small;
+    square = subst (Small (2 ^ 52)) (sym s) (small-square (2 ^ 52) f size);
   }
 
-  pub spreads : (i j : ℕ) → spread 3 (numbers c) (at q) i j ≡ spread 3 ns f i j
-  spreads i j = (λ d. spread 3 (e d) (at (s d)) i j) ∙ spread-square ns f i j
+  pub gives : (xs : List ℤ) → addSquare (c .count) xs (numbers (c .nodes)) (at q) ≡ addSquare (length ns) xs ns f
+  gives xs =
+      square-ext (c .count) xs (numbers (c .nodes)) ns (at q) f corner-at
+      (λ a b l k. ap (λ (z : List (List ℤ)). at z a b) s ∙ square-at f a b (omega (arith, full .few)) (omega (arith, full .few)))
+      ∙ ap (λ (n : ℕ). addSquare n xs ns f) count-is
 
 -- a slice to which nothing is added
 pub unchanged : (n : ℕ) (xs : List ℤ) (f : ℕ → ℕ → ℤ) → length xs ≡ tri n → ((i j : ℕ) → f i j ≡ pos 0) → xs ≡ lower n (λ i j. entry xs i j +ℤ f i j)

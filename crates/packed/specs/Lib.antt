@@ -1,3 +1,2 @@
 -- What the functions ask of slices, corners, squares and decks.
-pub mod Forms
 pub mod Asks

@@ -1,25 +1,20 @@
 -- What a build that is accepted says of its slices.
 use mathlib.Core.Path.{_≡_, sym, ap, _∙_}
 use mathlib.Core.List.{List}
-use Prim.Native.Nat.{ℕ, _<_}
+use Prim.Native.Nat.{ℕ}
 use native.Mathlib.Omega.{arith}
 use lib.IntN.{ℤ}
 use lib.ListN.{length}
 use Rattle.whole.specs.Packed.{tri, lower}
 use Rattle.whole.proofs.Packed.{length-lower}
 use Rattle.paper.specs.Refusals.{done}
-use Rattle.paper.specs.Cards.{rows, nodes, elements}
-use Rattle.paper.specs.Triangle.{shapeAt}
+use Rattle.paper.specs.Cards.{nodes, elements}
 use Rattle.paper.specs.Matrices.{P, A, fixed, cleared}
 use Rattle.paper.specs.Factor.{rowsFrom}
 use Rattle.paper.specs.Building.{Slices, elementsFrom, build}
 use Rattle.paper.specs.declared.Answer.the-variants.{Done}
-use Rattle.paper.specs.declared.Kind.the-variants.{E}
 use Rattle.paper.proofs.Outcomes.{after-done, then-done, ends-all, ends-done, done-inj}
-use Rattle.paper.proofs.Decks.{Is, Deck}
 use Rattle.paper.proofs.Update.{Kept, rows-keep}
-use Rattle.paper.proofs.Sizes.{Distinct}
-use Rattle.paper.proofs.Elements.{sound, distinct}
 
 -- A' of a deck
 abbrev pub A′ : List ℕ → ℕ → ℕ → ℤ
@@ -59,7 +54,3 @@ sized t s o =
     let X = lower n (A′ t) in
     let k : Kept 0 X (s .factor) = ends-done (Kept 0 X) (rowsFrom n 0 X) (s .factor) (rows-keep 0 n 0 X (omega arith)) (o .factored) in
     record { longP = ap length (o .isP) ∙ length-lower n (P t); longA = ap length (o .isA) ∙ length-lower n (A t); longF = k .long ∙ length-lower n (A′ t) }
-
--- THEOREM. A deck that builds has no element with equal corners.
-pub three-corners : (t : List ℕ) (s : Slices) (row : ℕ) → Deck t → Own t s → row < rows t → Is E t row → Distinct 3 (shapeAt t row .corners)
-three-corners t s row d o h e = distinct t row (sound t row d (o .passed) h e .area)

@@ -12,9 +12,10 @@ use Rattle.paper.specs.declared.Kind.{Kind}
 use Rattle.paper.specs.declared.Kind.the-variants.{D, N, M, E, H, F, T, Z, Other}
 use Rattle.paper.specs.declared.Field.{Field}
 use Rattle.paper.specs.declared.Field.the-variants.{Number, Malformed}
-use Rattle.paper.specs.Cards.{kindOf, letterOf, order, used, fields}
+use Rattle.paper.specs.Kinds.{about, kindOf, letterOf}
+use Rattle.paper.specs.Cards.{used, columns}
 use Rattle.paper.specs.Text.{number, blank, printed, fieldOf, fieldsFrom, putField, noCard, cardOf, textField, textFrom, textOf}
-use Rattle.paper.proofs.Letters.{letter-of}
+use Rattle.paper.proofs.Letters.{known}
 use Rattle.paper.proofs.Fields.{length-field, number-printed, printed-number, blank-blanks}
 
 -- ---- a card by its tests
@@ -64,8 +65,8 @@ length-textOf card =
     ap suc (length-append (textFrom u card 5 0) (10 ∷ [])) ∙ omega (arith, length-text u card 5 0)
 
 -- ---- a letter that is one of the eight
-used-order : (k : Kind) → (used k ≡ 0 → ⊥) → order k < 8
-unfolding used fields order
+used-order : (k : Kind) → (used k ≡ 0 → ⊥) → about k .order < 8
+unfolding used columns about
 used-order D h = omega arith
 used-order N h = omega arith
 used-order M h = omega arith
@@ -76,8 +77,8 @@ used-order T h = omega arith
 used-order Z h = omega arith
 used-order Other h = absurd (h refl)
 
-known : (c : ℕ) → (used (kindOf c) ≡ 0 → ⊥) → letterOf (kindOf c) ≡ c
-known c h = sym (letter-of c (kindOf c) refl (used-order (kindOf c) h))
+used-letter : (c : ℕ) → (used (kindOf c) ≡ 0 → ⊥) → letterOf (kindOf c) ≡ c
+used-letter c h = known c (used-order (kindOf c) h)
 
 -- ---- printed and read
 
@@ -158,7 +159,7 @@ card-printed card p =
     let c = getD card 0 0 in
     let u = used (kindOf c) in
     let b = textOf card in
-    let l : getD b 0 0 ≡ c = first-is card ∙ known c (p .letter) in
+    let l : getD b 0 0 ≡ c = first-is card ∙ used-letter c (p .letter) in
     let f : (k : ℕ) → k < 5 → fieldOf u b k ≡ Number (getD card (suc k) 0) = λ k h. field-round u b k (getD card (suc k) 0) (piece-of card k h) (p .small k h) (p .unused k h) in
     sym (card-fields b (λ e. p .letter (ap (λ (x : ℕ). used (kindOf x)) (sym l) ∙ e)) (newline card))
     ∙ ap (λ (x : ℕ). fieldsFrom (used (kindOf x)) b 5 0 (x ∷ 0 ∷ 0 ∷ 0 ∷ 0 ∷ 0 ∷ [])) l
@@ -259,7 +260,7 @@ printed-card b h ok =
     let r = fields-read u b l (λ e. ok (ap (λ (s : List ℕ). getD s 0 0) (sym c) ∙ e)) in
     ap textOf (sym c ∙ r .is) ∙ text-six l (r .f0) (r .f1) (r .f2) (r .f3) (r .f4)
     ∙ cc (
-      known l nu,
+      used-letter l nu,
       nl,
       split b h,
       field-back u b 0 (r .f0) (length8 b 1 (omega arith)) (r .e0),

@@ -3,17 +3,21 @@ use mathlib.Core.Path.{_≡_, refl}
 use mathlib.Core.Bool.{Bool, true, false}
 use mathlib.Core.List.{List, [], _∷_, _++_, map}
 use Prim.Native.Nat.{ℕ, _+_, _^_}
-use lib.IntN.{pos}
+use lib.Dec.{eqb}
+use lib.IntN.{pos, natAbs}
 use Rattle.whole.specs.Nearest.{nearestN, nearest}
-use Rattle.whole.specs.Sums.{sum, sumN, any, table}
+use Rattle.whole.specs.Sums.{sum, sumN, any, firstFrom, table}
 use Rattle.whole.specs.Packed.{tri, place, lower}
-use Rattle.paper.specs.Refusals.{Outcome, refused, done, numberOf}
 use Rattle.paper.specs.Cards.{field, nodes, materials, elements}
-use Rattle.paper.specs.Triangle.{shapeAt, triangleAt, b, c, S, square, mass, pair, conductance, u, fair, formJudged, elementJudged}
+use Rattle.paper.specs.Corners.{square, mass, spread, share, shapeOf, area}
+use Rattle.paper.specs.Triangle.{b, c, S, pair, u}
+use Rattle.paper.specs.Elements.{bodyOf, elementOf, fair, formJudged, elementJudged, elementAt}
 use Rattle.paper.specs.Factor.{w, l, rowFrom, rowsFrom}
 use Rattle.paper.specs.Lent.{rowSize, heavy, badRow, noFactor}
+use Rattle.paper.specs.Refusals.{Outcome, refused, done, numberOf}
 use Rattle.paper.specs.declared.Answer.{Answer}
 use Rattle.paper.specs.declared.Answer.the-variants.{Done, Refused}
+use Rattle.paper.proofs.Cases.{same, numbers-told}
 use Rattle.paper.proofs.Checked.{deck, node, element, right}
 
 -- a refusal's number, 0 for none
@@ -25,9 +29,9 @@ abbrev ends : {X : Type 0} → Outcome X → ℕ
 ends (done x) = 0
 ends (refused r) = numberOf r
 
-abbrev told : Bool → ℕ
-told true = 10
-told false = 0
+abbrev foreign : Bool → ℕ
+foreign true = 10
+foreign false = 0
 
 pub record Edge : Type 0 where
   pub passes : ℕ
@@ -45,24 +49,44 @@ thin y = deck 1000 (node 0 y ++ node 50 50 ++ node 100 100) 1 1 (element 1 2 3 1
 abbrev turned : ℕ → List ℕ
 turned last = deck 1000 right 1 1 (element 2 1 last 1) [] 0
 
-abbrev heated : ℕ → List ℕ
-heated capacity = deck 1 right 1000 capacity (element 1 2 3 4000) [] 0
+-- u: of the doubled area 9,600,000 and of 9,600,002
+abbrev full : ℕ → List ℕ
+full x = deck 1 (node 0 0 ++ node 3200 1 ++ node x 3001) 1 1 (element 1 2 3 4000) [] 0
 
--- u alone has no edge at one unit of capacity: the nearest capacities are 960, for 4,000,000, and 961
-abbrev pub edges : List Edge
+-- the conductance of the pair 12: k times y
+abbrev tight : ℕ → ℕ → List ℕ
+tight k y = deck 1000 (node 0 0 ++ node 2 0 ++ node 0 y) k 1 (element 1 2 3 4000) [] 0
+
+-- what limit 6 is of
+abbrev storedIn : List ℕ → ℕ
+storedIn t = elementAt t 5 .stored
+
+abbrev betweenIn : List ℕ → ℕ
+betweenIn t = natAbs (elementAt t 5 .between 1 0)
+
+unfoldable pub edges : List Edge
 edges =
     edge (ends (rowsFrom 1 0 (pos 16 ∷ []))) (ends (rowsFrom 1 0 (pos 15 ∷ []))) 7
     ∷ edge (ends (rowsFrom 1 0 (pos (2 ^ 38) ∷ []))) (ends (rowsFrom 1 0 (pos (2 ^ 38 + 1) ∷ []))) 8
     ∷ edge (ends (rowsFrom 2 0 (pos 16 ∷ pos 256 ∷ pos 5000 ∷ []))) (ends (rowsFrom 2 0 (pos 16 ∷ pos 257 ∷ pos 5000 ∷ []))) 8
     ∷ edge (number (elementJudged (thin 1) 1)) (number (elementJudged (thin 0) 1)) 5
     ∷ edge (number (elementJudged (turned 3) 1)) (number (elementJudged (turned 1) 1)) 5
-    ∷ edge (number (elementJudged (heated 960) 1)) (number (elementJudged (heated 961) 1)) 6
-    ∷ edge (told (heavy 1 (pos (2 ^ 33) ∷ []))) (told (heavy 1 (pos (2 ^ 33 + 1) ∷ []))) 10
-    ∷ edge (told (noFactor 1 (pos 16 ∷ []))) (told (noFactor 1 (pos 15 ∷ []))) 10
-    ∷ edge (told (noFactor 1 (pos (2 ^ 38) ∷ []))) (told (noFactor 1 (pos (2 ^ 38 + 1) ∷ []))) 10
-    ∷ edge (told (noFactor 2 (pos 16 ∷ pos (2 ^ 24) ∷ pos 16 ∷ []))) (told (noFactor 2 (pos 16 ∷ pos (2 ^ 24 + 1) ∷ pos 16 ∷ []))) 10
+    ∷ edge (number (elementJudged (full 3200) 1)) (number (elementJudged (full 3198) 1)) 6
+    ∷ edge (number (elementJudged (tight 100000 40) 1)) (number (elementJudged (tight 97561 41) 1)) 6
+    ∷ edge (foreign (heavy 1 (pos (2 ^ 33) ∷ []))) (foreign (heavy 1 (pos (2 ^ 33 + 1) ∷ []))) 10
+    ∷ edge (foreign (noFactor 1 (pos 16 ∷ []))) (foreign (noFactor 1 (pos 15 ∷ []))) 10
+    ∷ edge (foreign (noFactor 1 (pos (2 ^ 38) ∷ []))) (foreign (noFactor 1 (pos (2 ^ 38 + 1) ∷ []))) 10
+    ∷ edge (foreign (noFactor 2 (pos 16 ∷ pos (2 ^ 24) ∷ pos 16 ∷ []))) (foreign (noFactor 2 (pos 16 ∷ pos (2 ^ 24 + 1) ∷ pos 16 ∷ []))) 10
     ∷ []
 
+run : same (same eqb) (map (λ (e : Edge). e .passes ∷ e .fails ∷ []) edges) (map (λ (e : Edge). 0 ∷ e .number ∷ []) edges) ≡ true
+unfolding edges same nearestN nearest sum sumN any firstFrom table tri place lower field nodes materials elements square mass spread share shapeOf area b c S pair u bodyOf elementOf fair formJudged elementJudged w l rowFrom rowsFrom rowSize heavy badRow noFactor
+run = refl
+
 pub at-the-edges : map (λ (e : Edge). e .passes ∷ e .fails ∷ []) edges ≡ map (λ (e : Edge). 0 ∷ e .number ∷ []) edges
-unfolding nearestN nearest sum sumN any table tri place lower numberOf field nodes materials elements shapeAt triangleAt b c S square mass pair conductance u fair elementJudged formJudged w l rowFrom rowsFrom rowSize heavy badRow noFactor
-at-the-edges = refl
+at-the-edges = numbers-told (map (λ (e : Edge). e .passes ∷ e .fails ∷ []) edges) (map (λ (e : Edge). 0 ∷ e .number ∷ []) edges) run
+
+-- the decks above that limit 6 tells apart have just these values
+pub limit-6 : map storedIn (full 3200 ∷ full 3198 ∷ []) ++ map betweenIn (tight 100000 40 ∷ tight 97561 41 ∷ []) ≡ 4000000 ∷ 4000001 ∷ 4000000 ∷ 4000001 ∷ []
+unfolding nearestN nearest sum sumN any firstFrom table tri place lower field nodes materials elements square mass spread share shapeOf area b c S pair u bodyOf elementOf fair formJudged elementJudged
+limit-6 = refl

@@ -1,121 +1,218 @@
--- One element that passes refusals 5 and 6: its corners are three nodes, and its squares are small.
+-- One element that passes refusals 5 and 6: no two of its corners are the same, and its numbers are small.
 use mathlib.Core.Path.{_≡_, refl, sym, ap, subst, _∙_}
-use mathlib.Core.Bool.{true, _&&_}
-use mathlib.Core.List.{List}
+use mathlib.Core.Bool.{true, not}
+use mathlib.Core.List.{List, [], _∷_, map}
 use Prim.Native.Nat.{ℕ, zero, suc, _+_, _-_, _*_, _/_, _≤_, _<_}
-use native.Mathlib.Nat.{mul-le-mul, mul-zero, div-zero}
-use native.Mathlib.Decide.{ℕ-discrete}
+use native.Mathlib.Nat.{mul-zero, div-zero}
+use native.Mathlib.Decide.{decLt}
 use native.Mathlib.Omega.{arith}
-use borrow.Author.Tests.{leb-true, le-leb}
-use lib.IntN.{ℤ, pos, negℤ, natAbs, _+ℤ_, _-ℤ_, _*ℤ_, +ℤ-invr, zero-*ℤ, *ℤ-zero}
-use lib.ListN.{getD}
+use borrow.Author.Tests.{leb-true, le-leb, not-false, not-true}
+use lib.IntN.{ℤ, pos, natAbs, _+ℤ_, _-ℤ_, _*ℤ_, +ℤ-invr, zero-*ℤ, *ℤ-zero}
+use lib.ListN.{length, getD}
 use Rattle.whole.specs.Nearest.{nearestN}
-use Rattle.whole.specs.Sums.{sum, sumN}
-use Rattle.whole.proofs.Signs.{natAbs-plus, natAbs-minus, natAbs-times, natAbs-neg}
-use Rattle.whole.proofs.Linear.{apart-size}
+use Rattle.whole.specs.Sums.{any}
 use Rattle.whole.proofs.Rounding.{nearest-zero, nearest-size}
+use Rattle.whole.proofs.Sums.{any-each, any-none}
 use Rattle.whole.proofs.Tests.{and-told}
-use Rattle.paper.specs.Cards.{field, rows, nodes, materials, elements, elementRow, stepOf}
-use Rattle.paper.specs.Triangle.{Shape, Triangle, shapeAt, triangleAt, xAt, yAt, b, c, S, square, mass, pair, conductance, u, v, fair, soft, formJudged, elementJudged}
+use Rattle.paper.specs.Kinds.{about}
+use Rattle.paper.specs.Cards.{field, rowAt, rows, nodes, materials, elements, elementRow, stepOf}
+use Rattle.paper.specs.Corners.{Shape, Body, shapeOf, area}
+use Rattle.paper.specs.Triangle.{b, c, S, pair, u}
+use Rattle.paper.specs.Elements.{Element, bodyOf, elementOf, elementAt, soft, fair, formJudged, elementJudged}
+use Rattle.paper.specs.Parts.{namedRow, partOf, partAt}
 use Rattle.paper.specs.Building.{elementsFrom}
 use Rattle.paper.specs.declared.Answer.the-variants.{Done}
 use Rattle.paper.specs.declared.Refusal.the-variants.{Flat, Stiff}
-use Rattle.paper.proofs.Outcomes.{both-done, cond-done}
-use Rattle.paper.proofs.Decks.{Is, Deck}
-use Rattle.paper.specs.declared.Kind.the-variants.{E}
-use Rattle.paper.proofs.Square.{pair-symmetric}
+use Rattle.paper.specs.declared.Kind.{Kind}
+use Rattle.paper.specs.declared.Kind.the-variants.{D, N, M, E, H, F, T, Z, Other}
+use Rattle.paper.proofs.Outcomes.{cond-done}
+use Rattle.paper.proofs.Letters as kinds
+use Rattle.paper.proofs.Tables.{row-field}
+use Rattle.paper.proofs.Decks.{In, kindIn, Deck}
+use Rattle.paper.proofs.Spans.{is-body, in-bodies, names-H, names-F}
+use Rattle.paper.proofs.Square.{between-symmetric}
+use Rattle.paper.proofs.InTurn.{elements-each}
 use Rattle.paper.proofs.Sizes.{Distinct}
 
--- ---- corners of which two are the same make no area
-flat : (x₀ y₀ x₁ y₁ x₂ y₂ : ℤ) → ℕ
-flat x₀ y₀ x₁ y₁ x₂ y₂ = natAbs ((x₁ -ℤ x₀) *ℤ (y₂ -ℤ y₀) -ℤ (x₂ -ℤ x₀) *ℤ (y₁ -ℤ y₀))
+-- ---- two corners at one node lie in one place
 
-flat01 : (x y x₂ y₂ : ℤ) → flat x y x y x₂ y₂ ≡ 0
-unfolding flat
-flat01 x y x₂ y₂ = rw (+ℤ-invr x, +ℤ-invr y, zero-*ℤ (y₂ -ℤ y), *ℤ-zero (x₂ -ℤ x))
+getD-map : (f : ℕ → ℕ) (ns : List ℕ) (a : ℕ) → a < length ns → getD (map f ns) a 0 ≡ f (getD ns a 0)
+getD-map f [] a h = absurd (omega arith)
+getD-map f (n ∷ ns) zero h = refl
+getD-map f (n ∷ ns) (suc a) h = getD-map f ns a (omega arith)
 
-flat02 : (x y x₁ y₁ : ℤ) → flat x y x₁ y₁ x y ≡ 0
-unfolding flat
-flat02 x y x₁ y₁ = rw (+ℤ-invr x, +ℤ-invr y, zero-*ℤ (y₁ -ℤ y), *ℤ-zero (x₁ -ℤ x))
+axis-same : (f : ℕ → ℕ) (ns : List ℕ) (a b : ℕ) → a < length ns → b < length ns → getD ns a 0 ≡ getD ns b 0 → getD (map f ns) a 0 ≡ getD (map f ns) b 0
+axis-same f ns a b ha hb e = getD-map f ns a ha ∙ ap f e ∙ sym (getD-map f ns b hb)
 
-flat12 : (x y x₁ y₁ : ℤ) → flat x y x₁ y₁ x₁ y₁ ≡ 0
-unfolding flat
-flat12 x y x₁ y₁ = rw (+ℤ-invr ((x₁ -ℤ x) *ℤ (y₁ -ℤ y)))
+-- a corner's coordinates
+abbrev Xc : Shape → ℕ → ℤ
+Xc s a = pos (getD (s .xs) a 0)
 
-S-is : (t : List ℕ) (r a b c : ℕ) → field t r 1 ≡ a → field t r 2 ≡ b → field t r 3 ≡ c
-    → S (shapeAt t r) ≡ flat (pos (field t a 1)) (pos (field t a 2)) (pos (field t b 1)) (pos (field t b 2)) (pos (field t c 1)) (pos (field t c 2))
-unfolding S shapeAt flat
-S-is t r a b c ea eb ec = rw (ea, eb, ec)
+abbrev Yc : Shape → ℕ → ℤ
+Yc s a = pos (getD (s .ys) a 0)
 
-record Apart (t : List ℕ) (r : ℕ) : Type 0 where
-  a12 : field t r 1 ≡ field t r 2 → ⊥
-  a13 : field t r 1 ≡ field t r 3 → ⊥
-  a23 : field t r 2 ≡ field t r 3 → ⊥
+record Meet (s : Shape) (a b : ℕ) : Type 0 where
+  x : Xc s a ≡ Xc s b
+  y : Yc s a ≡ Yc s b
 
-apart : (t : List ℕ) (r : ℕ) → 1 ≤ S (shapeAt t r) → Apart t r
-apart t r h = record {
-  a12 = λ e. none (S-is t r (field t r 1) (field t r 1) (field t r 3) refl (sym e) refl ∙ flat01 _ _ _ _);
-  a13 = λ e. none (S-is t r (field t r 1) (field t r 2) (field t r 1) refl refl (sym e) ∙ flat02 _ _ _ _);
-  a23 = λ e. none (S-is t r (field t r 1) (field t r 2) (field t r 2) refl refl (sym e) ∙ flat12 _ _ _ _);
-}
+meet : (t ns : List ℕ) (a b : ℕ) → a < length ns → b < length ns → getD ns a 0 ≡ getD ns b 0 → Meet (shapeOf t ns) a b
+unfolding shapeOf
+meet t ns a b ha hb e = record { x = ap pos (axis-same (λ n. field t n 1) ns a b ha hb e); y = ap pos (axis-same (λ n. field t n 2) ns a b ha hb e) }
+
+-- ---- corners of which two meet make no area
+
+abbrev flatOf : (x₀ x₁ x₂ y₀ y₁ y₂ : ℤ) → ℤ
+flatOf x₀ x₁ x₂ y₀ y₁ y₂ = (x₁ -ℤ x₀) *ℤ (y₂ -ℤ y₀) -ℤ (x₂ -ℤ x₀) *ℤ (y₁ -ℤ y₀)
+
+flat01 : (x x₂ y y₂ : ℤ) → flatOf x x x₂ y y y₂ ≡ pos 0
+flat01 x x₂ y y₂ = rw (+ℤ-invr x, +ℤ-invr y, zero-*ℤ (y₂ -ℤ y), *ℤ-zero (x₂ -ℤ x))
+
+flat02 : (x x₁ y y₁ : ℤ) → flatOf x x₁ x y y₁ y ≡ pos 0
+flat02 x x₁ y y₁ = rw (+ℤ-invr x, +ℤ-invr y, zero-*ℤ (y₁ -ℤ y), *ℤ-zero (x₁ -ℤ x))
+
+flat12 : (x x₁ y y₁ : ℤ) → flatOf x x₁ x₁ y y₁ y₁ ≡ pos 0
+flat12 x x₁ y y₁ = rw (+ℤ-invr ((x₁ -ℤ x) *ℤ (y₁ -ℤ y)))
+
+module _ (s : Shape) where
+  S-is : S s ≡ natAbs (flatOf (Xc s 0) (Xc s 1) (Xc s 2) (Yc s 0) (Yc s 1) (Yc s 2))
+  unfolding S area
+  S-is = refl
+
+  S-01 : Meet s 0 1 → S s ≡ 0
+  S-01 m = S-is ∙ ap natAbs ((λ i. flatOf (m .x i) (Xc s 1) (Xc s 2) (m .y i) (Yc s 1) (Yc s 2)) ∙ flat01 (Xc s 1) (Xc s 2) (Yc s 1) (Yc s 2))
+
+  S-02 : Meet s 0 2 → S s ≡ 0
+  S-02 m = S-is ∙ ap natAbs ((λ i. flatOf (m .x i) (Xc s 1) (Xc s 2) (m .y i) (Yc s 1) (Yc s 2)) ∙ flat02 (Xc s 2) (Xc s 1) (Yc s 2) (Yc s 1))
+
+  S-12 : Meet s 1 2 → S s ≡ 0
+  S-12 m = S-is ∙ ap natAbs ((λ i. flatOf (Xc s 0) (m .x i) (Xc s 2) (Yc s 0) (m .y i) (Yc s 2)) ∙ flat12 (Xc s 0) (Xc s 2) (Yc s 0) (Yc s 2))
+
+  no-area : (a b : ℕ) → a < b → b < 3 → Meet s a b → S s ≡ 0
+  no-area zero zero h k m = absurd (omega arith)
+  no-area zero (suc zero) h k m = S-01 m
+  no-area zero (suc (suc zero)) h k m = S-02 m
+  no-area zero (suc (suc (suc b))) h k m = absurd (omega arith)
+  no-area (suc zero) zero h k m = absurd (omega arith)
+  no-area (suc zero) (suc zero) h k m = absurd (omega arith)
+  no-area (suc zero) (suc (suc zero)) h k m = S-12 m
+  no-area (suc zero) (suc (suc (suc b))) h k m = absurd (omega arith)
+  no-area (suc (suc a)) b h k m = absurd (omega arith)
+
+-- ---- distinct corners
+
+pub distinct-by : (ns : List ℕ) → ((a b : ℕ) → a < b → b < length ns → getD ns a 0 ≡ getD ns b 0 → ⊥) → Distinct ns
+distinct-by ns f a b ha hb e = go (decLt a b) (decLt b a)
   where
-    none : S (shapeAt t r) ≡ 0 → ⊥
-    none e = omega arith
+    go : Dec (a < b) → Dec (b < a) → a ≡ b
+    go (yes l) m = absurd (f a b l hb e)
+    go (no l) (yes m) = absurd (f b a m ha (sym e))
+    go (no l) (no m) =
+        let l′ : a < b → ⊥ = l in
+        let m′ : b < a → ⊥ = m in
+        omega arith
 
--- THEOREM. An element of some area has three corners, no two the same.
-pub distinct : (t : List ℕ) (r : ℕ) → 1 ≤ S (shapeAt t r) → Distinct 3 (shapeAt t r .corners)
-unfolding shapeAt
-distinct t r h = go (apart t r h)
-  where
-    go : Apart t r → Distinct 3 (shapeAt t r .corners)
-    go q zero zero l m e = refl
-    go q zero (suc zero) l m e = absurd (q .a12 e)
-    go q zero (suc (suc zero)) l m e = absurd (q .a13 e)
-    go q zero (suc (suc (suc b))) l m e = absurd (omega arith)
-    go q (suc zero) zero l m e = absurd (q .a12 (sym e))
-    go q (suc zero) (suc zero) l m e = refl
-    go q (suc zero) (suc (suc zero)) l m e = absurd (q .a23 e)
-    go q (suc zero) (suc (suc (suc b))) l m e = absurd (omega arith)
-    go q (suc (suc zero)) zero l m e = absurd (q .a13 (sym e))
-    go q (suc (suc zero)) (suc zero) l m e = absurd (q .a23 (sym e))
-    go q (suc (suc zero)) (suc (suc zero)) l m e = refl
-    go q (suc (suc zero)) (suc (suc (suc b))) l m e = absurd (omega arith)
-    go q (suc (suc (suc a))) b l m e = absurd (omega arith)
+-- THEOREM. An element of some area, of whatever card, has no two corners the same.
+pub distinct : (t card : List ℕ) → 1 ≤ elementOf t card .size → Distinct (elementOf t card .shape .corners)
+unfolding elementOf bodyOf shapeOf
+distinct t card h =
+    let ns = getD card 1 0 ∷ getD card 2 0 ∷ getD card 3 0 ∷ [] in
+    distinct-by ns (λ a b l k m. let z = no-area (shapeOf t ns) a b l k (meet t ns a b (omega arith) k m) in omega arith)
 
--- ---- rows of the squares
-pub mass-row : (w B a : ℕ) → 4 * w ≤ B → a < 3 → sumN 3 (λ b. natAbs (mass w a b)) ≤ B
-unfolding mass sumN
-mass-row w B zero h l = omega arith
-mass-row w B (suc zero) h l = omega arith
-mass-row w B (suc (suc zero)) h l = omega arith
-mass-row w B (suc (suc (suc a))) h l = absurd (omega arith)
+-- ---- fair
 
-pub record Fair (ms : ℕ) (e : Triangle) : Type 0 where
-  pub fu : u ms e ≤ 4000000
-  pub f01 : natAbs (pair e 0 1) ≤ 4000000
-  pub f02 : natAbs (pair e 0 2) ≤ 4000000
-  pub f12 : natAbs (pair e 1 2) ≤ 4000000
+pub record Fair (it : Element) : Type 0 where
+  pub store : it .stored ≤ 4000000
+  pub pairs : (i j : ℕ) → j < i → i < length (it .shape .corners) → natAbs (it .between i j) ≤ 4000000
 
-pub fair-told : (ms : ℕ) (e : Triangle) → fair ms e ≡ true → Fair ms e
+pub fair-told : (it : Element) → fair it ≡ true → Fair it
 unfolding fair
-fair-told ms e h =
-    let (h₂, d) = and-told (soft (u ms e) && soft (natAbs (pair e 0 1)) && soft (natAbs (pair e 0 2))) (soft (natAbs (pair e 1 2))) h in
-    let (h₁, c) = and-told (soft (u ms e) && soft (natAbs (pair e 0 1))) (soft (natAbs (pair e 0 2))) h₂ in
-    let (a, b) = and-told (soft (u ms e)) (soft (natAbs (pair e 0 1))) h₁ in
-    record { fu = leb-true _ _ a; f01 = leb-true _ _ b; f02 = leb-true _ _ c; f12 = leb-true _ _ d }
+fair-told it e =
+    let n = length (it .shape .corners) in
+    let (s, p) = and-told (soft (it .stored)) (not (any n (λ i. any i (λ j. not (soft (natAbs (it .between i j))))))) e in
+    let q = not-true (any n (λ i. any i (λ j. not (soft (natAbs (it .between i j)))))) p in
+    record {
+      store = leb-true _ _ s;
+      pairs = λ i j l k. leb-true _ _ (not-false (soft (natAbs (it .between i j))) (any-each i (λ j. not (soft (natAbs (it .between i j)))) (any-each n (λ i. any i (λ j. not (soft (natAbs (it .between i j))))) q i k) j l));
+    }
 
--- 6 asks nothing of an element with no area: within one element the order of 5 and 6 can't be seen
-pub flat-is-fair : (ms : ℕ) (e : Triangle) → 1 ≤ ms → S (e .shape) ≡ 0 → fair ms e ≡ true
-unfolding fair u pair nearestN
-flat-is-fair ms e h z = rw (
-  le-leb (nearestN (e .capacity * e .thickness * S (e .shape)) (9600 * ms)) 4000000 (omega (arith, none)),
-  pairs 0 1,
-  pairs 0 2,
-  pairs 1 2,
+-- what 5 and 6 leave
+pub record Formed (it : Element) : Type 0 where
+  pub some : 1 ≤ it .size
+  pub fair : Fair it
+
+pub sound-one : (it : Element) (e : ℕ) → formJudged it e ≡ Done → Formed it
+unfolding formJudged
+sound-one it e p =
+    let (a, p₁) = cond-done _ _ (Flat e) p in
+    let (b, _) = cond-done _ Done (Stiff e) p₁ in
+    record { some = leb-true 1 (it .size) a; fair = fair-told it b }
+
+-- THEOREM. In a deck whose elements pass 5 and 6, each element is of some area, its u and its pairs within 4,000,000.
+pub sound : (t : List ℕ) (row : ℕ) → Deck t → elementsFrom (elements t) 1 t ≡ Done → row < rows t → kinds.Body (kindIn t row) → Formed (elementAt t row)
+unfolding elementJudged
+sound t row d p h b =
+    let (lo, hi) = in-bodies t d row h (kinds.body-section (kindIn t row) b) in
+    let k = row - (nodes t + materials t) in
+    let here : elementRow t k ≡ row = omega arith in
+    subst (λ (r : ℕ). Formed (elementAt t r)) here (sound-one (elementAt t (elementRow t k)) k (elements-each t (elements t) 1 k p (omega arith) (omega arith)))
+
+-- its pairs on either side
+pub between-small : (t card : List ℕ) → Fair (elementOf t card) → (i j : ℕ) → i < length (elementOf t card .shape .corners) → j < length (elementOf t card .shape .corners) → (i ≡ j → ⊥)
+    → natAbs (elementOf t card .between i j) ≤ 4000000
+between-small t card f i j hi hj n = go (decLt j i)
+  where
+    go : Dec (j < i) → natAbs (elementOf t card .between i j) ≤ 4000000
+    go (yes l) = f .pairs i j l hi
+    go (no l) =
+        let l′ : j < i → ⊥ = l in
+        let n′ : i ≡ j → ⊥ = n in
+        omega (arith, ap natAbs (between-symmetric t card i j), f .pairs j i (omega arith) hj)
+
+-- ---- the corners of every card
+
+module _ (t : List ℕ) (d : Deck t) (pass : elementsFrom (elements t) 1 t ≡ Done) where
+  pub named-distinct : (e : ℕ) → In 1 (elements t) e → Distinct (elementAt t (elementRow t e) .shape .corners)
+  named-distinct e h =
+      let r = elementRow t e in
+      distinct t (rowAt t r) (sound t r d pass (omega (arith, d .all, h .1)) (is-body t d e h) .some)
+
+  named-at : (row : ℕ) → In 1 (elements t) (field t row 1) → Distinct (elementAt t (namedRow t (rowAt t row)) .shape .corners)
+  named-at row h = named-distinct (getD (rowAt t row) 1 0) (rw (row-field t row 1 (omega arith)) h)
+
+  nothing-distinct : Distinct []
+  nothing-distinct a b ha hb e = absurd (omega arith)
+
+  distinct-kind : (row : ℕ) (kind : Kind) → row < rows t → kindIn t row ≡ kind → Distinct (partOf t (rowAt t row) kind .corners)
+  unfolding partOf
+  distinct-kind row D h e = nothing-distinct
+  distinct-kind row N h e = nothing-distinct
+  distinct-kind row M h e = nothing-distinct
+  distinct-kind row E h e = distinct t (rowAt t row) (sound t row d pass h (kinds.flat e) .some)
+  distinct-kind row H h e = named-at row (names-H t d row h e)
+  distinct-kind row F h e = named-at row (names-F t d row h e)
+  distinct-kind row T h e = nothing-distinct
+  distinct-kind row Z h e = nothing-distinct
+  distinct-kind row Other h e = nothing-distinct
+
+  -- THEOREM. No card of a deck that passes 5 and 6 has two corners the same.
+  pub part-distinct : (row : ℕ) → row < rows t → Distinct (partAt t row .corners)
+  part-distinct row h = distinct-kind row (kindIn t row) h refl
+
+-- ---- within one element the order of 5 and 6 can't be seen
+
+-- THEOREM. 6 asks nothing of an element with no area.
+pub flat-is-fair : (t card : List ℕ) → 1 ≤ stepOf t → elementOf t card .size ≡ 0 → fair (elementOf t card) ≡ true
+unfolding fair elementOf u pair nearestN
+flat-is-fair t card h z = rw (
+  le-leb (u (stepOf t) e) 4000000 (omega (arith, none)),
+  any-none (length (elementOf t card .shape .corners)) (λ i. any i (λ j. not (soft (natAbs (pair e i j))))) (λ i l. any-none i _ (λ j k. ap not (pairs i j))),
 )
   where
-    none : nearestN (e .capacity * e .thickness * S (e .shape)) (9600 * ms) ≡ 0
-    none = nearest-zero _ (9600 * ms) (omega arith) (ap (λ (k : ℕ). e .capacity * e .thickness * k) z ∙ mul-zero (e .capacity * e .thickness))
+    e : Body
+    e = bodyOf t card
+
+    none : u (stepOf t) e ≡ 0
+    none = unfold u in nearest-zero _ (9600 * stepOf t) (omega arith) (ap (λ (k : ℕ). e .capacity * e .thickness * k) z ∙ mul-zero (e .capacity * e .thickness))
 
     by-none : (n q : ℕ) → q ≡ 0 → nearestN n q ≡ 0
     by-none n q k = ap (λ (m : ℕ). (2 * n + m) / (2 * m)) k ∙ div-zero (2 * n + 0)
@@ -125,78 +222,3 @@ flat-is-fair ms e h z = rw (
       where
         top : ℕ → ℕ → ℤ
         top i j = let s = e .shape in pos (e .thickness) *ℤ (pos (e .kx) *ℤ (b s i *ℤ b s j) +ℤ pos (e .ky) *ℤ (c s i *ℤ c s j))
-
--- minus a sum of three
-pub three : (x y z : ℤ) → natAbs (negℤ (pos 0 +ℤ x +ℤ y +ℤ z)) ≤ natAbs x + natAbs y + natAbs z
-three x y z = rw (natAbs-neg (pos 0 +ℤ x +ℤ y +ℤ z)) (omega (arith, natAbs-plus (pos 0 +ℤ x +ℤ y) z, natAbs-plus (pos 0 +ℤ x) y, natAbs-plus (pos 0) x))
-
--- two pairs, and a diagonal of at most their sum
-pub conductance-row : (ms : ℕ) (e : Triangle) → Fair ms e → (a : ℕ) → a < 3 → sumN 3 (λ b. natAbs (conductance e a b)) ≤ 16000000
-unfolding conductance square sum sumN
-conductance-row ms e f zero l = omega (arith, f, three (pos 0) (pair e 0 1) (pair e 0 2))
-conductance-row ms e f (suc zero) l = omega (arith, f, ap natAbs (pair-symmetric e 1 0), three (pair e 1 0) (pos 0) (pair e 1 2))
-conductance-row ms e f (suc (suc zero)) l =
-    omega (arith, f, ap natAbs (pair-symmetric e 2 0), ap natAbs (pair-symmetric e 2 1), three (pair e 2 0) (pair e 2 1) (pos 0))
-conductance-row ms e f (suc (suc (suc a))) l = absurd (omega arith)
-
--- ---- the film
-product : (a b c d : ℤ) → natAbs a ≤ 4095 → natAbs b ≤ 4095 → natAbs c ≤ 4095 → natAbs d ≤ 4095 → natAbs (a *ℤ b -ℤ c *ℤ d) ≤ 33538050
-product a b c d ha hb hc hd =
-    omega (arith, natAbs-minus (a *ℤ b) (c *ℤ d), natAbs-times a b, natAbs-times c d, mul-le-mul ha hb, mul-le-mul hc hd)
-
-pub S-size : (s : Shape) → ((a : ℕ) → a < 3 → (getD (s .xs) a 0 ≤ 4095) × (getD (s .ys) a 0 ≤ 4095)) → S s ≤ 33538050
-unfolding S
-S-size s h =
-    let (x₀, y₀) = h 0 (omega arith) in
-    let (x₁, y₁) = h 1 (omega arith) in
-    let (x₂, y₂) = h 2 (omega arith) in
-    product (xAt s 1 -ℤ xAt s 0) (yAt s 2 -ℤ yAt s 0) (xAt s 2 -ℤ xAt s 0) (yAt s 1 -ℤ yAt s 0) (apart-size _ _ 4095 x₁ x₀) (apart-size _ _ 4095 y₂ y₀) (apart-size _ _ 4095 x₂ x₀) (apart-size _ _ 4095 y₁ y₀)
-
-pub v-size : (film : ℕ) (s : Shape) → film ≤ 100000 → S s ≤ 33538050 → v film s ≤ 349500
-unfolding v nearestN
-v-size film s h k = let m : film * S s ≤ 100000 * 33538050 = mul-le-mul h k in omega arith
-
--- ---- of a deck: what stands on an element's corners, and what passing 5 and 6 tells of each element
-
-pub coordinates-in : (t : List ℕ) (row : ℕ) → Deck t → row < rows t → Is E t row → (a : ℕ) → a < 3 → (getD (shapeAt t row .xs) a 0 ≤ 4095) × (getD (shapeAt t row .ys) a 0 ≤ 4095)
-unfolding shapeAt
-coordinates-in t row d h e a l = go a l
-  where
-    at : (k : ℕ) → 1 ≤ k → k ≤ 3 → (field t (field t row k) 1 ≤ 4095) × (field t (field t row k) 2 ≤ 4095)
-    at k lo hi = let (p, q) = d .corner row h e k lo hi in (d .x (field t row k) p q, d .y (field t row k) p q)
-
-    go : (a : ℕ) → a < 3 → (getD (shapeAt t row .xs) a 0 ≤ 4095) × (getD (shapeAt t row .ys) a 0 ≤ 4095)
-    go zero l = at 1 (omega arith) (omega arith)
-    go (suc zero) l = at 2 (omega arith) (omega arith)
-    go (suc (suc zero)) l = at 3 (omega arith) (omega arith)
-    go (suc (suc (suc a))) l = absurd (omega arith)
-
-pub elements-each : (t : List ℕ) (n e k : ℕ) → elementsFrom n e t ≡ Done → e ≤ k → k < e + n → elementJudged t k ≡ Done
-unfolding elementsFrom
-elements-each t zero e k p a b = absurd (omega arith)
-elements-each t (suc n) e k p a b =
-    let (here, rest) = both-done (elementJudged t e) (elementsFrom n (suc e) t) p in
-    go here (ℕ-discrete k e) (λ l. elements-each t n (suc e) k rest l (omega arith))
-  where
-    go : elementJudged t e ≡ Done → Dec (k ≡ e) → (suc e ≤ k → elementJudged t k ≡ Done) → elementJudged t k ≡ Done
-    go h (yes q) later = rw q h
-    go h (no q) later = let q′ : k ≡ e → ⊥ = q in later (omega arith)
-
-pub record Sound (t : List ℕ) (row : ℕ) : Type 0 where
-  pub area : 1 ≤ S (shapeAt t row)
-  pub fair : Fair (stepOf t) (triangleAt t row)
-
-pub sound-one : (t : List ℕ) (e row : ℕ) → elementRow t e ≡ row → elementJudged t e ≡ Done → Sound t row
-unfolding elementJudged formJudged triangleAt
-sound-one t e row q p =
-    let (a, p′) = cond-done _ _ (Flat e) p in
-    let (b, _) = cond-done _ Done (Stiff e) p′ in
-    let here : Sound t (elementRow t e) = record { area = leb-true 1 (S (shapeAt t (elementRow t e))) a; fair = fair-told (stepOf t) (triangleAt t (elementRow t e)) b } in
-    subst (Sound t) q here
-
--- THEOREM. In a deck whose elements pass 5 and 6, each E card is of some area, its u and its pairs within 4,000,000.
-pub sound : (t : List ℕ) (row : ℕ) → Deck t → elementsFrom (elements t) 1 t ≡ Done → row < rows t → Is E t row → Sound t row
-sound t row d p h e =
-    let (a, b) = d .inE row h e in
-    let k = row - (nodes t + materials t) in
-    sound-one t k row (omega arith) (elements-each t (elements t) 1 k p (omega arith) (omega arith))

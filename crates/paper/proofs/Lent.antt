@@ -1,14 +1,15 @@
 -- What refusal 10 passes: finished rows, and a deck's own slices.
 use mathlib.Core.Path.{_≡_, ap, _∙_}
-use mathlib.Core.Bool.{Bool, false, not}
+use mathlib.Core.Bool.{Bool, true, false, not, cond, _&&_}
 use mathlib.Core.List.{List}
 use Prim.Native.Nat.{ℕ, _+_, _^_, _≤_, _<_}
 use native.Mathlib.Omega.{arith}
 use borrow.Author.Tests.{le-leb, leb-true, not-false}
 use lib.IntN.{ℤ, pos, natAbs}
 use lib.Signed.{leZ}
+use lib.ListN.{length}
 use Rattle.whole.specs.Sums.{sumN, any}
-use Rattle.whole.specs.Packed.{tri, cell, lower, entry}
+use Rattle.whole.specs.Packed.{tri, matrix, cell, lower, entry}
 use Rattle.whole.proofs.Sums.{sumN-ext, any-none, any-each}
 use Rattle.whole.proofs.Tests.{and-told, nor-told}
 use Rattle.whole.proofs.Packed.{lower-both, length-lower}
@@ -16,10 +17,12 @@ use Rattle.paper.specs.Cards.{rows, nodes}
 use Rattle.paper.specs.Matrices.{P, A}
 use Rattle.paper.specs.Factor.{small, rowsFrom}
 use Rattle.paper.specs.Building.{Slices}
-use Rattle.paper.specs.Lent.{rowSize, heavy, pivot, badRow, noFactor, foreign}
-use Rattle.paper.proofs.Outcomes.{ends-done}
+use Rattle.paper.specs.Lent.{rowSize, heavy, pivot, badRow, noFactor, foreign, roomy, enough, opened, lentJudged}
+use Rattle.paper.specs.declared.Answer.the-variants.{Done, Refused}
+use Rattle.paper.specs.declared.Refusal.the-variants.{Short, Foreign}
+use Rattle.paper.proofs.Outcomes.{ends-done, cond-done, cond-rest}
 use Rattle.paper.proofs.Decks.{Deck}
-use Rattle.paper.proofs.Assembled.{P-symmetric, A-symmetric}
+use Rattle.paper.proofs.Square.{P-symmetric, A-symmetric}
 use Rattle.paper.proofs.Finished.{Fin, factor-fin}
 use Rattle.paper.proofs.Weights.{weight-P, weight-A}
 use Rattle.paper.proofs.Built.{A′, Own}
@@ -71,3 +74,29 @@ own-pass t s d o =
       light n (s .a) (A t) (o .isA) (A-symmetric t) (λ i l. weight-A t d (o .passed) (rows t) n i (omega arith)),
       firm n (s .factor) f,
     )
+
+-- ---- refusals 9 and 10 as one answer
+
+pub lent-passes : (n : ℕ) (s : Slices) (rest : Bool) → enough n s && rest ≡ true → foreign n (opened n s) ≡ false → lentJudged n s rest ≡ Done
+unfolding lentJudged
+lent-passes n s rest e f = rw (e, f)
+
+pub record Passes (n : ℕ) (s : Slices) (rest : Bool) : Type 0 where
+  pub room : enough n s ≡ true
+  pub other : rest ≡ true
+  pub own : foreign n (opened n s) ≡ false
+
+pub lent-told : (n : ℕ) (s : Slices) (rest : Bool) → lentJudged n s rest ≡ Done → Passes n s rest
+unfolding lentJudged
+lent-told n s rest e =
+    let (a, b) = cond-done (enough n s && rest) (cond (foreign n (opened n s)) (Refused Foreign) Done) Short e in
+    let (r, o) = and-told (enough n s) rest a in
+    record { room = r; other = o; own = cond-rest (foreign n (opened n s)) Done Foreign b .0 }
+
+-- the lengths that room tells
+pub enough-told : (n : ℕ) (s : Slices) → enough n s ≡ true → (matrix n ≤ length (s .p)) × (matrix n ≤ length (s .a)) × (matrix n ≤ length (s .factor))
+unfolding enough
+enough-told n s e =
+    let (pa, f) = and-told (roomy n (s .p) && roomy n (s .a)) (roomy n (s .factor)) e in
+    let (p, a) = and-told (roomy n (s .p)) (roomy n (s .a)) pa in
+    (leb-true _ _ p, leb-true _ _ a, leb-true _ _ f)

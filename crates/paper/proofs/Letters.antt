@@ -1,57 +1,36 @@
--- A card's letter, its kind and its group's place in the order tell each other.
+-- A card's letter and its kind tell each other, and what the table of kinds says of those that are replaced.
 use mathlib.Core.Path.{_≡_, refl, sym, ap, _∙_}
 use mathlib.Core.Bool.{Bool, true, false, cond}
+use mathlib.Core.List.{List, [], _∷_}
 use Prim.Native.Nat.{ℕ, _≤_, _<_}
-use native.Mathlib.Decide.{ℕ-discrete}
 use native.Mathlib.Omega.{arith}
-use lib.Dec.{leb, eqb}
-use borrow.Author.Tests.{eqb-true, leb-true}
-use Rattle.whole.proofs.Tests.{and-told}
-use Rattle.paper.specs.Cards.{letterOf, kindOf, order}
-use Rattle.paper.specs.Judge as Judge
+use lib.Dec.{eqb}
+use lib.ListN.{getD}
+use borrow.Author.Tests.{eqb-true}
+use Rattle.paper.specs.Kinds.{about, letterOf, kindOf}
 use Rattle.paper.specs.declared.Kind.{Kind}
 use Rattle.paper.specs.declared.Kind.the-variants.{D, N, M, E, H, F, T, Z, Other}
-use Rattle.paper.proofs.Decks.{Load, heat, film, hold}
-
--- ---- a kind by its order
-
-abbrev ofOrder : ℕ → Kind
-ofOrder o =
-    cond (eqb o 0) D (cond (eqb o 1) N (cond (eqb o 2) M (cond (eqb o 3) E (cond (eqb o 4) H (cond (eqb o 5) F (cond (eqb o 6) T (cond (eqb o 7) Z Other)))))))
-
-ofOrder-is : (k : Kind) → ofOrder (order k) ≡ k
-unfolding order
-ofOrder-is D = refl
-ofOrder-is N = refl
-ofOrder-is M = refl
-ofOrder-is E = refl
-ofOrder-is H = refl
-ofOrder-is F = refl
-ofOrder-is T = refl
-ofOrder-is Z = refl
-ofOrder-is Other = refl
-
-pub order-inj : (a b : Kind) → order a ≡ order b → a ≡ b
-order-inj a b e = sym (ofOrder-is a) ∙ ap ofOrder e ∙ ofOrder-is b
 
 -- ---- a letter by its kind
 
-named : (l : ℕ) (k rest : Kind) → (order rest < 8 → letterOf rest ≡ l) → order (cond (eqb l (letterOf k)) k rest) < 8 → letterOf (cond (eqb l (letterOf k)) k rest) ≡ l
+named : (l : ℕ) (k rest : Kind) → (about rest .order < 8 → letterOf rest ≡ l) → about (cond (eqb l (letterOf k)) k rest) .order < 8 → letterOf (cond (eqb l (letterOf k)) k rest) ≡ l
 named l k rest f h = go (eqb l (letterOf k)) refl h
   where
-    go : (b : Bool) → eqb l (letterOf k) ≡ b → order (cond b k rest) < 8 → letterOf (cond b k rest) ≡ l
+    go : (b : Bool) → eqb l (letterOf k) ≡ b → about (cond b k rest) .order < 8 → letterOf (cond b k rest) ≡ l
     go true e h = sym (eqb-true l (letterOf k) e)
     go false e h = f h
 
-known : (l : ℕ) → order (kindOf l) < 8 → letterOf (kindOf l) ≡ l
-unfolding kindOf order
-known l = named l D _ (named l N _ (named l M _ (named l E _ (named l H _ (named l F _ (named l T _ (named l Z Other (λ h. absurd (omega arith)))))))))
+-- THEOREM. Every letter but Other's is its kind's.
+pub known : (l : ℕ) → about (kindOf l) .order < 8 → letterOf (kindOf l) ≡ l
+unfolding kindOf about
+known l =
+    named l D _ (named l N _ (named l M _ (named l E _ (named l H _ (named l F _ (named l T _ (named l Z Other (λ h. absurd (omega arith)))))))))
 
-pub letter-of : (l : ℕ) (k : Kind) → order (kindOf l) ≡ order k → order k < 8 → l ≡ letterOf k
-letter-of l k e h = sym (known l (rw e h)) ∙ ap letterOf (order-inj (kindOf l) k e)
+pub letter-of : (l : ℕ) (k : Kind) → kindOf l ≡ k → about k .order < 8 → l ≡ letterOf k
+letter-of l k e h = sym (known l (rw e h)) ∙ ap letterOf e
 
-kind-letter : (k : Kind) → kindOf (letterOf k) ≡ k
-unfolding kindOf
+pub kind-letter : (k : Kind) → kindOf (letterOf k) ≡ k
+unfolding kindOf about
 kind-letter D = refl
 kind-letter N = refl
 kind-letter M = refl
@@ -65,19 +44,108 @@ kind-letter Other = refl
 pub kind-of : (l : ℕ) (k : Kind) → l ≡ letterOf k → kindOf l ≡ k
 kind-of l k e = ap kindOf e ∙ kind-letter k
 
--- ---- the letters of loads
+-- ---- the kinds of a section
 
-pub load-letter : (l : ℕ) → Judge.load (order (kindOf l)) ≡ true → Load l
-unfolding Judge.load order
-load-letter l e =
-    let (a, b) = and-told (leb 4 (order (kindOf l))) (leb (order (kindOf l)) 6) e in
-    go (leb-true 4 (order (kindOf l)) a) (leb-true (order (kindOf l)) 6 b) (ℕ-discrete (order (kindOf l)) 4) (ℕ-discrete (order (kindOf l)) 5)
-  where
-    go : 4 ≤ order (kindOf l) → order (kindOf l) ≤ 6 → Dec (order (kindOf l) ≡ 4) → Dec (order (kindOf l) ≡ 5) → Load l
-    go a b (yes p) q = heat (letter-of l H p (omega arith))
-    go a b (no p) (yes q) = film (letter-of l F q (omega arith))
-    go a b (no p) (no q) =
-        let p′ : order (kindOf l) ≡ 4 → ⊥ = p in
-        let q′ : order (kindOf l) ≡ 5 → ⊥ = q in
-        let s : order (kindOf l) ≡ 6 = omega arith in
-        hold (letter-of l T s (omega arith))
+pub node-kind : (k : Kind) → about k .section ≡ 1 → k ≡ N
+unfolding about
+node-kind D e = absurd (omega arith)
+node-kind N e = refl
+node-kind M e = absurd (omega arith)
+node-kind E e = absurd (omega arith)
+node-kind H e = absurd (omega arith)
+node-kind F e = absurd (omega arith)
+node-kind T e = absurd (omega arith)
+node-kind Z e = absurd (omega arith)
+node-kind Other e = absurd (omega arith)
+
+-- elements
+pub data Body (k : Kind) : Type 0 where
+  flat : k ≡ E → Body k
+
+pub body-kind : (k : Kind) → about k .section ≡ 3 → Body k
+unfolding about
+body-kind D e = absurd (omega arith)
+body-kind N e = absurd (omega arith)
+body-kind M e = absurd (omega arith)
+body-kind E e = flat refl
+body-kind H e = absurd (omega arith)
+body-kind F e = absurd (omega arith)
+body-kind T e = absurd (omega arith)
+body-kind Z e = absurd (omega arith)
+body-kind Other e = absurd (omega arith)
+
+pub body-section : (k : Kind) → Body k → about k .section ≡ 3
+unfolding about
+body-section k (flat e) = rw e
+
+-- THEOREM. What is replaced stands among the elements or the loads.
+pub replaced-section : (k : Kind) → 1 ≤ about k .keeps → (3 ≤ about k .section) × (about k .section ≤ 4)
+unfolding about
+replaced-section D h = absurd (omega arith)
+replaced-section N h = absurd (omega arith)
+replaced-section M h = absurd (omega arith)
+replaced-section E h = (omega arith, omega arith)
+replaced-section H h = (omega arith, omega arith)
+replaced-section F h = (omega arith, omega arith)
+replaced-section T h = (omega arith, omega arith)
+replaced-section Z h = absurd (omega arith)
+replaced-section Other h = absurd (omega arith)
+
+-- THEOREM. What rises stands among the loads.
+pub rising-section : (k : Kind) → 1 ≤ about k .keys → about k .section ≡ 4
+unfolding about
+rising-section D h = absurd (omega arith)
+rising-section N h = absurd (omega arith)
+rising-section M h = absurd (omega arith)
+rising-section E h = absurd (omega arith)
+rising-section H h = refl
+rising-section F h = refl
+rising-section T h = refl
+rising-section Z h = absurd (omega arith)
+rising-section Other h = absurd (omega arith)
+
+-- what stands first, and what stands among the materials
+pub first-kind : (k : Kind) → about k .section ≡ 0 → k ≡ D
+unfolding about
+first-kind D e = refl
+first-kind N e = absurd (omega arith)
+first-kind M e = absurd (omega arith)
+first-kind E e = absurd (omega arith)
+first-kind H e = absurd (omega arith)
+first-kind F e = absurd (omega arith)
+first-kind T e = absurd (omega arith)
+first-kind Z e = absurd (omega arith)
+first-kind Other e = absurd (omega arith)
+
+pub material-kind : (k : Kind) → about k .section ≡ 2 → k ≡ M
+unfolding about
+material-kind D e = absurd (omega arith)
+material-kind N e = absurd (omega arith)
+material-kind M e = refl
+material-kind E e = absurd (omega arith)
+material-kind H e = absurd (omega arith)
+material-kind F e = absurd (omega arith)
+material-kind T e = absurd (omega arith)
+material-kind Z e = absurd (omega arith)
+material-kind Other e = absurd (omega arith)
+
+-- ---- a kind by its order
+
+abbrev inOrder : List Kind
+inOrder = D ∷ N ∷ M ∷ E ∷ H ∷ F ∷ T ∷ Z ∷ Other ∷ []
+
+by-order : (k : Kind) → getD inOrder (about k .order) Other ≡ k
+unfolding about
+by-order D = refl
+by-order N = refl
+by-order M = refl
+by-order E = refl
+by-order H = refl
+by-order F = refl
+by-order T = refl
+by-order Z = refl
+by-order Other = refl
+
+-- THEOREM. No two kinds have the same order.
+pub same-order : (k k′ : Kind) → about k .order ≡ about k′ .order → k ≡ k′
+same-order k k′ e = sym (by-order k) ∙ ap (λ (o : ℕ). getD inOrder o Other) e ∙ by-order k′

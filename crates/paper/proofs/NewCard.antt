@@ -1,164 +1,158 @@
 -- What refusals 3, 13 and 4 of a new card tell, and that the deck with it in its place is accepted as well.
 use mathlib.Core.Path.{_≡_, refl, sym, ap, subst, _∙_}
-use mathlib.Core.Bool.{true, _&&_, _||_}
+use mathlib.Core.Bool.{true, not, _&&_, _||_}
 use mathlib.Core.List.{List}
-use Prim.Native.Nat.{ℕ, zero, suc, _-_, _≤_, _<_}
+use Prim.Native.Nat.{ℕ, zero, suc, _+_, _-_, _≤_, _<_}
 use native.Mathlib.Decide.{ℕ-discrete}
 use native.Mathlib.Omega.{arith}
-use borrow.Author.Tests.{leb-true, eqb-true, eq-eqb}
+use borrow.Author.Tests.{leb-true, eqb-true}
 use lib.Dec.{eqb, leb, ltb}
 use lib.ListN.{length, getD}
-use Rattle.whole.proofs.Tests.{and-told, or-told, if-told}
-use Rattle.paper.specs.Cards.{letterOf, kindOf, order, fields, inRange, kindAt, orderOf, rowAt, field, letter, rows, put}
-use Rattle.paper.specs.Judge as Judge
-use Rattle.paper.specs.Judge.{clean, stands, rises, judgeCard, judged, answers, newJudged}
+use Rattle.whole.proofs.Tests.{and-told}
+use Rattle.paper.specs.Kinds.{about, kindOf, kindAt}
+use Rattle.paper.specs.Cards.{columnsOf, inRange, agree, orderOf, rank, countsAt, rowAt, field, rows, put}
+use Rattle.paper.specs.Judge.{clean, stands, rises, judged, answers, newJudged}
 use Rattle.paper.specs.declared.Answer.the-variants.{Done}
 use Rattle.paper.specs.declared.Refusal.the-variants.{Form, Range, Replacement}
-use Rattle.paper.specs.declared.Counts.{Counts}
-use Rattle.paper.specs.declared.Kind.the-variants.{E}
+use Rattle.paper.specs.declared.Kind.{Kind}
+use Rattle.paper.specs.declared.Kind.the-variants.{D, N, M, E, H, F, T, Z, Other}
 use Rattle.paper.proofs.Outcomes.{cond-done}
-use Rattle.paper.proofs.Decks.{Deck, Replaceable, element, load, Change}
-use Rattle.paper.proofs.Letters.{letter-of, kind-of, load-letter}
-use Rattle.paper.proofs.Tables.{row-field, length-put, row-here, row-other}
-use Rattle.paper.proofs.Judged.{orderBefore, keyBefore, passes, passed, passing, counts, counts-are, Top, top-told, top-done, deck}
-use Rattle.paper.proofs.Changed.{place, room, rows-same, last-same, nodes-same, materials-same, elements-same, letter-same, key-same}
+use Rattle.paper.proofs.Tables.{row-field, length-put, row-here}
+use Rattle.paper.proofs.Decks.{kindIn, Deck, Change}
+use Rattle.paper.proofs.Kept.{room, other-row, last-row, counts-same, letter-same, key-same}
+use Rattle.paper.proofs.Judged.{orderBefore, rankBefore, passes, passed, passing, top-told, top-done, deck}
 
-record Fits (t : List ℕ) (card : ℕ) (new : List ℕ) : Type 0 where
+pub agree-each : (x y : List ℕ) (n k : ℕ) → agree x y n ≡ true → k < n → getD x k 0 ≡ getD y k 0
+unfolding agree
+agree-each x y zero k e h = absurd (omega arith)
+agree-each x y (suc n) k e h =
+    let (here, rest) = and-told (eqb (getD x n 0) (getD y n 0)) (agree x y n) e in
+    go here (ℕ-discrete k n) (λ l. agree-each x y n k rest l)
+  where
+    go : eqb (getD x n 0) (getD y n 0) ≡ true → Dec (k ≡ n) → (k < n → getD x k 0 ≡ getD y k 0) → getD x k 0 ≡ getD y k 0
+    go at (yes q) later = rw q (eqb-true (getD x n 0) (getD y n 0) at)
+    go at (no q) later = let q′ : k ≡ n → ⊥ = q in later (omega arith)
+
+record Accepted (t : List ℕ) (card : ℕ) (new : List ℕ) : Type 0 where
   lo : 1 ≤ card
   hi : card ≤ rows t
-  kind : Replaceable (getD new 0 0)
-  same : getD new 0 0 ≡ letter t (card - 1)
-  key : getD new 1 0 ≡ field t (card - 1) 1
-  corners : getD new 0 0 ≡ letterOf E → (getD new 2 0 ≡ field t (card - 1) 2) × (getD new 3 0 ≡ field t (card - 1) 3)
+  some : 1 ≤ about (kindAt new) .keeps
+  kept : agree new (rowAt t (card - 1)) (1 + about (kindAt new) .keeps) ≡ true
   clear : clean new ≡ true
-  range : inRange (fields (counts t) (kindAt new)) new 5 0 ≡ true
+  range : inRange (columnsOf (countsAt t) new) new 5 0 ≡ true
 
-fits : (t : List ℕ) (card : ℕ) (new : List ℕ) → newJudged t card new ≡ Done → Fits t card new
-unfolding newJudged answers order
-fits t card new e =
-    let l = getD new 0 0 in
-    let r = card - 1 in
-    let o = orderOf new in
-    let (a, e₁) = cond-done (ltb o 8 && clean new) _ (Form card) e in
+accepted : (t : List ℕ) (card : ℕ) (new : List ℕ) → newJudged t card new ≡ Done → Accepted t card new
+unfolding newJudged answers
+accepted t card new e =
+    let k = about (kindAt new) .keeps in
+    let (a, e₁) = cond-done (ltb (orderOf new) (about Other .order) && clean new) _ (Form card) e in
     let (b, e₂) = cond-done _ _ (Replacement card) e₁ in
     let (g, _) = cond-done _ Done (Range card) e₂ in
-    let (_, cl) = and-told (ltb o 8) (clean new) a in
-    let (b₅, co) = and-told (leb 1 card && leb card (rows t) && (eqb o 3 || Judge.load o) && eqb l (field t r 0) && eqb (getD new 1 0) (field t r 1)) _ b in
-    let (b₄, ke) = and-told (leb 1 card && leb card (rows t) && (eqb o 3 || Judge.load o) && eqb l (field t r 0)) (eqb (getD new 1 0) (field t r 1)) b₅ in
-    let (b₃, sa) = and-told (leb 1 card && leb card (rows t) && (eqb o 3 || Judge.load o)) (eqb l (field t r 0)) b₄ in
-    let (b₂, ki) = and-told (leb 1 card && leb card (rows t)) (eqb o 3 || Judge.load o) b₃ in
-    let (b₀, b₁) = and-told (leb 1 card) (leb card (rows t)) b₂ in
-    record {
-      lo = leb-true 1 card b₀;
-      hi = leb-true card (rows t) b₁;
-      kind = or-told (eqb o 3) (Judge.load o) ki (λ q. element (letter-of l E (eqb-true o 3 q) three-of-eight)) (λ q. load (load-letter l q));
-      same = eqb-true l (field t r 0) sa;
-      key = eqb-true (getD new 1 0) (field t r 1) ke;
-      corners = λ q.
-          let c = if-told (eqb o 3) _ co (eq-eqb o 3 (ap order (kind-of l E q))) in
-          let (x, y) = and-told (eqb (getD new 2 0) (field t r 2)) (eqb (getD new 3 0) (field t r 3)) c in
-          (eqb-true (getD new 2 0) (field t r 2) x, eqb-true (getD new 3 0) (field t r 3) y);
-      clear = cl;
-      range = ap (λ (z : Counts). inRange (fields z (kindAt new)) new 5 0) (sym (counts-are t)) ∙ g;
-    }
-  where
-    three-of-eight : 3 < 8
-    three-of-eight = omega arith
+    let (_, cl) = and-told (ltb (orderOf new) (about Other .order)) (clean new) a in
+    let (b₂, ag) = and-told (leb 1 card && leb card (rows t) && leb 1 k) (agree new (rowAt t (card - 1)) (1 + k)) b in
+    let (b₁, so) = and-told (leb 1 card && leb card (rows t)) (leb 1 k) b₂ in
+    let (b₀, hi) = and-told (leb 1 card) (leb card (rows t)) b₁ in
+    record { lo = leb-true 1 card b₀; hi = leb-true card (rows t) hi; some = leb-true 1 k so; kept = ag; clear = cl; range = g }
+
+pub new-place : (t : List ℕ) (card : ℕ) (new : List ℕ) → newJudged t card new ≡ Done → (1 ≤ card) × (card ≤ rows t)
+new-place t card new e = let q = accepted t card new e in (q .lo, q .hi)
+
+keeps-few : (k : Kind) → about k .keeps ≤ 4
+unfolding about
+keeps-few D = omega arith
+keeps-few N = omega arith
+keeps-few M = omega arith
+keeps-few E = omega arith
+keeps-few H = omega arith
+keeps-few F = omega arith
+keeps-few T = omega arith
+keeps-few Z = omega arith
+keeps-few Other = omega arith
 
 module _ (t : List ℕ) (card : ℕ) (new : List ℕ) (six : length new ≡ 6) (ok : judged t ≡ Done) (fit : newJudged t card new ≡ Done) where
-  ft : Fits t card new
-  ft = fits t card new fit
+  ac : Accepted t card new
+  ac = accepted t card new fit
+
+  same : (k : ℕ) → k ≤ about (kindAt new) .keeps → getD new k 0 ≡ field t (card - 1) k
+  same k h =
+      agree-each new (rowAt t (card - 1)) (1 + about (kindAt new) .keeps) k (ac .kept) (omega arith)
+      ∙ row-field t (card - 1) k (omega (arith, keeps-few (kindAt new)))
+
+  kind : kindAt new ≡ kindIn t (card - 1)
+  kind = ap kindOf (same 0 (omega arith))
 
   -- THEOREM. A new card that is accepted may take the card's place.
   pub change : Change t (card - 1) new
   change = record {
     six = six;
-    inside = omega (arith, ft .lo, ft .hi);
-    kind = subst Replaceable (ft .same) (ft .kind);
-    same = ft .same;
-    key = ft .key;
-    corners = λ e. ft .corners (ft .same ∙ e);
+    inside = omega (arith, ac .lo, ac .hi);
+    some = rw kind at (ac .some);
+    kept = λ k h. same k (rw kind h);
   }
-
-  tp : Top t
-  tp = top-told t ok
 
   dk : Deck t
   dk = deck t ok
 
-  after : List ℕ
-  after = put t (card - 1) new
+  abbrev c : ℕ
+  c = card - 1
 
-  -- ---- order and key stay in every row
-  order-same : (r : ℕ) → orderOf (rowAt after r) ≡ orderOf (rowAt t r)
-  unfolding after
-  order-same r =
-      ap (λ (l : ℕ). order (kindOf l))
-      (row-field (put t (card - 1) new) r 0 (omega arith) ∙ letter-same t (card - 1) new dk change r ∙ sym (row-field t r 0 (omega arith)))
+  abbrev t′ : List ℕ
+  t′ = put t (card - 1) new
 
-  keys-same : (r : ℕ) → getD (rowAt after r) 1 0 ≡ getD (rowAt t r) 1 0
-  unfolding after
-  keys-same r = row-field (put t (card - 1) new) r 1 (omega arith) ∙ key-same t (card - 1) new dk change r ∙ sym (row-field t r 1 (omega arith))
+  -- ---- what the judge reads of the other cards stays in every row
+  kinds-same : (r : ℕ) → kindAt (rowAt t′ r) ≡ kindAt (rowAt t r)
+  kinds-same r = ap kindOf (row-field t′ r 0 (omega arith) ∙ letter-same t c new dk change r ∙ sym (row-field t r 0 (omega arith)))
 
-  before-same : (r : ℕ) → orderBefore (rowAt after) r ≡ orderBefore (rowAt t) r
-  before-same zero = refl
-  before-same (suc r) = order-same r
+  rank-same : (r : ℕ) → rank (rowAt t′ r) ≡ rank (rowAt t r)
+  rank-same r = row-field t′ r 1 (omega arith) ∙ key-same t c new dk change r ∙ sym (row-field t r 1 (omega arith))
 
-  key-before : (r : ℕ) → keyBefore (rowAt after) r ≡ keyBefore (rowAt t) r
-  key-before zero = refl
-  key-before (suc r) = keys-same r
+  order-before : (r : ℕ) → orderBefore (rowAt t′) r ≡ orderBefore (rowAt t) r
+  order-before zero = refl
+  order-before (suc r) = ap (λ (k : Kind). about k .order) (kinds-same r)
+
+  rank-before : (r : ℕ) → rankBefore (rowAt t′) r ≡ rankBefore (rowAt t) r
+  rank-before zero = refl
+  rank-before (suc r) = rank-same r
+
+  rises-same : (r : ℕ) → rises (orderBefore (rowAt t′) r) (rankBefore (rowAt t′) r) (about (kindAt (rowAt t′ r))) (rowAt t′ r)
+      ≡ rises (orderBefore (rowAt t) r) (rankBefore (rowAt t) r) (about (kindAt (rowAt t r))) (rowAt t r)
+  unfolding rises
+  rises-same r =
+      λ j. let a = about (kinds-same r j) in eqb (a .keys) 0 || not (eqb (order-before r j) (a .order)) || ltb (rank-before r j) (rank-same r j)
 
   -- ---- each card passes where it stands
-  new-passes : passes (counts t) (rowAt after) (card - 1) ≡ Done
-  unfolding after
-  new-passes =
-      let c = card - 1 in
-      let z = counts t in
-      let p = orderBefore (rowAt t) c in
-      let k = keyBefore (rowAt t) c in
-      let q = passed z c p k (rowAt t c) (tp .each c (place t c new dk change .1)) in
-      let it : rowAt (put t c new) c ≡ new = row-here t c new six (room t c new dk change) in
-      let o : orderOf new ≡ orderOf (rowAt t c) = ap orderOf (sym it) ∙ order-same c in
-      let y : getD new 1 0 ≡ getD (rowAt t c) 1 0 = ap (λ (r : List ℕ). getD r 1 0) (sym it) ∙ keys-same c in
-      (λ i. judgeCard z c (before-same c i) (key-before c i) (it i))
-      ∙ passing z c p k new
-      (record {
-        place = ap (stands z c p) o ∙ q .place;
-        clear = ft .clear;
-        range = ft .range;
-        rise = (λ i. rises p k (o i) (y i)) ∙ q .rise;
-      })
-
-  each-passes : (r : ℕ) → suc r < rows t → passes (counts t) (rowAt after) r ≡ Done
-  unfolding after
-  each-passes r h = go (ℕ-discrete r (card - 1))
+  alone : (r : ℕ) → r < rows t → (P : List ℕ → Type 0) → P new → P (rowAt t r) → P (rowAt t′ r)
+  alone r h P p q = go (ℕ-discrete r c)
     where
-      go : Dec (r ≡ card - 1) → passes (counts t) (rowAt after) r ≡ Done
-      go (yes e) = rw e new-passes
-      go (no e) =
-          (λ i. judgeCard (counts t) r (before-same r i) (key-before r i) (row-other t (card - 1) new six (room t (card - 1) new dk change) r (omega (arith, dk .whole)) e i))
-          ∙ tp .each r h
+      go : Dec (r ≡ c) → P (rowAt t′ r)
+      go (yes e) = subst P (sym (ap (rowAt t′) e ∙ row-here t c new six (room t c new dk change))) p
+      go (no e) = subst P (sym (other-row t c new dk change r h e)) q
 
-  last-row : rowAt after (rows after - 1) ≡ rowAt t (rows t - 1)
-  unfolding after
-  last-row =
-      let c = card - 1 in
-      ap (λ (n : ℕ). rowAt (put t c new) (n - 1)) (rows-same t c new dk change)
-      ∙ row-other t c new six (room t c new dk change) (rows t - 1) (omega (arith, dk .whole, dk .all)) (λ e. omega (arith, place t c new dk change .1))
+  each-passes : (r : ℕ) → suc r < rows t → passes (countsAt t) (rowAt t′) r ≡ Done
+  each-passes r h =
+      let z = countsAt t in
+      let i : r < rows t = omega arith in
+      let q = passed z (rowAt t) r _ _ (top-told t ok .each r h) in
+      passing z (rowAt t′) r _ _
+      (record {
+        place = (λ j. stands z r (order-before r j) (about (kinds-same r j))) ∙ q .place;
+        clear = alone r i (λ x. clean x ≡ true) (ac .clear) (q .clear);
+        range = alone r i (λ x. inRange (columnsOf z x) x 5 0 ≡ true) (ac .range) (q .range);
+        rise = rises-same r ∙ q .rise;
+      })
 
   -- THEOREM. The deck with the new card in its place is accepted.
   pub stays : judged (put t (card - 1) new) ≡ Done
-  unfolding after
   stays =
-      let c = card - 1 in
+      let tp = top-told t ok in
       let long = length-put t c new six (room t c new dk change) in
-      let same : counts (put t c new) ≡ counts t = λ i. record { nodes = nodes-same t c new dk change i; materials = materials-same t c new dk change i; elements = elements-same t c new dk change i; loads = last-same t c new dk change 5 (omega arith) i } in
-      top-done (put t c new)
+      let last = last-row t c new dk change in
+      top-done t′
       (record {
         sixes = rw long (tp .sixes);
         least = rw long (tp .least);
         most = rw long (tp .most);
-        zed = rw last-row (tp .zed);
-        back = rw (last-row, long) (tp .back);
-        each = λ r h. rw same (each-passes r (rw long at h));
+        zed = rw last (tp .zed);
+        back = rw (last, long) (tp .back);
+        each = λ r h. rw (counts-same t c new dk change) (each-passes r (rw long at h));
       })

@@ -26,6 +26,10 @@ pub cond-done : (b : Bool) (a : Answer) (r : Refusal) → cond b a (Refused r) �
 cond-done true a r e = (refl, e)
 cond-done false a r e = done-refused e
 
+pub cond-rest : (b : Bool) (a : Answer) (r : Refusal) → cond b (Refused r) a ≡ Done → (b ≡ false) × (a ≡ Done)
+cond-rest false a r e = (refl, e)
+cond-rest true a r e = done-refused e
+
 -- ---- outcomes
 
 pub refused-done : {X Y : Type 0} {r : Refusal} {x : X} → refused r ≡ done x → Y

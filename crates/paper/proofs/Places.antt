@@ -1,4 +1,4 @@
--- The places of an element's corners: a square added in place, as code does it, is what the square spreads. For three corners they are six places.
+-- The places of an element's corners: a square added in place, as code does it, is what the square spreads. Three places of an edge, six of a triangle, ten of a tetrahedron.
 use mathlib.Core.Path.{_≡_, refl, sym, ap, _∙_}
 use mathlib.Core.Bool.{Bool, true, false, cond, _&&_, _||_, or-self}
 use mathlib.Core.List.{List}
@@ -14,10 +14,18 @@ use Rattle.whole.specs.Packed.{tri, entry, lower}
 use Rattle.whole.proofs.Linear.{zarith, plusL}
 use Rattle.whole.proofs.Sums.{sum-ext, sum-plus, sum-minus}
 use Rattle.whole.proofs.Packed.{length-lower, lower-at, lower-ext, lower-eta, add, length-add, meets, entry-add}
-use Rattle.paper.specs.Matrices.{spread}
+use Rattle.paper.proofs.Square.{Sound, mass-symmetric}
+use Rattle.paper.specs.Corners.{mass, spread}
+use Rattle.paper.specs.Parts.{Part}
+use Rattle.paper.specs.Matrices.{addsP, addsA}
 use Rattle.paper.specs.Replacing.{moved}
 use Rattle.paper.proofs.Decks.{In}
+use Rattle.paper.proofs.Spans.{Inside, inside-each}
 use Rattle.paper.proofs.Sizes.{Distinct}
+
+-- what the first n corners of a square spread
+unfoldable pub first : ℕ → List ℕ → (ℕ → ℕ → ℤ) → ℕ → ℕ → ℤ
+first n ns q i j = sum n (λ a. sum n (λ b. cond (eqb (getD ns a 0) (suc i) && eqb (getD ns b 0) (suc j)) (q a b) (pos 0)))
 
 -- the row of corner a: node numbers from 1
 abbrev pub cornerRow : List ℕ → ℕ → ℕ
@@ -54,7 +62,7 @@ from-one x i h = go (ℕ-discrete x (suc i))
 
 -- corners within 1..m, no two the same
 pub record Corners (n m : ℕ) (ns : List ℕ) : Type 0 where
-  pub distinct : Distinct n ns
+  pub distinct : (a b : ℕ) → a < n → b < n → getD ns a 0 ≡ getD ns b 0 → a ≡ b
   pub inside : (a : ℕ) → a < n → In 1 m (getD ns a 0)
 
 module _ (ns : List ℕ) (q : ℕ → ℕ → ℤ) (same : (a b : ℕ) → q a b ≡ q b a) (m i j : ℕ) where
@@ -112,8 +120,8 @@ module _ (ns : List ℕ) (q : ℕ → ℕ → ℤ) (same : (a b : ℕ) → q a b
       ∙ (λ k. row-entry xs a a e c (omega arith) k +ℤ on-diagonal a la k)
 
   -- one more corner: its row, its column and its diagonal
-  spread-more : (n : ℕ) → spread (suc n) ns q i j ≡ spread n ns q i j +ℤ sum n (λ b. term n b +ℤ term b n) +ℤ term n n
-  unfolding spread sum term
+  spread-more : (n : ℕ) → first (suc n) ns q i j ≡ first n ns q i j +ℤ sum n (λ b. term n b +ℤ term b n) +ℤ term n n
+  unfolding first sum term
   spread-more n =
       (λ k. sum-plus n (λ a. sum n (term a)) (λ a. term a n) k +ℤ (sum n (term n) +ℤ term n n))
       ∙ four (sum n (λ a. sum n (term a))) (sum n (λ a. term a n)) (sum n (term n)) (term n n)
@@ -122,18 +130,18 @@ module _ (ns : List ℕ) (q : ℕ → ℕ → ℤ) (same : (a b : ℕ) → q a b
       four : (s c r d : ℤ) → s +ℤ c +ℤ (r +ℤ d) ≡ s +ℤ (r +ℤ c) +ℤ d
       four s c r d = omega (zarith, plusL s c, plusL r d, plusL (s +ℤ c) (r +ℤ d), plusL r c, plusL s (r +ℤ c), plusL (s +ℤ (r +ℤ c)) d)
 
-  spread-none : spread 0 ns q i j ≡ pos 0
-  unfolding spread sum
+  spread-none : first 0 ns q i j ≡ pos 0
+  unfolding first sum
   spread-none = refl
 
-  square-entry : (n : ℕ) (xs : List ℤ) → length xs ≡ tri m → Corners n m ns → entry (addSquare n xs ns q) i j ≡ entry xs i j +ℤ spread n ns q i j
+  square-entry : (n : ℕ) (xs : List ℤ) → length xs ≡ tri m → Corners n m ns → entry (addSquare n xs ns q) i j ≡ entry xs i j +ℤ first n ns q i j
   unfolding addSquare
   square-entry zero xs e c = sym (ap (λ (z : ℤ). entry xs i j +ℤ z) spread-none ∙ +ℤ-idr (entry xs i j))
   square-entry (suc n) xs e c =
       let fewer : Corners n m ns = record { distinct = λ a b l k. c .distinct a b (omega arith) (omega arith); inside = λ a l. c .inside a (omega arith) } in
       whole-row (addSquare n xs ns q) n (length-square n xs ns q ∙ e) c
       ∙ (λ k. square-entry n xs e fewer k +ℤ sum n (λ b. term n b +ℤ term b n) +ℤ term n n)
-      ∙ three (entry xs i j) (spread n ns q i j) (sum n (λ b. term n b +ℤ term b n)) (term n n)
+      ∙ three (entry xs i j) (first n ns q i j) (sum n (λ b. term n b +ℤ term b n)) (term n n)
       ∙ ap (λ (z : ℤ). entry xs i j +ℤ z) (sym (spread-more n))
     where
       three : (e s r d : ℤ) → e +ℤ s +ℤ r +ℤ d ≡ e +ℤ (s +ℤ r +ℤ d)
@@ -141,13 +149,13 @@ module _ (ns : List ℕ) (q : ℕ → ℕ → ℤ) (same : (a b : ℕ) → q a b
 
 -- THEOREM. A symmetric square over n distinct corners, added in place, is the whole triangle with what the square spreads.
 pub add-square : (n m : ℕ) (ns : List ℕ) (q : ℕ → ℕ → ℤ) (xs : List ℤ) → Corners n m ns → ((a b : ℕ) → q a b ≡ q b a) → length xs ≡ tri m
-    → addSquare n xs ns q ≡ lower m (λ i j. entry xs i j +ℤ spread n ns q i j)
+    → addSquare n xs ns q ≡ lower m (λ i j. entry xs i j +ℤ first n ns q i j)
 add-square n m ns q xs c same e =
     lower-eta m (addSquare n xs ns q) (length-square n xs ns q ∙ e) ∙ lower-ext m _ _ (λ i j a b. square-entry ns q same m i j n xs e c)
 
 -- THEOREM. A loop over the cards: one more card's square in place is one more term of the sum.
 pub assemble : (n m k : ℕ) (ns : List ℕ) (q : ℕ → ℕ → ℤ) (adds : ℕ → ℕ → ℕ → ℤ) (xs : List ℤ) → Corners n m ns → ((a b : ℕ) → q a b ≡ q b a)
-    → ((i j : ℕ) → adds k i j ≡ spread n ns q i j) → xs ≡ lower m (λ i j. sum k (λ row. adds row i j)) → addSquare n xs ns q ≡ lower m (λ i j. sum (suc k) (λ row. adds row i j))
+    → ((i j : ℕ) → adds k i j ≡ first n ns q i j) → xs ≡ lower m (λ i j. sum k (λ row. adds row i j)) → addSquare n xs ns q ≡ lower m (λ i j. sum (suc k) (λ row. adds row i j))
 unfolding sum
 assemble n m k ns q adds xs c same is e =
     add-square n m ns q xs c same (ap length e ∙ length-lower m (λ i j. sum k (λ row. adds row i j)))
@@ -155,8 +163,8 @@ assemble n m k ns q adds xs c same is e =
 
 -- ---- sums and differences of squares
 
-pub spread-plus : (n : ℕ) (ns : List ℕ) (q q′ : ℕ → ℕ → ℤ) (i j : ℕ) → spread n ns q i j +ℤ spread n ns q′ i j ≡ spread n ns (λ a b. q a b +ℤ q′ a b) i j
-unfolding spread
+pub spread-plus : (n : ℕ) (ns : List ℕ) (q q′ : ℕ → ℕ → ℤ) (i j : ℕ) → first n ns q i j +ℤ first n ns q′ i j ≡ first n ns (λ a b. q a b +ℤ q′ a b) i j
+unfolding first
 spread-plus n ns q q′ i j =
     sym (sum-plus n _ _)
     ∙ sum-ext n _ _ (λ a l. sym (sum-plus n _ _) ∙ sum-ext n _ _ (λ b k. each (eqb (getD ns a 0) (suc i) && eqb (getD ns b 0) (suc j)) (q a b) (q′ a b)))
@@ -165,8 +173,8 @@ spread-plus n ns q q′ i j =
     each true x y = refl
     each false x y = refl
 
-pub spread-minus : (n : ℕ) (ns : List ℕ) (q q′ : ℕ → ℕ → ℤ) (i j : ℕ) → spread n ns q i j -ℤ spread n ns q′ i j ≡ spread n ns (λ a b. q a b -ℤ q′ a b) i j
-unfolding spread
+pub spread-minus : (n : ℕ) (ns : List ℕ) (q q′ : ℕ → ℕ → ℤ) (i j : ℕ) → first n ns q i j -ℤ first n ns q′ i j ≡ first n ns (λ a b. q a b -ℤ q′ a b) i j
+unfolding first
 spread-minus n ns q q′ i j =
     sym (sum-minus n _ _)
     ∙ sum-ext n _ _ (λ a l. sym (sum-minus n _ _) ∙ sum-ext n _ _ (λ b k. each (eqb (getD ns a 0) (suc i) && eqb (getD ns b 0) (suc j)) (q a b) (q′ a b)))
@@ -177,8 +185,61 @@ spread-minus n ns q q′ i j =
 
 -- THEOREM. `moved` is the square's places written, for an element's own corners.
 pub moved-in-place : (n m : ℕ) (ns : List ℕ) (q q′ : ℕ → ℕ → ℤ) (xs : List ℤ) → Corners n m ns → ((a b : ℕ) → q a b ≡ q b a) → ((a b : ℕ) → q′ a b ≡ q′ b a) → length xs ≡ tri m
-    → moved m xs (spread n ns q) (spread n ns q′) ≡ addSquare n xs ns (λ a b. q a b -ℤ q′ a b)
+    → moved m xs (first n ns q) (first n ns q′) ≡ addSquare n xs ns (λ a b. q a b -ℤ q′ a b)
 unfolding moved
 moved-in-place n m ns q q′ xs c s s′ e =
     lower-ext m _ _ (λ i j a b. ap (λ (z : ℤ). entry xs i j +ℤ z) (spread-minus n ns q q′ i j))
     ∙ sym (add-square n m ns (λ a b. q a b -ℤ q′ a b) xs c (λ a b. λ d. s a b d -ℤ s′ a b d) e)
+
+-- ---- of a part
+
+-- its square in P, and in A
+abbrev pub squareP : Part → ℕ → ℕ → ℤ
+squareP x = mass (x .capacity)
+
+abbrev pub squareA : Part → ℕ → ℕ → ℤ
+squareA x a b = x .conductance a b +ℤ mass (x .capacity) a b +ℤ mass (x .film) a b
+
+pub squareA-symmetric : (x : Part) → Sound x → (a b : ℕ) → squareA x a b ≡ squareA x b a
+squareA-symmetric x h a b = λ d. h .symmetric a b d +ℤ mass-symmetric (x .capacity) a b d +ℤ mass-symmetric (x .film) a b d
+
+pub corners-of : (m : ℕ) (ns : List ℕ) → Inside m ns → Distinct ns → Corners (length ns) m ns
+corners-of m ns i d = record { distinct = d; inside = inside-each m ns i }
+
+adds-P : (x : Part) (i j : ℕ) → addsP x i j ≡ first (length (x .corners)) (x .corners) (squareP x) i j
+unfolding addsP spread first
+adds-P x i j = refl
+
+adds-A : (x : Part) (i j : ℕ) → addsA x i j ≡ first (length (x .corners)) (x .corners) (squareA x) i j
+unfolding addsA spread first
+adds-A x i j = refl
+
+module _ (m : ℕ) (x : Part) (xs : List ℤ) (i : Inside m (x .corners)) (d : Distinct (x .corners)) (s : Sound x) (e : length xs ≡ tri m) where
+  -- THEOREMS. One more card, in place: its square's lower half is added to its corners' entries.
+  pub added-P : addSquare (length (x .corners)) xs (x .corners) (squareP x) ≡ lower m (λ k j. entry xs k j +ℤ addsP x k j)
+  added-P =
+      add-square (length (x .corners)) m (x .corners) (squareP x) xs (corners-of m (x .corners) i d) (mass-symmetric (x .capacity)) e
+      ∙ lower-ext m _ _ (λ k j l h. ap (λ (z : ℤ). entry xs k j +ℤ z) (sym (adds-P x k j)))
+
+  pub added-A : addSquare (length (x .corners)) xs (x .corners) (squareA x) ≡ lower m (λ k j. entry xs k j +ℤ addsA x k j)
+  added-A =
+      add-square (length (x .corners)) m (x .corners) (squareA x) xs (corners-of m (x .corners) i d) (squareA-symmetric x s) e
+      ∙ lower-ext m _ _ (λ k j l h. ap (λ (z : ℤ). entry xs k j +ℤ z) (sym (adds-A x k j)))
+
+  -- THEOREMS. A replaced card, in place: the new square minus the old, at the same corners.
+  module _ (x′ : Part) (c : x′ .corners ≡ x .corners) (s′ : Sound x′) where
+    there-P : (k j : ℕ) → addsP x′ k j ≡ first (length (x .corners)) (x .corners) (squareP x′) k j
+    there-P k j = adds-P x′ k j ∙ ap (λ (ns : List ℕ). first (length ns) ns (squareP x′) k j) c
+
+    there-A : (k j : ℕ) → addsA x′ k j ≡ first (length (x .corners)) (x .corners) (squareA x′) k j
+    there-A k j = adds-A x′ k j ∙ ap (λ (ns : List ℕ). first (length ns) ns (squareA x′) k j) c
+
+    pub moved-P : moved m xs (addsP x′) (addsP x) ≡ addSquare (length (x .corners)) xs (x .corners) (λ a b. squareP x′ a b -ℤ squareP x a b)
+    moved-P =
+        (λ k. moved m xs (λ q j. there-P q j k) (λ q j. adds-P x q j k))
+        ∙ moved-in-place (length (x .corners)) m (x .corners) (squareP x′) (squareP x) xs (corners-of m (x .corners) i d) (mass-symmetric (x′ .capacity)) (mass-symmetric (x .capacity)) e
+
+    pub moved-A : moved m xs (addsA x′) (addsA x) ≡ addSquare (length (x .corners)) xs (x .corners) (λ a b. squareA x′ a b -ℤ squareA x a b)
+    moved-A =
+        (λ k. moved m xs (λ q j. there-A q j k) (λ q j. adds-A x q j k))
+        ∙ moved-in-place (length (x .corners)) m (x .corners) (squareA x′) (squareA x) xs (corners-of m (x .corners) i d) (squareA-symmetric x′ s′) (squareA-symmetric x s) e

@@ -1,27 +1,29 @@
 -- What the judge accepts can be printed: a letter of the eight, no field of more than eight digits, unused fields 0.
-use mathlib.Core.Path.{_≡_, refl, sym, ap, _∙_}
-use mathlib.Core.Bool.{Bool, true, false, cond}
+use mathlib.Core.Path.{_≡_, refl, sym, ap, subst, _∙_}
+use mathlib.Core.Bool.{Bool, true, false}
 use mathlib.Core.List.{List, [], _∷_}
 use Prim.Native.Nat.{ℕ, zero, suc, _+_, _-_, _≤_, _<_}
 use native.Mathlib.Omega.{arith}
 use borrow.Author.Tests.{eqb-true, eqb-false, leb-true}
-use lib.Dec.{leb, ltb, eqb}
+use lib.Dec.{leb, eqb}
 use lib.ListN.{length, getD}
-use Rattle.whole.proofs.Tests.{never, and-told}
-use Rattle.paper.specs.Cards.{kindOf, order, used, cards, fields, zeros, inRange, Between, _⋯_, kindAt, orderOf, countsOf}
-use Rattle.paper.specs.Judge.{load, stands, clean, judgeCard, trailer}
+use Rattle.whole.proofs.Tests.{and-told}
+use Rattle.whole.specs.Sums.{sumN}
+use Rattle.paper.specs.Kinds.{about, kindOf, kindAt}
+use Rattle.paper.specs.Cards.{Column, _⋯_, before, cards, columns, used, zeros, inRange, countsOf, mostRows}
+use Rattle.paper.specs.Judge.{stands, clean, judgeCard, trailer}
 use Rattle.paper.specs.declared.Answer.the-variants.{Done}
 use Rattle.paper.specs.declared.Counts.{Counts}
 use Rattle.paper.specs.declared.Kind.{Kind}
 use Rattle.paper.specs.declared.Kind.the-variants.{D, N, M, E, H, F, T, Z, Other}
-use Rattle.paper.proofs.Judged.{passed, range-each}
+use Rattle.paper.proofs.Judged.{passed, stands-told, range-each}
 use Rattle.paper.proofs.CardText.{Printable}
 use Rattle.paper.proofs.Reading.{trailer-told}
 
 -- ---- no place allows a letter that is none
 
-other-of : (k : Kind) → used k ≡ 0 → order k ≡ 8
-unfolding used fields order
+other-of : (k : Kind) → used k ≡ 0 → k ≡ Other
+unfolding used columns
 other-of D e = absurd (omega arith)
 other-of N e = absurd (omega arith)
 other-of M e = absurd (omega arith)
@@ -32,30 +34,25 @@ other-of T e = absurd (omega arith)
 other-of Z e = absurd (omega arith)
 other-of Other e = refl
 
-four-none : (a b c d : Bool) → cond a false (cond b false (cond c false (cond d false false))) ≡ false
-four-none true b c d = refl
-four-none false true c d = refl
-four-none false false true d = refl
-four-none false false false true = refl
-four-none false false false false = refl
-
-none-stands : (z : Counts) (i p : ℕ) → stands z i p 8 ≡ false
-unfolding stands load
-none-stands z i p = four-none (ltb i 1) (ltb i (1 + z .nodes)) (ltb i (1 + z .nodes + z .materials)) (ltb i (1 + z .nodes + z .materials + z .elements))
+none-stands : (z : Counts) (i p : ℕ) → stands z i p (about Other) ≡ true → ⊥
+unfolding about before sumN
+none-stands z i p h =
+    let s = stands-told z i p (about Other) h in
+    omega (arith, s .lo, s .hi)
 
 -- ---- no bound has more than eight digits
 
-abbrev AllSmall : List Between → Type 0
+abbrev AllSmall : List Column → Type 0
 AllSmall [] = Unit
 AllSmall (b ∷ bs) = (b .most < 100000000) × AllSmall bs
 
-small-at : (bs : List Between) → AllSmall bs → (k : ℕ) → getD bs k (0 ⋯ 0) .most < 100000000
+small-at : (bs : List Column) → AllSmall bs → (k : ℕ) → getD bs k (0 ⋯ 0) .most < 100000000
 small-at [] s k = omega arith
 small-at (b ∷ bs) s zero = s .0
 small-at (b ∷ bs) s (suc k) = small-at bs (s .1) k
 
-all-small : (z : Counts) → cards z ≤ 681 → (k : Kind) → AllSmall (fields z k)
-unfolding fields cards
+all-small : (z : Counts) → cards z < mostRows → (k : Kind) → AllSmall (columns z k)
+unfolding columns before sumN
 all-small z h D = (omega arith, (omega arith, (omega arith, tt)))
 all-small z h N = (omega arith, (omega arith, tt))
 all-small z h M = (omega arith, (omega arith, (omega arith, tt)))
@@ -66,13 +63,13 @@ all-small z h T = (omega arith, (omega arith, tt))
 all-small z h Z = (omega arith, (omega arith, (omega arith, (omega arith, (omega arith, tt)))))
 all-small z h Other = tt
 
-small-of : (z : Counts) → cards z ≤ 681 → (kind : Kind) (card : List ℕ) → inRange (fields z kind) card 5 0 ≡ true → (k : ℕ) → k < 5 → getD card (suc k) 0 < 100000000
+small-of : (z : Counts) → cards z < mostRows → (kind : Kind) (card : List ℕ) → inRange (columns z kind) card 5 0 ≡ true → (k : ℕ) → k < 5 → getD card (suc k) 0 < 100000000
 small-of z few kind card h k l =
-    let b = getD (fields z kind) k (0 ⋯ 0) in
+    let b = getD (columns z kind) k (0 ⋯ 0) in
     let v = getD card (suc k) 0 in
-    let w = and-told (leb (b .least) v) (leb v (b .most)) (range-each (fields z kind) card 5 0 k h (omega arith) (omega arith)) in
+    let w = and-told (leb (b .least) v) (leb v (b .most)) (range-each (columns z kind) card 5 0 k h (omega arith) (omega arith)) in
     let m = leb-true v (b .most) (w .1) in
-    let s = small-at (fields z kind) (all-small z few kind) k in
+    let s = small-at (columns z kind) (all-small z few kind) k in
     omega arith
 
 -- ---- unused fields
@@ -92,39 +89,45 @@ zeros-at card (suc n) j h k a b =
 
 -- ---- a card that is judged, and Z
 
-pub prints : (z : Counts) → cards z ≤ 681 → (i p key : ℕ) (card : List ℕ) → length card ≡ 6 → judgeCard z i p key card ≡ Done → Printable card
+pub prints : (z : Counts) → cards z < mostRows → (row : ℕ → List ℕ) (i p key : ℕ) → length (row i) ≡ 6 → judgeCard z row i p key ≡ Done → Printable (row i)
 unfolding clean
-prints z few i p key card six h =
-    let u = used (kindAt card) in
-    let s = passed z i p key card h in
+prints z few row i p key six h =
+    let u = used (kindAt (row i)) in
+    let s = passed z row i p key h in
     record {
       six = six;
-      letter = λ e. never (sym (none-stands z i p) ∙ ap (stands z i p) (sym (other-of (kindAt card) e)) ∙ s .place);
-      small = small-of z few (kindAt card) card (s .range);
-      unused = λ k l m. zeros-at card (5 - u) (1 + u) (s .clear) (suc k) (omega arith) (omega arith);
+      letter = λ e. none-stands z i p (subst (λ (k : Kind). stands z i p (about k) ≡ true) (other-of (kindAt (row i)) e) (s .place));
+      small = small-of z few (kindAt (row i)) (row i) (s .range);
+      unused = λ k l m. zeros-at (row i) (5 - u) (1 + u) (s .clear) (suc k) (omega arith) (omega arith);
     }
 
-used-Z : used (kindOf 90) ≡ 5
-unfolding used kindOf fields
+used-Z : used Z ≡ 5
+unfolding used columns
 used-Z = refl
 
 pub prints-Z : (card : List ℕ) → length card ≡ 6 → trailer card ≡ true → Printable card
 prints-Z card six h =
     let s = trailer-told card h in
-    let u : used (kindAt card) ≡ 5 = ap (λ (l : ℕ). used (kindOf l)) (s .letter) ∙ used-Z in
+    let u : used (kindAt card) ≡ 5 = ap used (s .kind) ∙ used-Z in
     record {
       six = six;
       letter = λ e. omega arith;
-      small = small-of (countsOf card) (s .few) Z card (s .range);
+      small = small-of (countsOf card) (s .few) (kindAt card) card (s .range);
       unused = λ k l m. absurd (omega arith);
     }
 
 -- a malformed card reads as six zeros, which no place allows
-zero-kind : order (kindOf 0) ≡ 8
-unfolding order kindOf
+zero-kind : kindOf 0 ≡ Other
+unfolding kindOf about
 zero-kind = refl
 
-pub lettered : (z : Counts) (i p key : ℕ) (card : List ℕ) → judgeCard z i p key card ≡ Done → getD card 0 0 ≡ 0 → ⊥
-lettered z i p key card h e =
-    let o : orderOf card ≡ 8 = ap (λ (l : ℕ). order (kindOf l)) e ∙ zero-kind in
-    never (sym (none-stands z i p) ∙ ap (stands z i p) (sym o) ∙ passed z i p key card h .place)
+pub lettered : (z : Counts) (row : ℕ → List ℕ) (i p key : ℕ) → judgeCard z row i p key ≡ Done → getD (row i) 0 0 ≡ 0 → ⊥
+lettered z row i p key h e =
+    none-stands z i p (subst (λ (k : Kind). stands z i p (about k) ≡ true) (ap kindOf e ∙ zero-kind) (passed z row i p key h .place))
+
+pub z-lettered : (card : List ℕ) → trailer card ≡ true → getD card 0 0 ≡ 0 → ⊥
+unfolding used columns
+z-lettered card h e = prints-not (ap used (sym (trailer-told card h .kind) ∙ ap kindOf e ∙ zero-kind))
+  where
+    prints-not : used Z ≡ used Other → ⊥
+    prints-not q = omega arith

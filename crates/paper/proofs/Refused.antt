@@ -8,10 +8,11 @@ use lib.IntN.{ℤ, pos}
 use lib.Signed.{leZ}
 use lib.ListN.{length, getD, set}
 use Rattle.whole.specs.Packed.{tri}
-use Rattle.paper.specs.Refusals.{numberOf, Outcome, refused, done, when, then, andThen}
-use Rattle.paper.specs.Cards.{inRange, fields, kindAt, orderOf, countsOf, rowAt, rows, elementRow, stepOf}
+use Rattle.paper.specs.Refusals.{Outcome, refused, done, when, then, andThen}
+use Rattle.paper.specs.Kinds.{about}
+use Rattle.paper.specs.Cards.{columnsOf, inRange, orderOf, rank, countsAt, mostRows, rowAt, rows, elementRow}
 use Rattle.paper.specs.Judge.{clean, formed, ranged, judgeCard, judgeFrom, trailer, judgeRows, judged, answers, newJudged}
-use Rattle.paper.specs.Triangle.{S, fair, triangleAt, formJudged, elementJudged}
+use Rattle.paper.specs.Elements.{Element, elementAt, fair, formJudged, elementJudged}
 use Rattle.paper.specs.Factor.{w, l, small, rowFrom, rowsFrom}
 use Rattle.paper.specs.Building.{elementsFrom}
 use Rattle.paper.specs.Calls.{inFactor}
@@ -19,6 +20,7 @@ use Rattle.paper.specs.declared.Answer.{Answer}
 use Rattle.paper.specs.declared.Answer.the-variants.{Done, Refused}
 use Rattle.paper.specs.declared.Refusal.{Refusal}
 use Rattle.paper.specs.declared.Refusal.the-variants.{Pivot, Bound}
+use Rattle.paper.specs.declared.Kind.the-variants.{Other}
 use Rattle.paper.specs.declared.Counts.{Counts}
 
 -- an answer that is no refusal of the factor
@@ -37,35 +39,37 @@ either : (b : Bool) (x y : Answer) → Plain x → Plain y → Plain (cond b x y
 either true x y p q = p
 either false x y p q = q
 
-card-plain : (z : Counts) (i p key : ℕ) (card : List ℕ) → Plain (judgeCard z i p key card)
-unfolding judgeCard numberOf
-card-plain z i p key card = either (formed z i p card) _ _ (either (ranged z p key card) _ _ tt refl) refl
+card-plain : (z : Counts) (row : ℕ → List ℕ) (i p key : ℕ) → Plain (judgeCard z row i p key)
+unfolding judgeCard
+card-plain z row i p key = either (formed z row i p) _ _ (either (ranged z row i p key) _ _ tt refl) refl
 
 cards-plain : (z : Counts) (row : ℕ → List ℕ) (n i p key : ℕ) → Plain (judgeFrom z row n i p key)
 unfolding judgeFrom
 cards-plain z row zero i p key = tt
 cards-plain z row (suc n) i p key =
-    both (judgeCard z i p key (row i)) _ (card-plain z i p key (row i)) (cards-plain z row n (suc i) (orderOf (row i)) (getD (row i) 1 0))
+    both (judgeCard z row i p key) _ (card-plain z row i p key) (cards-plain z row n (suc i) (orderOf (row i)) (rank (row i)))
 
 pub judged-plain : (t : List ℕ) → Plain (judged t)
-unfolding judged judgeRows numberOf
+unfolding judged judgeRows
 judged-plain t =
     let n = rows t - 1 in
-    either (not (eqb (length t % 6) 0) || ltb (length t) 12 || ltb 4092 (length t)) _ _ refl
-    (either (trailer (rowAt t n) && eqb (getD (rowAt t n) 1 0) (42 * n)) _ _ (cards-plain (countsOf (rowAt t n)) (rowAt t) n 0 0 0) refl)
+    either (not (eqb (length t % 6) 0) || ltb (length t) 12 || ltb (mostRows * 6) (length t)) _ _ refl
+    (either (trailer (rowAt t n) && eqb (getD (rowAt t n) 1 0) (42 * n)) _ _ (cards-plain (countsAt t) (rowAt t) n 0 0 0) refl)
 
 pub new-plain : (t : List ℕ) (card : ℕ) (new : List ℕ) → Plain (newJudged t card new)
-unfolding newJudged numberOf
+unfolding newJudged
 new-plain t card new =
-    either (ltb (orderOf new) 8 && clean new) _ _
-    (either (answers t card new) _ _ (either (inRange (fields (countsOf (rowAt t (rows t - 1))) (kindAt new)) new 5 0) _ _ tt refl) refl)
+    either (ltb (orderOf new) (about Other .order) && clean new) _ _
+    (either (answers t card new) _ _ (either (inRange (columnsOf (countsAt t) new) new 5 0) _ _ tt refl) refl)
     refl
 
+pub form-plain : (it : Element) (e : ℕ) → Plain (formJudged it e)
+unfolding formJudged
+form-plain it e = either (leb 1 (it .size)) _ _ (either (fair it) _ _ tt refl) refl
+
 pub element-plain : (t : List ℕ) (e : ℕ) → Plain (elementJudged t e)
-unfolding elementJudged formJudged numberOf
-element-plain t e =
-    let it = triangleAt t (elementRow t e) in
-    either (leb 1 (S (it .shape))) _ _ (either (fair (stepOf t) it) _ _ tt refl) refl
+unfolding elementJudged
+element-plain t e = form-plain (elementAt t (elementRow t e)) e
 
 pub elements-plain : (n e : ℕ) (t : List ℕ) → Plain (elementsFrom n e t)
 unfolding elementsFrom
@@ -74,20 +78,20 @@ elements-plain (suc n) e t = both (elementJudged t e) _ (element-plain t e) (ele
 
 -- ---- the factor's own
 
-abbrev pub Inside : {X : Type 0} → Outcome X → Type 0
-Inside (refused r) = inFactor r ≡ true
-Inside (done x) = Unit {0}
+abbrev pub OfFactor : {X : Type 0} → Outcome X → Type 0
+OfFactor (refused r) = inFactor r ≡ true
+OfFactor (done x) = Unit {0}
 
-when-inside : {X : Type 0} (b : Bool) (r : Refusal) (o : Outcome X) → inFactor r ≡ true → Inside o → Inside (when b r o)
+when-inside : {X : Type 0} (b : Bool) (r : Refusal) (o : Outcome X) → inFactor r ≡ true → OfFactor o → OfFactor (when b r o)
 when-inside true r o p q = q
 when-inside false r o p q = p
 
-then-inside : {X Y : Type 0} (o : Outcome X) (f : X → Outcome Y) → Inside o → ((x : X) → Inside (f x)) → Inside (then o f)
+then-inside : {X Y : Type 0} (o : Outcome X) (f : X → Outcome Y) → OfFactor o → ((x : X) → OfFactor (f x)) → OfFactor (then o f)
 then-inside (refused r) f p q = p
 then-inside (done x) f p q = q x
 
-row-inside : (r i j : ℕ) (xs ws : List ℤ) → Inside (rowFrom r i j xs ws)
-unfolding rowFrom numberOf
+row-inside : (r i j : ℕ) (xs ws : List ℤ) → OfFactor (rowFrom r i j xs ws)
+unfolding rowFrom
 row-inside zero i j xs ws =
     let d = w xs (tri i) i ws in
     when-inside (small 38 d) (Bound (suc i)) _ refl (when-inside (leZ (pos 16) d) (Pivot (suc i)) (done (set xs (tri i + i) d)) refl tt)
@@ -97,10 +101,10 @@ row-inside (suc r) i j xs ws =
     when-inside (small 38 (w xs (tri i) j ws)) (Bound (suc i)) _ refl
     (when-inside (small 24 (l xs (tri i) j ws)) (Bound (suc i)) (rowFrom r i (suc j) q v) refl (row-inside r i (suc j) q v))
 
-pub rows-inside : (r i : ℕ) (xs : List ℤ) → Inside (rowsFrom r i xs)
+pub rows-inside : (r i : ℕ) (xs : List ℤ) → OfFactor (rowsFrom r i xs)
 unfolding rowsFrom
 rows-inside zero i xs = tt
 rows-inside (suc r) i xs = then-inside (rowFrom i i 0 xs []) (rowsFrom r (suc i)) (row-inside i i 0 xs []) (λ ys. rows-inside r (suc i) ys)
 
-pub inside-told : {X : Type 0} (o : Outcome X) (r : Refusal) → Inside o → o ≡ refused r → inFactor r ≡ true
+pub inside-told : {X : Type 0} (o : Outcome X) (r : Refusal) → OfFactor o → o ≡ refused r → inFactor r ≡ true
 inside-told o r p e = rw e at p

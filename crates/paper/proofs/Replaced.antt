@@ -1,32 +1,37 @@
--- On a deck's own slices a replacement makes what a fresh build of the changed deck makes.
-use mathlib.Core.Path.{_≡_, refl, sym, ap, _∙_}
-use mathlib.Core.Bool.{_||_}
+-- On a deck's own slices a replacement makes what a fresh build of the changed deck makes: one law for every kind that stirs.
+use mathlib.Core.Path.{_≡_, refl, sym, ap, subst, _∙_}
+use mathlib.Core.Bool.{true, false, _||_}
 use mathlib.Core.List.{List, _++_}
-use Prim.Native.Nat.{ℕ, zero, suc, _+_, _-_, _≤_, _<_}
-use native.Mathlib.Decide.{ℕ-discrete}
+use Prim.Native.Nat.{ℕ, _+_, _-_, _≤_, _<_}
 use native.Mathlib.Omega.{arith}
-use borrow.Author.Tests.{ne-eqb}
-use lib.IntN.{ℤ, pos, _+ℤ_, _-ℤ_, +ℤ-idr}
-use lib.ListN.{length, take, drop}
-use Rattle.whole.specs.Sums.{sum}
+use lib.IntN.{ℤ, pos, _+ℤ_, _-ℤ_, +ℤ-idr, +ℤ-invr}
+use lib.ListN.{length, getD, take, drop}
 use Rattle.whole.specs.Packed.{tri, lower, entry}
-use Rattle.whole.proofs.Tests.{cond-same}
+use Rattle.whole.proofs.Tests.{never, cond-same}
 use Rattle.whole.proofs.Packed.{lower-at, lower-ext, lower-take, length-lower, tri-le}
-use Rattle.paper.specs.Refusals.{Outcome, done, then, andThen, after}
-use Rattle.paper.specs.Cards.{field, nodes, materials, elements, elementRow, put}
-use Rattle.paper.specs.Triangle.{shapeAt, triangleAt, elementJudged}
-use Rattle.paper.specs.Matrices.{spread, addsK, addsP, addsF, addsA, P, A, fixed, cleared}
+use Rattle.paper.specs.Refusals.{Outcome, done, then, after}
+use Rattle.paper.specs.Kinds.{about}
+use Rattle.paper.specs.Cards.{field, rowAt, countsAt, nodes, materials, elements, put}
+use Rattle.paper.specs.Judge.{nameAt}
+use Rattle.paper.specs.Elements.{elementJudged}
+use Rattle.paper.specs.Parts.{Part, partOf, partAt, least}
+use Rattle.paper.specs.Matrices.{addsP, addsA, P, A, fixed, cleared}
 use Rattle.paper.specs.Factor.{rowsFrom}
 use Rattle.paper.specs.Building.{Slices, elementsFrom, build}
-use Rattle.paper.specs.Replacing.{elementOf, leastRow, moved, redone}
+use Rattle.paper.specs.Replacing.{formOf, moved, firstRow, redone, stirs}
 use Rattle.paper.specs.declared.Answer.{Answer}
 use Rattle.paper.specs.declared.Answer.the-variants.{Done}
-use Rattle.paper.specs.declared.Kind.the-variants.{E, F}
-use Rattle.paper.proofs.Outcomes.{both-done, andThen-Done}
-use Rattle.paper.proofs.Decks.{Is, Deck, Change}
+use Rattle.paper.specs.declared.Kind.{Kind}
+use Rattle.paper.specs.declared.Kind.the-variants.{D, N, M, E, H, F, T, Z, Other}
+use Rattle.paper.proofs.Letters.{Body, flat, body-section}
+use Rattle.paper.proofs.Decks.{In, kindIn, Deck, Change}
+use Rattle.paper.proofs.Spans.{is-body, in-bodies, names-F, part-corners}
+use Rattle.paper.proofs.Least.{above-A, least-in}
 use Rattle.paper.proofs.Update.{update}
+use Rattle.paper.proofs.InTurn.{elements-each, elements-all, elements-one}
 use Rattle.paper.proofs.Built.{A′, Own}
-use Rattle.paper.proofs.Changed.{nodes-same, materials-same, elements-same, row-same, letter-same, key-same, shape-same, named-same, P-moved, A-moved, fixed-same, judged-same}
+use Rattle.paper.proofs.Kept.{nodes-same, elements-same}
+use Rattle.paper.proofs.Changed.{still-idle, corners-here, P-moved, A-moved, fixed-same, judged-same, new-name, form-load}
 
 -- a build, its two counts given
 abbrev buildAt : List ℕ → ℕ → ℕ → Outcome Slices
@@ -36,191 +41,127 @@ build-at : (t : List ℕ) (n m : ℕ) → nodes t ≡ n → elements t ≡ m →
 unfolding build
 build-at t n m e₁ e₂ = λ i. buildAt t (e₁ i) (e₂ i)
 
-made : (J J′ : Answer) (R R′ : Outcome (List ℤ)) (p p′ a a′ : List ℤ) → J ≡ J′ → R ≡ R′ → p ≡ p′ → a ≡ a′
-    → _≡_ {A = Outcome Slices} (after J (then R (λ f. done (record { p = p; a = a; factor = f })))) (after J′ (then R′ (λ f. done (record { p = p′; a = a′; factor = f }))))
-made J J′ R R′ p p′ a a′ eJ eR ep ea = λ i. after (eJ i) (then (eR i) (λ f. done (record { p = ep i; a = ea i; factor = f })))
+made : (J J′ : Answer) (X X′ : Outcome (List ℤ)) (p p′ a a′ : List ℤ) → J ≡ J′ → X ≡ X′ → p ≡ p′ → a ≡ a′
+    → _≡_ {A = Outcome Slices} (after J (then X (λ f. done (record { p = p; a = a; factor = f })))) (after J′ (then X′ (λ f. done (record { p = p′; a = a′; factor = f }))))
+made J J′ X X′ p p′ a a′ eJ eR ep ea = λ i. after (eJ i) (then (eR i) (λ f. done (record { p = ep i; a = ea i; factor = f })))
 
--- ---- refusals 5 and 6
-elements-all : (t t′ : List ℕ) (n e : ℕ) → ((k : ℕ) → e ≤ k → k < e + n → elementJudged t′ k ≡ elementJudged t k) → elementsFrom n e t′ ≡ elementsFrom n e t
-unfolding elementsFrom
-elements-all t t′ zero e h = refl
-elements-all t t′ (suc n) e h = λ i. andThen (h e (omega arith) (omega arith) i) (elements-all t t′ n (suc e) (λ k a b. h k (omega arith) (omega arith)) i)
-
--- where all pass and one alone is changed, the first refusal is that one's
-elements-one : (t t′ : List ℕ) (n e x : ℕ) → elementsFrom n e t ≡ Done → e ≤ x → x < e + n
-    → ((k : ℕ) → e ≤ k → k < e + n → (k ≡ x → ⊥) → elementJudged t′ k ≡ elementJudged t k) → elementsFrom n e t′ ≡ elementJudged t′ x
-unfolding elementsFrom
-elements-one t t′ zero e x p a b h = absurd (omega arith)
-elements-one t t′ (suc n) e x p a b h =
-    let (e₁, e₂) = both-done (elementJudged t e) (elementsFrom n (suc e) t) p in
-    go e₁ e₂ (ℕ-discrete x e) (λ q a′. elements-one t t′ n (suc e) x q a′ (omega arith) (λ k c d. h k (omega arith) (omega arith)))
-  where
-    go : elementJudged t e ≡ Done → elementsFrom n (suc e) t ≡ Done → Dec (x ≡ e) → (elementsFrom n (suc e) t ≡ Done → suc e ≤ x → elementsFrom n (suc e) t′ ≡ elementJudged t′ x)
-        → andThen (elementJudged t′ e) (elementsFrom n (suc e) t′) ≡ elementJudged t′ x
-    go e₁ e₂ (yes q) ih =
-        let rest : elementsFrom n (suc e) t′ ≡ Done = elements-all t t′ n (suc e) (λ k c d. h k (omega arith) (omega arith) (λ z. omega arith)) ∙ e₂ in
-        rw (rest, q) (andThen-Done (elementJudged t′ e))
-    go e₁ e₂ (no q) ih =
-        let q′ : x ≡ e → ⊥ = q in
-        let same : elementJudged t′ e ≡ Done = h e (omega arith) (omega arith) (λ z. q (sym z)) ∙ e₁ in
-        rw same (ih e₂ (omega arith))
-
--- ---- above the least corner's row nothing is added
-spread-above : (t : List ℕ) (r : ℕ) (q : ℕ → ℕ → ℤ) (i j : ℕ) → i < leastRow t r → spread 3 (shapeAt t r .corners) q i j ≡ pos 0
-unfolding spread sum shapeAt leastRow
-spread-above t r q i j h =
-    rw (
-      ne-eqb (field t r 1) (suc i) (λ e. omega arith),
-      ne-eqb (field t r 2) (suc i) (λ e. omega arith),
-      ne-eqb (field t r 3) (suc i) (λ e. omega arith),
-    )
-
-nought : {x y : ℤ} → x ≡ pos 0 → y ≡ pos 0 → x +ℤ y +ℤ pos 0 ≡ pos 0
-nought p q = λ k. p k +ℤ q k +ℤ pos 0
-
--- the row from which the factor is redone
-abbrev pub least : List ℕ → ℕ → List ℕ → ℕ
-least t c card = leastRow (put t c card) (elementRow (put t c card) (elementOf (put t c card) c))
-
--- ---- the element that an E or an F card is of
-pub record Touch (t : List ℕ) (c : ℕ) (card : List ℕ) : Type 0 where
-  pub lo : 1 ≤ elementOf (put t c card) c
-  pub hi : elementOf (put t c card) c ≤ elements t
-  pub only : (k : ℕ) → 1 ≤ k → k ≤ elements t → (k ≡ elementOf (put t c card) c → ⊥) → elementRow t k ≡ c → ⊥
-  pub new0 : (i j : ℕ) → i < least t c card → addsA (put t c card) c i j ≡ pos 0
-  pub old0 : (i j : ℕ) → i < least t c card → addsA t c i j ≡ pos 0
+body-stirs : (t card : List ℕ) (kind : Kind) → Body kind → partOf t card kind .stirs ≡ true
+unfolding partOf
+body-stirs t card kind (flat e) = rw e
 
 module _ (t : List ℕ) (c : ℕ) (card : List ℕ) (d : Deck t) (g : Change t c card) where
-  pub element-E : Is E t c → elementOf (put t c card) c ≡ c - (nodes t + materials t)
-  unfolding elementOf
-  element-E e = rw (letter-same t c card d g c, e, nodes-same t c card d g, materials-same t c card d g)
+  abbrev from : ℕ
+  from = firstRow t c card
 
-  pub element-F : Is F t c → elementOf (put t c card) c ≡ field t c 1
-  unfolding elementOf
-  element-F e = rw (letter-same t c card d g c, e, key-same t c card d g c)
+  abbrev t′ : List ℕ
+  t′ = put t c card
 
-  pub touch-E : Is E t c → Touch t c card
-  unfolding addsK addsP addsF triangleAt
-  touch-E e =
-      let (a, b) = d .inE c (g .inside) e in
-      let is = element-E e in
-      let back : elementRow (put t c card) (elementOf (put t c card) c) ≡ c = row-same t c card d g (elementOf (put t c card) c) ∙ rw is (omega arith) in
-      record {
-        lo = rw is (omega arith);
-        hi = rw is (omega arith);
-        only = λ k h h′ n q. n (is′ k q ∙ sym is);
-        new0 = λ i j h. new i j (rw back at h);
-        old0 = λ i j h. old i j (rw back at h);
-      }
-    where
-      is′ : (k : ℕ) → elementRow t k ≡ c → k ≡ c - (nodes t + materials t)
-      is′ k q = omega arith
+  pub from-fits : from ≤ nodes t
+  from-fits =
+      subst (λ (ns : List ℕ). least ns (getD ns 0 1) - 1 ≤ nodes t) (sym (corners-here t c card d g))
+      (least-in (nodes t) (partAt t c .corners) (part-corners t d c (g .inside)))
 
-      new : (i j : ℕ) → i < leastRow (put t c card) c → addsA (put t c card) c i j ≡ pos 0
-      new i j h = rw (letter-same t c card d g c, e) (nought (spread-above (put t c card) c _ i j h) (spread-above (put t c card) c _ i j h))
-
-      old : (i j : ℕ) → i < leastRow (put t c card) c → addsA t c i j ≡ pos 0
-      old i j h = rw (e, ← shape-same t c card d g c (g .inside) e) (nought (spread-above (put t c card) c _ i j h) (spread-above (put t c card) c _ i j h))
-
-  pub touch-F : Is F t c → Touch t c card
-  unfolding addsK addsP addsF
-  touch-F e =
-      let (a, b) = d .inF c (g .inside) e in
-      let (a′, b′) = d .ofF c (g .inside) e in
-      let is = element-F e in
-      let back : elementRow (put t c card) (elementOf (put t c card) c) ≡ elementRow t (field t c 1) = row-same t c card d g (elementOf (put t c card) c) ∙ ap (λ k. elementRow t k) is in
-      record {
-        lo = rw is a′;
-        hi = rw is b′;
-        only = λ k h h′ n q. omega arith;
-        new0 = λ i j h. new i j (rw back at h);
-        old0 = λ i j h. old i j (rw back at h);
-      }
-    where
-      its : shapeAt (put t c card) (elementRow t (field t c 1)) ≡ shapeAt t (elementRow t (field t c 1))
-      its =
-          let (a′, b′) = d .ofF c (g .inside) e in
-          shape-same t c card d g (elementRow t (field t c 1)) (omega (arith, d .all)) (d .isE (field t c 1) a′ b′)
-
-      old : (i j : ℕ) → i < leastRow (put t c card) (elementRow t (field t c 1)) → addsA t c i j ≡ pos 0
-      old i j h = rw (e, ← its, spread-above (put t c card) (elementRow t (field t c 1)) _ i j h)
-
-      new : (i j : ℕ) → i < leastRow (put t c card) (elementRow t (field t c 1)) → addsA (put t c card) c i j ≡ pos 0
-      new i j h = rw (letter-same t c card d g c, e, named-same t c card d g c (g .inside) e, ← its, spread-above (put t c card) (elementRow t (field t c 1)) _ i j h)
-
-  module _ (h : Touch t c card) where
-    pub least-fits : least t c card ≤ nodes t
-    unfolding leastRow
-    least-fits =
-        let e = elementOf (put t c card) c in
-        omega (
-          arith,
-          key-same t c card d g (elementRow (put t c card) e),
-          row-same t c card d g e,
-          rw (← row-same t c card d g e) at (d .corner (elementRow t e) (omega (arith, d .all, h .hi)) (d .isE e (h .lo) (h .hi)) 1 (omega arith) (omega arith) .1),
-        )
-
-  -- ---- the slices
+  -- ---- what the new card judges is what a build would find
   module _ (s : Slices) (o : Own t s) where
-    P-list : moved (nodes t) (s .p) (addsP (put t c card) c) (addsP t c) ≡ lower (nodes t) (P (put t c card))
+    -- an element's own card: the others stay
+    form-body : Body (kindIn t c) → elementsFrom (elements t) 1 t′ ≡ elementJudged t′ (nameAt (countsAt t′) (rowAt t′) c)
+    form-body b =
+        let (lo, hi) = in-bodies t d c (g .inside) (body-section (kindIn t c) b) in
+        let is : nameAt (countsAt t′) (rowAt t′) c ≡ c - (nodes t + materials t) = new-name t c card d g ∙ rw (body-section (kindIn t c) b) (omega arith) in
+        elements-one t t′ (elements t) 1 (c - (nodes t + materials t)) (o .passed) (omega arith) (omega arith)
+        (λ k a h q. judged-same t c card d g k (a, omega arith) (λ z. q (omega arith)))
+        ∙ ap (elementJudged t′) (sym is)
+
+    -- another card: all elements stay
+    stay : (Body (kindIn t c) → ⊥) → (k : ℕ) → In 1 (elements t) k → elementJudged t′ k ≡ elementJudged t k
+    stay n k h = judged-same t c card d g k h (λ z. n (subst (λ (r : ℕ). Body (kindIn t r)) z (is-body t d k h)))
+
+    form-all : (Body (kindIn t c) → ⊥) → elementsFrom (elements t) 1 t′ ≡ Done
+    form-all n = elements-all t t′ (elements t) 1 (λ k a h. stay n k (a, omega arith)) ∙ o .passed
+
+    -- which cards judge an element, and which one
+    form-by : (kind : Kind) → kindIn t c ≡ kind → partOf t (rowAt t c) kind .stirs ≡ true → elementsFrom (elements t) 1 t′ ≡ formOf t′ c
+    unfolding partOf about
+    form-by D e q = never q
+    form-by N e q = never q
+    form-by M e q = never q
+    form-by E e q = form-body (flat e)
+    form-by H e q = never q
+    form-by F e q =
+        let h = names-F t d c (g .inside) e in
+        let far : (Body (kindIn t c) → ⊥) = λ z. omega (arith, body-section (kindIn t c) z, ap (λ (k : Kind). about k .section) e) in
+        form-all far ∙ sym (form-load t c card d g (rw e) h ∙ elements-each t (elements t) 1 (field t c 1) (o .passed) (h .0) (omega (arith, h .1)))
+    form-by T e q = never q
+    form-by Z e q = never q
+    form-by Other e q = never q
+
+    -- ---- the slices
+    P-list : moved (nodes t) (s .p) (addsP (partAt t′ c)) (addsP (partAt t c)) ≡ lower (nodes t) (P t′)
     unfolding moved
     P-list =
         lower-ext (nodes t) _ _
-        (λ i j l k. ap (λ (z : ℤ). z +ℤ (addsP (put t c card) c i j -ℤ addsP t c i j)) (ap (λ (z : List ℤ). entry z i j) (o .isP) ∙ lower-at (nodes t) i j (P t) l k)
+        (λ i j l k. ap (λ (z : ℤ). z +ℤ (addsP (partAt t′ c) i j -ℤ addsP (partAt t c) i j)) (ap (λ (z : List ℤ). entry z i j) (o .isP) ∙ lower-at (nodes t) i j (P t) l k)
         ∙ sym (P-moved t c card d g i j))
 
-    A-list : moved (nodes t) (s .a) (addsA (put t c card) c) (addsA t c) ≡ lower (nodes t) (A (put t c card))
+    A-list : moved (nodes t) (s .a) (addsA (partAt t′ c)) (addsA (partAt t c)) ≡ lower (nodes t) (A t′)
     unfolding moved
     A-list =
         lower-ext (nodes t) _ _
-        (λ i j l k. ap (λ (z : ℤ). z +ℤ (addsA (put t c card) c i j -ℤ addsA t c i j)) (ap (λ (z : List ℤ). entry z i j) (o .isA) ∙ lower-at (nodes t) i j (A t) l k)
+        (λ i j l k. ap (λ (z : ℤ). z +ℤ (addsA (partAt t′ c) i j -ℤ addsA (partAt t c) i j)) (ap (λ (z : List ℤ). entry z i j) (o .isA) ∙ lower-at (nodes t) i j (A t) l k)
         ∙ sym (A-moved t c card d g i j))
 
-    B-list : lower (nodes t) (cleared (fixed (put t c card)) (entry (moved (nodes t) (s .a) (addsA (put t c card) c) (addsA t c)))) ≡ lower (nodes t) (A′ (put t c card))
+    B-list : lower (nodes t) (cleared (fixed t′) (entry (moved (nodes t) (s .a) (addsA (partAt t′ c)) (addsA (partAt t c))))) ≡ lower (nodes t) (A′ t′)
     unfolding cleared
     B-list =
-        ap (λ (z : List ℤ). lower (nodes t) (cleared (fixed (put t c card)) (entry z))) A-list
-        ∙ lower-ext (nodes t) _ _ (λ i j l k. cond-same (fixed (put t c card) i || fixed (put t c card) j) _ _ _ _ (λ q. refl) (λ q. lower-at (nodes t) i j (A (put t c card)) l k))
+        ap (λ (z : List ℤ). lower (nodes t) (cleared (fixed t′) (entry z))) A-list
+        ∙ lower-ext (nodes t) _ _ (λ i j l k. cond-same (fixed t′ i || fixed t′ j) _ _ _ _ (λ q. refl) (λ q. lower-at (nodes t) i j (A t′) l k))
 
-    module _ (h : Touch t c card) where
-      A-above : (i j : ℕ) → i < least t c card → A (put t c card) i j ≡ A t i j
-      A-above i j l = A-moved t c card d g i j ∙ ap (λ (z : ℤ). A t i j +ℤ z) (λ k. h .new0 i j l k -ℤ h .old0 i j l k) ∙ +ℤ-idr (A t i j)
+    -- ---- rows above the least corner's
+    old-above : (i j : ℕ) → i < from → addsA (partAt t c) i j ≡ pos 0
+    old-above i j l = above-A (partAt t c) i j (subst (λ (ns : List ℕ). i < least ns (getD ns 0 1) - 1) (corners-here t c card d g) l)
 
-      above : take (tri (least t c card)) (lower (nodes t) (A′ (put t c card))) ≡ take (tri (least t c card)) (lower (nodes t) (A′ t))
-      unfolding cleared
-      above =
-          lower-take (least t c card) (nodes t) _ (least-fits h)
-          ∙ lower-ext (least t c card) _ _ (λ i j l k. rw (fixed-same t c card d g i, fixed-same t c card d g j, A-above i j l))
-          ∙ sym (lower-take (least t c card) (nodes t) _ (least-fits h))
+    A-above : (i j : ℕ) → i < from → A t′ i j ≡ A t i j
+    A-above i j l = A-moved t c card d g i j ∙ ap (λ (z : ℤ). A t i j +ℤ z) (λ k. above-A (partAt t′ c) i j l k -ℤ old-above i j l k) ∙ +ℤ-idr (A t i j)
 
-      pub redone-is : build (put t c card) ≡ redone t s c card
-      unfolding redone
-      redone-is =
-          let m = least t c card in
-          let n = nodes t in
-          let z : m + (n - m) ≡ n = omega (arith, least-fits h) in
-          let B = lower n (A′ (put t c card)) in
-          let long : (f : ℕ → ℕ → ℤ) → tri m ≤ length (lower n f) = λ f. omega (arith, length-lower n f, tri-le m n (least-fits h)) in
-          let up = rw z at (update m (n - m) (n - m) (lower n (A′ t)) B (s .factor) (long _) (long _) above (rw z (o .factored))) in
-          build-at (put t c card) n (elements t) (nodes-same t c card d g) (elements-same t c card d g)
-          ∙ made _ _ _ _ _ _ _ _
-          (elements-one t (put t c card) (elements t) 1 (elementOf (put t c card) c) (o .passed) (h .lo) (omega (arith, h .hi)) (λ k a b q. judged-same t c card d g k a (omega arith) (h .only k a (omega arith) q)))
-          (up ∙ ap (λ (x : List ℤ). rowsFrom (n - m) m (take (tri m) (s .factor) ++ drop (tri m) x)) (sym B-list))
-          (sym P-list)
-          (sym A-list)
+    -- THEOREM. Above the least corner's row A' is as it was.
+    pub above : take (tri from) (lower (nodes t) (A′ t′)) ≡ take (tri from) (lower (nodes t) (A′ t))
+    unfolding cleared
+    above =
+        lower-take from (nodes t) _ from-fits
+        ∙ lower-ext from _ _ (λ i j l k. rw (fixed-same t c card d g i, fixed-same t c card d g j, A-above i j l))
+        ∙ sym (lower-take from (nodes t) _ from-fits)
 
-    -- ---- H and T
-    module _ (noneP : (i j : ℕ) → addsP (put t c card) c i j -ℤ addsP t c i j ≡ pos 0) (noneA : (i j : ℕ) → addsA (put t c card) c i j -ℤ addsA t c i j ≡ pos 0)
-        (off : (e : ℕ) → e ≤ elements t → elementRow t e ≡ c → ⊥) where
-      pub kept-is : build (put t c card) ≡ done s
-      unfolding cleared
-      kept-is =
-          let n = nodes t in
-          let eP : (i j : ℕ) → P (put t c card) i j ≡ P t i j = λ i j. P-moved t c card d g i j ∙ ap (λ (z : ℤ). P t i j +ℤ z) (noneP i j) ∙ +ℤ-idr (P t i j) in
-          let eA : (i j : ℕ) → A (put t c card) i j ≡ A t i j = λ i j. A-moved t c card d g i j ∙ ap (λ (z : ℤ). A t i j +ℤ z) (noneA i j) ∙ +ℤ-idr (A t i j) in
-          build-at (put t c card) n (elements t) (nodes-same t c card d g) (elements-same t c card d g)
-          ∙ made _ _ _ _ _ _ _ _
-          (elements-all t (put t c card) (elements t) 1 (λ k a b. judged-same t c card d g k a (omega arith) (off k (omega arith))) ∙ o .passed)
-          (ap (λ (x : List ℤ). rowsFrom n 0 x) (lower-ext n _ _ (λ i j l k. rw (fixed-same t c card d g i, fixed-same t c card d g j, eA i j))) ∙ o .factored)
-          (lower-ext n _ _ (λ i j l k. eP i j) ∙ sym (o .isP))
-          (lower-ext n _ _ (λ i j l k. eA i j) ∙ sym (o .isA))
+    -- THEOREM. A card that stirs: E and F.
+    pub redone-is : stirs t c ≡ true → build t′ ≡ redone t s c card
+    unfolding redone
+    redone-is st =
+        let m = from in
+        let n = nodes t in
+        let z : m + (n - m) ≡ n = omega (arith, from-fits) in
+        let B = lower n (A′ t′) in
+        let long : (f : ℕ → ℕ → ℤ) → tri m ≤ length (lower n f) = λ f. omega (arith, length-lower n f, tri-le m n from-fits) in
+        let up = rw z at (update m (n - m) (n - m) (lower n (A′ t)) B (s .factor) (long _) (long _) above (rw z (o .factored))) in
+        build-at t′ n (elements t) (nodes-same t c card d g) (elements-same t c card d g)
+        ∙ made _ _ _ _ _ _ _ _
+        (form-by (kindIn t c) refl st)
+        (up ∙ ap (λ (x : List ℤ). rowsFrom (n - m) m (take (tri m) (s .factor) ++ drop (tri m) x)) (sym B-list))
+        (sym P-list)
+        (sym A-list)
+
+    -- THEOREM. A card that does not: H and T.
+    pub kept-is : stirs t c ≡ false → build t′ ≡ done s
+    unfolding cleared addsP addsA
+    kept-is st =
+        let n = nodes t in
+        let still = still-idle t c card d g st in
+        let eP : (i j : ℕ) → P t′ i j ≡ P t i j = λ i j. P-moved t c card d g i j ∙ ap (λ (x : Part). P t i j +ℤ (addsP x i j -ℤ addsP (partAt t c) i j)) still ∙ nought (P t i j) (addsP (partAt t c) i j) in
+        let eA : (i j : ℕ) → A t′ i j ≡ A t i j = λ i j. A-moved t c card d g i j ∙ ap (λ (x : Part). A t i j +ℤ (addsA x i j -ℤ addsA (partAt t c) i j)) still ∙ nought (A t i j) (addsA (partAt t c) i j) in
+        build-at t′ n (elements t) (nodes-same t c card d g) (elements-same t c card d g)
+        ∙ made _ _ _ _ _ _ _ _
+        (form-all (λ b. never (sym st ∙ body-stirs t (rowAt t c) (kindIn t c) b)))
+        (ap (λ (x : List ℤ). rowsFrom n 0 x) (lower-ext n _ _ (λ i j l k. rw (fixed-same t c card d g i, fixed-same t c card d g j, eA i j))) ∙ o .factored)
+        (lower-ext n _ _ (λ i j l k. eP i j) ∙ sym (o .isP))
+        (lower-ext n _ _ (λ i j l k. eA i j) ∙ sym (o .isA))
+      where
+        nought : (x y : ℤ) → x +ℤ (y -ℤ y) ≡ x
+        nought x y = ap (λ (z : ℤ). x +ℤ z) (+ℤ-invr y) ∙ +ℤ-idr x

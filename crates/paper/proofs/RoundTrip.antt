@@ -8,7 +8,8 @@ use native.Mathlib.Omega.{arith}
 use borrow.Author.Tests.{le-ltb}
 use lib.ListN.{length, getD, take, drop, length-append, length-drop}
 use lib.Seq.{take-at, drop-append-add, drop-append-seam, drop-drop, length-take-le}
-use Rattle.paper.specs.Cards.{cards, countsOf, rowAt, rows}
+use Rattle.whole.specs.Sums.{sumN}
+use Rattle.paper.specs.Cards.{before, cards, countsOf, countsAt, mostRows, rowAt, rows}
 use Rattle.paper.specs.Text.{cardOf, textOf}
 use Rattle.paper.specs.Judge.{judgeFrom, judgeRows, judged, trailer}
 use Rattle.paper.specs.Calls.{joined, textAt, lastCard, cardAt, startOf, writes, written, writeCall, reads, readsFrom, readPart, readTable, readCall}
@@ -16,12 +17,12 @@ use Rattle.paper.specs.declared.Answer.the-variants.{Done}
 use Rattle.paper.specs.declared.Counts.{Counts}
 use Rattle.paper.proofs.Outcomes.{both-done}
 use Rattle.paper.proofs.Tables.{row-length}
-use Rattle.paper.proofs.Judged.{passes, judge-each, judge-all, top-told, counts-are}
+use Rattle.paper.proofs.Judged.{passes, judge-each, judge-all, top-told}
 use Rattle.paper.proofs.Judging.{judge-same, rows-cards, judged-rows}
 use Rattle.paper.proofs.CardText.{length-card, length-textOf, card-printed, printed-card}
 use Rattle.paper.proofs.Joined.{joined-same, joined-length, joined-at, joined-parts}
 use Rattle.paper.proofs.Reading.{trailer-told, accepted, reads-on, from-done, tableOf, table-read, part-read}
-use Rattle.paper.proofs.Printing.{prints, prints-Z, lettered}
+use Rattle.paper.proofs.Printing.{prints, prints-Z, lettered, z-lettered}
 
 none-plus : (i : ℕ) → 0 + i ≡ i
 none-plus i = omega arith
@@ -47,7 +48,7 @@ length-bytes t = joined-length 42 (textAt t) (λ i. length-textOf (rowAt t i)) (
 record Cards (t : List ℕ) (n : ℕ) : Type 0 where
   sized : length t ≡ (n + 1) * 6
   some : 1 ≤ n
-  few : n ≤ 681
+  few : n < mostRows
   trails : trailer (rowAt t n) ≡ true
   count : cards (countsOf (rowAt t n)) ≡ n
   each : (i : ℕ) → i < n → passes (countsOf (rowAt t n)) (rowAt t) i ≡ Done
@@ -63,7 +64,7 @@ cards-told t h =
       few = omega (arith, tp .most);
       trails = tp .zed;
       count = omega (arith, z .back, tp .back);
-      each = λ i l. ap (λ (c : Counts). passes c (rowAt t) i) (counts-are t) ∙ tp .each i (omega arith);
+      each = λ i l. tp .each i (omega arith);
     }
 
 module _ (t : List ℕ) (n : ℕ) (c : Cards t n) where
@@ -71,7 +72,7 @@ module _ (t : List ℕ) (n : ℕ) (c : Cards t n) where
   row-read =
       let z = trailer-told (rowAt t n) (c .trails) in
       upto (λ i. cardOf (textAt t i) ≡ rowAt t i) n
-      (λ i l. card-printed (rowAt t i) (prints (countsOf (rowAt t n)) (z .few) i _ _ (rowAt t i) (row-length t i (omega (arith, c .sized))) (c .each i l)))
+      (λ i l. card-printed (rowAt t i) (prints (countsOf (rowAt t n)) (z .few) (rowAt t) i _ _ (row-length t i (omega (arith, c .sized))) (c .each i l)))
       (card-printed (rowAt t n) (prints-Z (rowAt t n) (row-length t n (omega (arith, c .sized))) (c .trails)))
 
   judges-on : judgeFrom (countsOf (rowAt t n)) (rowAt t) n 0 0 0 ≡ Done
@@ -116,9 +117,9 @@ module _ (t notes : List ℕ) (room : ℕ) (h : judged t ≡ Done) (fit : length
       subst (λ (s : List ℕ). getD s 1 0 ≤ length after - 42) (sym last-after) (omega (arith, length-after, c .some, c .count, zt .back)) in
       let judges = judge-same (countsOf z) (cardAt after (length notes)) (rowAt t) n 0 0 0 (λ i x y. card-after i (omega arith)) ∙ judges-on t n c in
       sym (reads-on after room (omega (arith, length-after, c .some)) (omega (arith, length-after)) (ap trailer last-after ∙ c .trails) within)
-      ∙ ap (λ (s : List ℕ). readsFrom after room s (startOf after s) (cards (countsOf s))) last-after
-      ∙ ap (λ (k : ℕ). readsFrom after room z k (cards (countsOf z))) start-after ∙ ap (readsFrom after room z (length notes)) (c .count)
-      ∙ sym (from-done after room z (length notes) n judges (omega (arith, c .sized)))
+      ∙ ap (λ (s : List ℕ). readsFrom after room (countsOf s) (startOf after s) (cards (countsOf s))) last-after
+      ∙ ap (λ (k : ℕ). readsFrom after room (countsOf z) k (cards (countsOf z))) start-after ∙ ap (readsFrom after room (countsOf z) (length notes)) (c .count)
+      ∙ sym (from-done after room (countsOf z) (length notes) n judges (omega (arith, c .sized)))
 
   part-after : readPart after room ≡ bytesOf t
   unfolding after
@@ -184,7 +185,7 @@ write-read t bytes lent h enough =
 -- ---- read and written
 
 one-card : (z : Counts) → 1 ≤ cards z
-unfolding cards
+unfolding before sumN
 one-card z = omega arith
 
 module _ (b : List ℕ) (room : ℕ) (h : reads b room ≡ Done) where
@@ -225,18 +226,19 @@ module _ (b : List ℕ) (room : ℕ) (h : reads b room ≡ Done) where
       let e : rows t - 1 ≡ count = omega (arith, rows-are) in
       let js = judge-same (countsOf (lastCard b)) (rowAt t) (cardAt b start) count 0 0 0 (λ j x y. table-row j (omega arith)) ∙ a .judges in
       let jr = rows-cards t count (ap trailer last-row ∙ a .trails) (ap (λ (c : List ℕ). getD c 1 0) last-row ∙ z .back) in
+      let at : countsAt t ≡ countsOf (lastCard b) = ap (λ (k : ℕ). countsOf (rowAt t k)) e ∙ ap countsOf last-row in
       sym (judged-rows t (omega (arith, length-table b)) (omega (arith, length-table b)) (omega (arith, length-table b, z .few))) ∙ ap (judgeRows t) e
-      ∙ sym jr ∙ ap (λ (c : List ℕ). judgeFrom (countsOf c) (rowAt t) count 0 0 0) last-row ∙ js
+      ∙ sym jr ∙ ap (λ (z : Counts). judgeFrom z (rowAt t) count 0 0 0) at ∙ js
 
   well-formed : (i : ℕ) → i < count + 1 → getD (cardAt b start i) 0 0 ≡ 0 → ⊥
   unfolding start count
   well-formed =
       let a = accepted b room h in
       let z = trailer-told (lastCard b) (a .trails) in
-      let l : getD (cardAt b start count) 0 0 ≡ 90 = ap (λ (c : List ℕ). getD c 0 0) (sym (table-row count (omega arith)) ∙ last-row) ∙ z .letter in
+      let is : cardAt b start count ≡ lastCard b = sym (table-row count (omega arith)) ∙ last-row in
       upto (λ i. getD (cardAt b start i) 0 0 ≡ 0 → ⊥) count
-      (λ i m. lettered (countsOf (lastCard b)) i _ _ (cardAt b start i) (judge-each (countsOf (lastCard b)) (cardAt b start) count 0 i (a .judges) (omega arith) (omega arith)))
-      (λ e. omega arith)
+      (λ i m. lettered (countsOf (lastCard b)) (cardAt b start) i _ _ (judge-each (countsOf (lastCard b)) (cardAt b start) count 0 i (a .judges) (omega arith) (omega arith)))
+      (λ e. z-lettered (lastCard b) (a .trails) (ap (λ (c : List ℕ). getD c 0 0) (sym is) ∙ e))
 
   table-bytes : bytesOf (tableOf b) ≡ readPart b room
   unfolding start count

@@ -1,7 +1,7 @@
 -- What an accepted step promises: every residual of its temperatures is within its row's bound, after 1 to 4 corrections.
 use mathlib.Core.Path.{_≡_, refl, sym, ap, subst, _∙_}
-use mathlib.Core.Bool.{not, _&&_}
-use mathlib.Core.List.{List, _++_}
+use mathlib.Core.Bool.{not, cond, _&&_}
+use mathlib.Core.List.{List}
 use Prim.Native.Nat.{ℕ, zero, suc, _+_, _≤_, _<_}
 use native.Mathlib.Omega.{arith}
 use lib.Dec.{leb}
@@ -13,16 +13,16 @@ use Rattle.whole.specs.Packed.{cell}
 use Rattle.whole.proofs.Sums.{sum-ext, first-none, table-at}
 use Rattle.whole.proofs.Tests.{and-told}
 use Rattle.paper.specs.Ticks.{onScale}
-use Rattle.paper.specs.Refusals.{Outcome, refused, done}
+use Rattle.paper.specs.Refusals.{Outcome, refused, done, after, unlessAt}
 use Rattle.paper.specs.Cards.{nodes}
 use Rattle.paper.specs.Judge.{judged}
-use Rattle.paper.specs.Building.{Slices}
-use Rattle.paper.specs.Lent.{foreign}
+use Rattle.paper.specs.Lent.{foreign, enough, opened, lentJudged}
 use Rattle.paper.specs.Step.{Board, boardOf, A′, rightSide, residual, residuals, rowBound, warmed, forwardFrom, backFrom, addFrom, correct, unsettled, Settling, settled, unless, attempts, stepped, offScale}
-use Rattle.paper.specs.Calls.{front, roomy, endsStep, onwards, stepOutcome, stepCall}
+use Rattle.paper.specs.Calls.{Lent, over, endsStep, boardAt, stepCall}
+use Rattle.paper.specs.declared.Answer.the-variants.{Done, Refused}
 use Rattle.paper.specs.declared.Refusal.the-variants.{Short, Foreign, OffScale, Unsettled}
 use Rattle.paper.specs.declared.Stepped.the-variants.{Settled}
-use Rattle.paper.proofs.Outcomes.{refused-done, after-done, when-done, done-inj, Ends, ends-all, ends-map, when-ends, then-ends, then-done}
+use Rattle.paper.proofs.Outcomes.{refused-done, after-done, cond-done, done-inj, Ends, ends-all, ends-map, when-ends, then-ends, then-done}
 
 abbrev pub Within : Board → List ℤ → Type 0
 Within b t = (i : ℕ) → i < b .n → natAbs (residual b t i) ≤ rowBound (b .a) (b .fixed) (b .n) i
@@ -82,7 +82,7 @@ residual-front : (b : Board) (t u : List ℤ) (i : ℕ) → ((j : ℕ) → j < b
 unfolding residual
 residual-front b t u i h = ap (λ (z : ℤ). rightSide b i -ℤ z) (sum-ext (b .n) (λ j. A′ (b .a) (b .fixed) i j *ℤ cell t j) (λ j. A′ (b .a) (b .fixed) i j *ℤ cell u j) (λ j l. ap (λ (z : ℤ). A′ (b .a) (b .fixed) i j *ℤ z) (h j l)))
 
-on-told : (node : ℕ) (o : Outcome Settling) (s : Settling) → onwards node o ≡ done s → o ≡ done s
+on-told : (node : ℕ) (o : Outcome Settling) (s : Settling) → unlessAt node OffScale o ≡ done s → o ≡ done s
 on-told zero o s e = e
 on-told (suc node) o s e = refused-done e
 
@@ -91,46 +91,65 @@ pub record Accepted (b : Board) (c : ℕ) (new : List ℤ) : Type 0 where
   pub least : 1 ≤ c
   pub most : c ≤ 4
 
--- the board of a step of lent slices
-abbrev pub boardAt : List ℕ → Slices → List ℤ → Board
-boardAt t s old = boardOf t (front t (s .p)) (front t (s .a)) (take (nodes t) old)
+-- a step, up to what it leaves
+abbrev pub stepOutcome : Lent → Outcome Settling
+stepOutcome z =
+    let n = nodes (z .table) in
+    after (judged (z .table))
+    (after (lentJudged n (z .slices) (leb n (length (z .temperatures))))
+    (unlessAt (offScale n (z .temperatures)) OffScale
+    (stepped (boardAt z) (opened n (z .slices) .factor))))
 
-module _ (t : List ℕ) (s : Slices) (old : List ℤ) where
+pub step-is : (z : Lent) → stepCall z ≡ endsStep z (stepOutcome z)
+unfolding stepCall
+step-is z = refl
+
+module _ (z : Lent) where
+  abbrev n : ℕ
+  n = nodes (z .table)
+
+  abbrev old : List ℤ
+  old = z .temperatures
+
   -- the corrections of an accepted step, and room for the temperatures
-  record Made (o : Settling) : Type 0 where
-    settles : Settles (boardAt t s old) 1 3 (take (nodes t) old) o
-    room : nodes t ≤ length old
+  pub record Made (o : Settling) : Type 0 where
+    pub settles : Settles (boardAt z) 1 3 (take n old) o
+    pub room : n ≤ length old
 
-  made : (o : Settling) → stepOutcome t s old ≡ done o → Made o
-  unfolding stepOutcome stepped boardOf
+  pub made : (o : Settling) → stepOutcome z ≡ done o → Made o
+  unfolding stepped boardOf lentJudged
   made o e =
-      let (_, e₁) = after-done (judged t) _ o e in
-      let (r, e₂) = when-done (roomy t (s .p) && roomy t (s .a) && roomy t (s .factor) && leb (nodes t) (length old)) Short _ o e₁ in
-      let (_, e₃) = when-done (not (foreign (nodes t) (record { p = front t (s .p); a = front t (s .a); factor = front t (s .factor) }))) Foreign _ o e₂ in
-      let e₄ = on-told (offScale (nodes t) old) _ o e₃ in
-      let (_, n) = and-told (roomy t (s .p) && roomy t (s .a) && roomy t (s .factor)) (leb (nodes t) (length old)) r in
+      let s = opened n (z .slices) in
+      let (_, e₁) = after-done (judged (z .table)) _ o e in
+      let (l, e₂) = after-done (lentJudged n (z .slices) (leb n (length old))) _ o e₁ in
+      let e₃ = on-told (offScale n old) _ o e₂ in
+      let (r, _) = cond-done (enough n (z .slices) && leb n (length old)) (cond (foreign n s) (Refused Foreign) Done) Short l in
+      let (_, k) = and-told (enough n (z .slices)) (leb n (length old)) r in
       record {
-        settles = attempts-settle (boardAt t s old) (front t (s .factor)) 3 1 (take (nodes t) old) (residuals (boardAt t s old) (take (nodes t) old)) o e₄;
-        room = leb-true (nodes t) (length old) n;
+        settles = attempts-settle (boardAt z) (s .factor) 3 1 (take n old) (residuals (boardAt z) (take n old)) o e₃;
+        room = leb-true n (length old) k;
       }
 
-  front-same : (o : Settling) → Made o → (j : ℕ) → j < nodes t → cell (o .temperatures) j ≡ cell (o .temperatures ++ drop (nodes t) old) j
-  front-same o m j h =
-      sym (List·getD-append (o .temperatures) (drop (nodes t) old) (pos 0) j (omega (arith, m .settles .long, length-take-le (nodes t) old (m .room))))
+  -- THEOREM. An accepted step has so many temperatures as there are nodes.
+  pub made-long : (o : Settling) → Made o → length (o .temperatures) ≡ n
+  made-long o m = m .settles .long ∙ length-take-le n old (m .room)
+
+  front-same : (o : Settling) → Made o → (j : ℕ) → j < n → cell (o .temperatures) j ≡ cell (over (o .temperatures) old) j
+  front-same o m j h = sym (List·getD-append (o .temperatures) (drop (length (o .temperatures)) old) (pos 0) j (omega (arith, made-long o m)))
 
   -- THEOREM. An accepted step leaves every node's residual within its row's bound.
-  pub accepted : (c : ℕ) → stepCall t s old .answer ≡ Settled c → Accepted (boardAt t s old) c (stepCall t s old .temperatures)
+  pub accepted : (c : ℕ) → stepCall z .answer ≡ Settled c → Accepted (boardAt z) c (stepCall z .lent .temperatures)
   unfolding stepCall boardOf
-  accepted c e = go (stepOutcome t s old) refl e
+  accepted c e = go (stepOutcome z) refl e
     where
-      go : (o : Outcome Settling) → stepOutcome t s old ≡ o → endsStep (nodes t) old o .answer ≡ Settled c → Accepted (boardAt t s old) c (endsStep (nodes t) old o .temperatures)
-      go (refused r) q z = absurd (let x : _≡_ {A = ℕ} 0 1 = cc in omega arith)
-      go (done o) q z =
+      go : (o : Outcome Settling) → stepOutcome z ≡ o → endsStep z o .answer ≡ Settled c → Accepted (boardAt z) c (endsStep z o .lent .temperatures)
+      go (refused r) q x = absurd (let x : _≡_ {A = ℕ} 0 1 = cc in omega arith)
+      go (done o) q x =
           let m = made o q in
           let w = m .settles in
           let k : o .corrections ≡ c = cc in
           record {
-            within = λ i h. subst (λ (x : ℤ). natAbs x ≤ rowBound (boardAt t s old .a) (boardAt t s old .fixed) (boardAt t s old .n) i) (residual-front (boardAt t s old) (o .temperatures) (o .temperatures ++ drop (nodes t) old) i (front-same o m)) (w .within i h);
+            within = λ i h. subst (λ (x : ℤ). natAbs x ≤ rowBound (boardAt z .a) (boardAt z .fixed) (boardAt z .n) i) (residual-front (boardAt z) (o .temperatures) (over (o .temperatures) old) i (front-same o m)) (w .within i h);
             least = omega (arith, w .least);
             most = omega (arith, w .most);
           }

@@ -1,22 +1,27 @@
--- A square over any number of corners: symmetric where its pairs are, its rows sum to zero, and so does what it spreads.
+-- What any card adds is symmetric, and what it conducts sums to zero along each row: once, over the number of corners.
 use mathlib.Core.Path.{_≡_, refl, sym, ap, _∙_}
 use mathlib.Core.Bool.{Bool, true, false, cond, _&&_, and-comm}
 use mathlib.Core.List.{List}
-use Prim.Native.Nat.{ℕ, suc, _-_, _<_}
+use Prim.Native.Nat.{ℕ, suc, _<_}
 use native.Mathlib.Decide.{ℕ-discrete}
-use native.Mathlib.Omega.{arith}
 use borrow.Author.Tests.{eq-eqb, ne-eqb}
 use lib.Dec.{eqb}
 use lib.IntN.{ℤ, pos, negℤ, _+ℤ_, *ℤ-comm, +ℤ-idr, +ℤ-idl, +ℤ-invr}
-use lib.ListN.{getD}
+use lib.ListN.{length, getD}
 use Rattle.whole.specs.Sums.{sum}
 use Rattle.whole.proofs.Tests.{eqb-swap}
-use Rattle.whole.proofs.Sums.{sum-ext, sum-plus, sum-none, sum-single, sum-swap}
-use Rattle.paper.specs.Triangle.{Triangle, b, c, square, mass, pair, conductance}
-use Rattle.paper.specs.Matrices.{spread}
-use Rattle.paper.proofs.Decks.{In}
+use Rattle.whole.proofs.Sums.{sum-ext, sum-plus, sum-single, sum-swap, sum-zero}
+use Rattle.paper.specs.Kinds.{kindOf}
+use Rattle.paper.specs.Cards.{rowAt, rows, letter}
+use Rattle.paper.specs.Corners.{Body, square, mass, spread}
+use Rattle.paper.specs.Triangle.{b, c, pair}
+use Rattle.paper.specs.Elements.{Element, bodyOf, elementOf}
+use Rattle.paper.specs.Parts.{Part, nothing, nowhere, bulk, partOf, partAt}
+use Rattle.paper.specs.Matrices.{addsP, addsA, P, A}
+use Rattle.paper.specs.declared.Kind.{Kind}
+use Rattle.paper.specs.declared.Kind.the-variants.{D, N, M, E, H, F, T, Z, Other}
 
--- ---- the square itself
+-- ---- a square over n corners
 
 -- THEOREM. It is symmetric where its pairs are.
 pub square-symmetric : (n : ℕ) (p : ℕ → ℕ → ℤ) → ((i j : ℕ) → p i j ≡ p j i) → (i j : ℕ) → square n p i j ≡ square n p j i
@@ -46,57 +51,74 @@ square-rows n p i h =
         sum-single n i (λ k. cond (eqb i k) x (pos 0)) h (λ k l q. ap (λ (t : Bool). cond t x (pos 0)) (ne-eqb i k (λ e. q (sym e))))
         ∙ ap (λ (t : Bool). cond t x (pos 0)) (eq-eqb i i refl)
 
--- ---- what a square over n corners spreads
-
-pub spread-symmetric : (n : ℕ) (ns : List ℕ) (q : ℕ → ℕ → ℤ) → ((a b : ℕ) → q a b ≡ q b a) → (i j : ℕ) → spread n ns q i j ≡ spread n ns q j i
-unfolding spread
-spread-symmetric n ns q h i j =
-    sum-swap n n (λ a b. cond (eqb (getD ns a 0) (suc i) && eqb (getD ns b 0) (suc j)) (q a b) (pos 0))
-    ∙ sum-ext n _ _ (λ b lb. sum-ext n _ _ (λ a la. λ d. cond (and-comm (eqb (getD ns a 0) (suc i)) (eqb (getD ns b 0) (suc j)) d) (h a b d) (pos 0)))
-
--- one of m columns is a corner's
-column : (m x : ℕ) (h : Bool) (v : ℤ) → In 1 m x → sum m (λ j. cond (h && eqb x (suc j)) v (pos 0)) ≡ cond h v (pos 0)
-column m x true v (lo, hi) =
-    let e : x ≡ suc (x - 1) = omega arith in
-    sum-single m (x - 1) (λ j. cond (eqb x (suc j)) v (pos 0)) (omega arith) (λ k l q. ap (λ (t : Bool). cond t v (pos 0)) (ne-eqb x (suc k) (λ z. q (omega arith))))
-    ∙ ap (λ (t : Bool). cond t v (pos 0)) (eq-eqb x (suc (x - 1)) e)
-column m x false v h = sum-none m (λ j. pos 0) (λ j l. refl)
-
-kept : (n : ℕ) (h : Bool) (f : ℕ → ℤ) → sum n f ≡ pos 0 → sum n (λ b. cond h (f b) (pos 0)) ≡ pos 0
-kept n true f e = e
-kept n false f e = sum-none n (λ b. pos 0) (λ b l. refl)
-
--- THEOREM. A square whose rows sum to zero, over corners that all lie within 1..m, adds zero to each row of m columns.
-pub spread-rows : (n m : ℕ) (ns : List ℕ) (q : ℕ → ℕ → ℤ) (i : ℕ) → ((a : ℕ) → a < n → In 1 m (getD ns a 0)) → ((a : ℕ) → a < n → sum n (λ b. q a b) ≡ pos 0) → sum m (λ j. spread n ns q i j) ≡ pos 0
-unfolding spread
-spread-rows n m ns q i inside zero-row =
-    sum-swap m n (λ j a. sum n (λ b. part a b j))
-    ∙ sum-none n (λ a. sum m (λ j. sum n (λ b. part a b j)))
-    (λ a l.
-    sum-swap m n (λ j b. part a b j)
-    ∙ sum-ext n (λ b. sum m (λ j. part a b j)) (λ b. cond (hit a) (q a b) (pos 0)) (λ b k. column m (getD ns b 0) (hit a) (q a b) (inside b k))
-    ∙ kept n (hit a) (λ b. q a b) (zero-row a l))
-  where
-    hit : ℕ → Bool
-    hit a = eqb (getD ns a 0) (suc i)
-
-    part : ℕ → ℕ → ℕ → ℤ
-    part a b j = cond (hit a && eqb (getD ns b 0) (suc j)) (q a b) (pos 0)
-
--- ---- one element's squares
-
 pub mass-symmetric : (w i j : ℕ) → mass w i j ≡ mass w j i
 unfolding mass
 mass-symmetric w i j = rw (eqb-swap i j)
 
-pub pair-symmetric : (e : Triangle) (i j : ℕ) → pair e i j ≡ pair e j i
+pub spread-symmetric : (ns : List ℕ) (q : ℕ → ℕ → ℤ) → ((a b : ℕ) → q a b ≡ q b a) → (i j : ℕ) → spread ns q i j ≡ spread ns q j i
+unfolding spread
+spread-symmetric ns q h i j =
+    let n = length ns in
+    sum-swap n n (λ a b. cond (eqb (getD ns a 0) (suc i) && eqb (getD ns b 0) (suc j)) (q a b) (pos 0))
+    ∙ sum-ext n _ _ (λ b lb. sum-ext n _ _ (λ a la. λ d. cond (and-comm (eqb (getD ns a 0) (suc i)) (eqb (getD ns b 0) (suc j)) d) (h a b d) (pos 0)))
+
+-- ---- pairs
+
+pub pair-symmetric : (e : Body) (i j : ℕ) → pair e i j ≡ pair e j i
 unfolding pair
 pair-symmetric e i j = rw (*ℤ-comm (b (e .shape) i) (b (e .shape) j), *ℤ-comm (c (e .shape) i) (c (e .shape) j))
 
-pub conductance-symmetric : (e : Triangle) (i j : ℕ) → conductance e i j ≡ conductance e j i
-unfolding conductance
-conductance-symmetric e = square-symmetric 3 (pair e) (pair-symmetric e)
+pub between-symmetric : (t card : List ℕ) (i j : ℕ) → elementOf t card .between i j ≡ elementOf t card .between j i
+unfolding elementOf
+between-symmetric t card i j = pair-symmetric (bodyOf t card) i j
 
-pub conductance-rows : (e : Triangle) (i : ℕ) → i < 3 → sum 3 (λ j. conductance e i j) ≡ pos 0
-unfolding conductance
-conductance-rows e i h = square-rows 3 (pair e) i h
+-- ---- what a card adds
+
+pub record Sound (x : Part) : Type 0 where
+  pub symmetric : (a b : ℕ) → x .conductance a b ≡ x .conductance b a
+  pub balanced : (a : ℕ) → a < length (x .corners) → sum (length (x .corners)) (λ b. x .conductance a b) ≡ pos 0
+
+bulk-sound : (e : Element) → ((i j : ℕ) → e .between i j ≡ e .between j i) → Sound (bulk e)
+bulk-sound e h = record {
+  symmetric = square-symmetric (length (e .shape .corners)) (e .between) h;
+  balanced = square-rows (length (e .shape .corners)) (e .between);
+}
+
+-- a part that conducts nothing
+plain : (x : Part) → x .conductance ≡ nowhere → Sound x
+plain x e = record {
+  symmetric = λ a b. ap (λ (q : ℕ → ℕ → ℤ). q a b) e ∙ sym (ap (λ (q : ℕ → ℕ → ℤ). q b a) e);
+  balanced = λ a l. ap (λ (q : ℕ → ℕ → ℤ). sum (length (x .corners)) (λ b. q a b)) e ∙ sum-zero (length (x .corners));
+}
+
+-- THEOREM. Any card, in any table.
+pub card-sound : (t card : List ℕ) (kind : Kind) → Sound (partOf t card kind)
+unfolding partOf
+card-sound t card D = plain nothing refl
+card-sound t card N = plain nothing refl
+card-sound t card M = plain nothing refl
+card-sound t card E = bulk-sound (elementOf t card) (between-symmetric t card)
+card-sound t card H = plain (partOf t card H) refl
+card-sound t card F = plain (partOf t card F) refl
+card-sound t card T = plain nothing refl
+card-sound t card Z = plain nothing refl
+card-sound t card Other = plain nothing refl
+
+pub part-sound : (t : List ℕ) (row : ℕ) → Sound (partAt t row)
+part-sound t row = card-sound t (rowAt t row) (kindOf (letter t row))
+
+-- THEOREM. P and A of any table are symmetric.
+pub P-symmetric : (t : List ℕ) (i j : ℕ) → P t i j ≡ P t j i
+unfolding P addsP
+P-symmetric t i j =
+    sum-ext (rows t) _ _ (λ row l. spread-symmetric (partAt t row .corners) (mass (partAt t row .capacity)) (mass-symmetric (partAt t row .capacity)) i j)
+
+pub A-symmetric : (t : List ℕ) (i j : ℕ) → A t i j ≡ A t j i
+unfolding A addsA
+A-symmetric t i j = sum-ext (rows t) _ _ (λ row l. spread-symmetric (partAt t row .corners) (both (partAt t row)) (even (partAt t row) (part-sound t row)) i j)
+  where
+    both : Part → ℕ → ℕ → ℤ
+    both x a b = x .conductance a b +ℤ mass (x .capacity) a b +ℤ mass (x .film) a b
+
+    even : (x : Part) → Sound x → (a b : ℕ) → both x a b ≡ both x b a
+    even x h a b = λ d. h .symmetric a b d +ℤ mass-symmetric (x .capacity) a b d +ℤ mass-symmetric (x .film) a b d

@@ -5,7 +5,7 @@ use lib.IntN.{ℤ}
 use Rattle.whole.specs.Packed.{lower}
 use Rattle.paper.specs.Refusals.{Outcome, done, then, andThen, after}
 use Rattle.paper.specs.Cards.{nodes, elements}
-use Rattle.paper.specs.Triangle.{elementJudged}
+use Rattle.paper.specs.Elements.{elementJudged}
 use Rattle.paper.specs.Matrices.{P, A, fixed, cleared}
 use Rattle.paper.specs.Factor.{rowsFrom}
 use Rattle.paper.specs.declared.Answer.{Answer}
@@ -16,6 +16,9 @@ pub record Slices : Type 0 where
   pub p : List ℤ
   pub a : List ℤ
   pub factor : List ℤ
+
+abbrev pub slices : List ℤ → List ℤ → List ℤ → Slices
+slices p a factor = record { p = p; a = a; factor = factor }
 
 -- refusals 5 and 6: n elements in turn from number e
 unfoldable pub elementsFrom : ℕ → ℕ → List ℕ → Answer

@@ -1,40 +1,26 @@
 -- What each public call answers and leaves, of any bytes, any table and any lent slices. Whatever is not named is only read.
-use mathlib.Core.Bool.{Bool, true, not, cond, _&&_, _||_}
+use mathlib.Core.Bool.{Bool, true, cond, _&&_, _||_}
 use mathlib.Core.List.{List, [], _++_}
 use Prim.Native.Nat.{ℕ, zero, suc, _+_, _-_, _*_}
 use lib.Dec.{ltb, leb, eqb}
 use lib.IntN.{ℤ, pos}
 use lib.ListN.{length, getD, take, drop, replicate}
-use Rattle.whole.specs.Packed.{tri}
-use Rattle.paper.specs.Refusals.{Outcome, refused, done, when, after, andThen, numberOf, placeOf}
-use Rattle.paper.specs.Cards.{cards, countsOf, rowAt, rows, nodes, stepsOf, put}
+use Rattle.paper.specs.Refusals.{Outcome, refused, done, when, unlessAt, after, andThen, numberOf, told, toldStep, packed}
+use Rattle.paper.specs.Cards.{cards, countsOf, countsAt, rowAt, rows, nodes, put}
 use Rattle.paper.specs.Text.{cardOf, textOf}
 use Rattle.paper.specs.Judge.{judgeFrom, judged, trailer, newJudged}
 use Rattle.paper.specs.Building.{Slices, build}
+use Rattle.whole.specs.Packed.{matrix}
 use Rattle.paper.specs.Replacing.{stirs, replaced}
-use Rattle.paper.specs.Lent.{foreign}
-use Rattle.paper.specs.Step.{Settling, boardOf, stepped, offScale, unless}
+use Rattle.paper.specs.Lent.{roomy, enough, opened, lentJudged}
+use Rattle.paper.specs.Step.{Board, Settling, boardOf, stepped, offScale}
+use Rattle.paper.specs.declared.Counts.{Counts}
 use Rattle.paper.specs.declared.Answer.{Answer}
 use Rattle.paper.specs.declared.Answer.the-variants.{Done, Refused}
 use Rattle.paper.specs.declared.Refusal.{Refusal}
-use Rattle.paper.specs.declared.Refusal.the-variants.{Length, Trailer, Short, Foreign, OffScale}
+use Rattle.paper.specs.declared.Refusal.the-variants.{Length, Trailer, Short, OffScale}
 use Rattle.paper.specs.declared.Stepped.{Stepped}
 use Rattle.paper.specs.declared.Stepped.the-variants as stepAnswer
-use Rattle.paper.specs.declared.Ran.{Ran}
-use Rattle.paper.specs.declared.Ran.the-variants as runAnswer
-
--- ---- an answer as C has it: number + 256·corrections + 65,536·place
-
-abbrev pub packedRefusal : Refusal → ℕ
-packedRefusal r = numberOf r + 65536 * placeOf r
-
-unfoldable pub packed : Answer → ℕ
-packed Done = 0
-packed (Refused r) = packedRefusal r
-
-unfoldable pub packedStep : Stepped → ℕ
-packedStep (stepAnswer.Settled c) = 256 * c
-packedStep (stepAnswer.Refused r) = packedRefusal r
 
 -- ---- the writer
 
@@ -61,30 +47,34 @@ pub record Written : Type 0 where
   pub answer : Answer
   pub bytes : List ℕ
 
+abbrev pub wrote : Answer → List ℕ → Written
+wrote answer bytes = record { answer = answer; bytes = bytes }
+
 abbrev pub writeCall : List ℕ → List ℕ → Written
-writeCall t b = record { answer = writes t (length b); bytes = written t b }
+writeCall t b = wrote (writes t (length b)) (written t b)
 
 -- ---- the reader: the last 42 bytes are Z, whose bytes back lead to D
 
 abbrev pub lastCard : List ℕ → List ℕ
 lastCard b = cardOf (take 42 (drop (length b - 42) b))
 
-abbrev pub cardAt : List ℕ → ℕ → ℕ → List ℕ
-cardAt b start i = cardOf (take 42 (drop (start + i * 42) b))
-
--- a part whose Z, the last card, is z, with n cards before it from start on
-unfoldable pub readsFrom : List ℕ → ℕ → List ℕ → ℕ → ℕ → Answer
-readsFrom b room z start n =
-    andThen (judgeFrom (countsOf z) (cardAt b start) n 0 0 0) (cond (ltb room ((n + 1) * 6)) (Refused Short) Done)
-
 abbrev pub startOf : List ℕ → List ℕ → ℕ
 startOf b z = length b - 42 - getD z 1 0
 
+abbrev pub cardAt : List ℕ → ℕ → ℕ → List ℕ
+cardAt b start i = cardOf (take 42 (drop (start + i * 42) b))
+
+-- a part whose Z, the last card, counts z, with n cards before it from start on
+unfoldable pub readsFrom : List ℕ → ℕ → Counts → ℕ → ℕ → Answer
+readsFrom b room z start n =
+    andThen (judgeFrom z (cardAt b start) n 0 0 0) (cond (ltb room ((n + 1) * 6)) (Refused Short) Done)
+
 unfoldable pub reads : List ℕ → ℕ → Answer
 reads b room =
+    let z = lastCard b in
     cond (ltb (length b) 42 || ltb 65536 (length b)) (Refused Length)
-    (cond (trailer (lastCard b) && leb (getD (lastCard b) 1 0) (length b - 42))
-    (readsFrom b room (lastCard b) (startOf b (lastCard b)) (cards (countsOf (lastCard b))))
+    (cond (trailer z && leb (getD z 1 0) (length b - 42))
+    (readsFrom b room (countsOf z) (startOf b z) (cards (countsOf z)))
     (Refused Trailer))
 
 unfoldable pub readPart : List ℕ → ℕ → List ℕ
@@ -92,9 +82,9 @@ readPart b room = whenDone (reads b room) (drop (startOf b (lastCard b)) b) []
 
 unfoldable pub readTable : List ℕ → List ℕ → List ℕ
 readTable b t =
-    whenDone (reads b (length t))
-    (joined (cardAt b (startOf b (lastCard b))) (cards (countsOf (lastCard b)) + 1) 0 ++ drop ((cards (countsOf (lastCard b)) + 1) * 6) t)
-    t
+    let z = lastCard b in
+    let n = cards (countsOf z) + 1 in
+    whenDone (reads b (length t)) (joined (cardAt b (startOf b z)) n 0 ++ drop (n * 6) t) t
 
 pub record Read : Type 0 where
   pub answer : Answer
@@ -104,124 +94,163 @@ pub record Read : Type 0 where
 abbrev pub readCall : List ℕ → List ℕ → Read
 readCall b t = record { answer = reads b (length t); part = readPart b (length t); table = readTable b t }
 
--- ---- build and replace
+-- where the part lies: from D to the bytes' end, or from 0 to 0 on a refusal
+unfoldable pub readStart : List ℕ → ℕ → ℕ
+readStart b room = whenDone (reads b room) (startOf b (lastCard b)) 0
 
--- the lent slices, and all that a call leaves
+unfoldable pub readEnd : List ℕ → ℕ → ℕ
+readEnd b room = whenDone (reads b room) (length b) 0
+
+-- what the reader hands back of bytes that lie at a place, a block of memory and an offset there: the answer as one number, the part's place, the part, the table
+pub record Handed : Type 0 where
+  pub answer : ℕ
+  pub place : ℕ × ℕ
+  pub part : List ℕ
+  pub table : List ℕ
+
+abbrev pub handed : ℕ → ℕ × ℕ → List ℕ → List ℕ → Handed
+handed answer place part table = record { answer = answer; place = place; part = part; table = table }
+
+abbrev pub handBack : ℕ × ℕ → List ℕ → List ℕ → Handed
+handBack place b t =
+    handed (packed (told (reads b (length t)))) (place .0, place .1 + readStart b (length t)) (readPart b (length t)) (readTable b t)
+
+-- ---- build, replace and step
+
+-- all that may be lent; a call that is not lent a slice has no use for it
 pub record Lent : Type 0 where
-  pub p : List ℤ
-  pub a : List ℤ
-  pub factor : List ℤ
+  pub table : List ℕ
+  pub slices : Slices
   pub work : List ℤ
+  pub temperatures : List ℤ
 
+abbrev pub lent : List ℕ → List ℤ → List ℤ → List ℤ → List ℤ → List ℤ → Lent
+lent table p a factor work temperatures =
+    record { table = table; slices = record { p = p; a = a; factor = factor }; work = work; temperatures = temperatures }
+
+-- what a call answers and leaves
 pub record Exit : Type 0 where
   pub answer : Answer
-  pub table : List ℕ
   pub lent : Lent
 
--- the matrix length, and what of a slice it covers
-abbrev pub long : List ℕ → ℕ
-long t = tri (nodes t)
+abbrev pub left : Answer → Lent → Exit
+left answer z = record { answer = answer; lent = z }
 
-abbrev pub front : List ℕ → List ℤ → List ℤ
-front t xs = take (long t) xs
+pub record StepExit : Type 0 where
+  pub answer : Stepped
+  pub lent : Lent
 
-abbrev pub roomy : List ℕ → List ℤ → Bool
-roomy t xs = leb (long t) (length xs)
+abbrev pub leftStep : Stepped → Lent → StepExit
+leftStep answer z = record { answer = answer; lent = z }
 
 -- what is written over the front of a slice; the rest stays
-abbrev pub over : List ℤ → List ℤ → List ℤ
+abbrev pub over : {X : Type 0} → List X → List X → List X
 over made xs = made ++ drop (length made) xs
 
-unfoldable pub cut : List ℕ → Lent → Slices
-cut t z = record { p = front t (z .p); a = front t (z .a); factor = front t (z .factor) }
+-- the matrix length
+abbrev pub long : List ℕ → ℕ
+long t = matrix (nodes t)
 
-unfoldable pub enough : List ℕ → Lent → Bool
-enough t z = roomy t (z .p) && roomy t (z .a) && roomy t (z .factor) && roomy t (z .work)
+unfoldable pub closed : Slices → Lent → Slices
+closed s z = record { p = over (s .p) (z .slices .p); a = over (s .a) (z .slices .a); factor = over (s .factor) (z .slices .factor) }
 
 -- the work slice is zeroed on 0, 7 and 8
-abbrev pub worked : List ℕ → Bool → List ℤ → List ℤ
-worked t b xs = cond b (over (replicate (long t) (pos 0)) xs) xs
+abbrev pub worked : Bool → Lent → List ℤ
+worked b z = cond b (over (replicate (long (z .table)) (pos 0)) (z .work)) (z .work)
 
 abbrev pub inFactor : Refusal → Bool
 inFactor r = eqb (numberOf r) 7 || eqb (numberOf r) 8
 
+-- after a refusal: as it was lent, but for the work slice
+abbrev pub asLent : Bool → Refusal → Lent → Lent
+asLent works r z = record { table = z .table; slices = z .slices; work = worked (works && inFactor r) z; temperatures = z .temperatures }
+
 -- works: whether the call has use for the work slice; new: the table on acceptance
-unfoldable pub leaves : List ℕ → List ℕ → Bool → Lent → Outcome Slices → Exit
-leaves t new works z (done s) = record {
+unfoldable pub leaves : List ℕ → Bool → Lent → Outcome Slices → Exit
+leaves new works z (done s) = record {
   answer = Done;
-  table = new;
-  lent = record { p = over (s .p) (z .p); a = over (s .a) (z .a); factor = over (s .factor) (z .factor); work = worked t works (z .work) };
+  lent = record {
+    table = new;
+    slices = closed s z;
+    work = worked works z;
+    temperatures = z .temperatures;
+  };
 }
-leaves t new works z (refused r) = record {
-  answer = Refused r;
-  table = t;
-  lent = record { p = z .p; a = z .a; factor = z .factor; work = worked t (works && inFactor r) (z .work) };
-}
+leaves new works z (refused r) = record { answer = Refused r; lent = asLent works r z }
 
-unfoldable pub buildOutcome : List ℕ → Lent → Outcome Slices
-buildOutcome t z = after (judged t) (when (enough t z) Short (build t))
+unfoldable pub buildCall : Lent → Exit
+buildCall z =
+    let t = z .table in
+    leaves t true z
+    (after (judged t)
+    (when (enough (nodes t) (z .slices) && roomy (nodes t) (z .work)) Short
+    (build t)))
 
-unfoldable pub replaceOutcome : List ℕ → Lent → ℕ → List ℕ → Outcome Slices
-replaceOutcome t z card new =
-    after (judged t)
-    (after (newJudged t card new)
-    (when (enough t z) Short
-    (when (not (foreign (nodes t) (cut t z))) Foreign
-    (replaced t (cut t z) (card - 1) new))))
-
-unfoldable pub buildCall : List ℕ → Lent → Exit
-buildCall t z = leaves t t true z (buildOutcome t z)
-
-unfoldable pub replaceCall : List ℕ → Lent → ℕ → List ℕ → Exit
-replaceCall t z card new = leaves t (put t (card - 1) new) (stirs t (card - 1)) z (replaceOutcome t z card new)
-
--- ---- step and run
-
-pub record StepExit : Type 0 where
-  pub answer : Stepped
-  pub temperatures : List ℤ
-
-abbrev pub endsStep : ℕ → List ℤ → Outcome Settling → StepExit
-endsStep n old (done s) = record { answer = stepAnswer.Settled (s .corrections); temperatures = s .temperatures ++ drop n old }
-endsStep n old (refused r) = record { answer = stepAnswer.Refused r; temperatures = old }
-
--- a lowest node off the scale, or else the rest
-abbrev pub onwards : ℕ → Outcome Settling → Outcome Settling
-onwards node o = unless node o (λ k. refused (OffScale k))
-
-unfoldable pub stepOutcome : List ℕ → Slices → List ℤ → Outcome Settling
-stepOutcome t s old =
+unfoldable pub replaceCall : Lent → ℕ → List ℕ → Exit
+replaceCall z card new =
+    let t = z .table in
     let n = nodes t in
-    let mine : Slices = record { p = front t (s .p); a = front t (s .a); factor = front t (s .factor) } in
-    after (judged t)
-    (when (roomy t (s .p) && roomy t (s .a) && roomy t (s .factor) && leb n (length old)) Short
-    (when (not (foreign n mine)) Foreign
-    (onwards (offScale n old) (stepped (boardOf t (mine .p) (mine .a) (take n old)) (mine .factor)))))
+    leaves (put t (card - 1) new) (stirs t (card - 1)) z
+    (after (judged t)
+    (after (newJudged t card new)
+    (after (lentJudged n (z .slices) (roomy n (z .work)))
+    (replaced t (opened n (z .slices)) (card - 1) new))))
 
-unfoldable pub stepCall : List ℕ → Slices → List ℤ → StepExit
-stepCall t s old = endsStep (nodes t) old (stepOutcome t s old)
+abbrev pub endsStep : Lent → Outcome Settling → StepExit
+endsStep z (done s) = record {
+  answer = stepAnswer.Settled (s .corrections);
+  lent = record {
+    table = z .table;
+    slices = z .slices;
+    work = z .work;
+    temperatures = over (s .temperatures) (z .temperatures);
+  };
+}
+endsStep z (refused r) = record { answer = stepAnswer.Refused r; lent = z }
 
-pub record RunExit : Type 0 where
-  pub answer : Ran
-  pub temperatures : List ℤ
+-- what a step of lent slices works from
+abbrev pub boardAt : Lent → Board
+boardAt z =
+    let n = nodes (z .table) in
+    let s = opened n (z .slices) in
+    boardOf (z .table) (s .p) (s .a) (take n (z .temperatures))
 
--- a step's exit: the end of the run where it was refused, or else the rest
-abbrev pub goesOn : StepExit → RunExit → RunExit
-goesOn x rest = ends (x .answer)
-  where
-    ends : Stepped → RunExit
-    ends (stepAnswer.Settled c) = rest
-    ends (stepAnswer.Refused r) = record { answer = runAnswer.Refused r; temperatures = x .temperatures }
+unfoldable pub stepCall : Lent → StepExit
+stepCall z =
+    let n = nodes (z .table) in
+    endsStep z
+    (after (judged (z .table))
+    (after (lentJudged n (z .slices) (leb n (length (z .temperatures))))
+    (unlessAt (offScale n (z .temperatures)) OffScale
+    (stepped (boardAt z) (opened n (z .slices) .factor)))))
 
--- k steps more after `count`, as far as none is refused
-unfoldable pub runFrom : ℕ → ℕ → List ℕ → Slices → List ℤ → RunExit
-runFrom zero count t s old = record { answer = runAnswer.Finished count; temperatures = old }
-runFrom (suc k) count t s old = let x = stepCall t s old in goesOn x (runFrom k (suc count) t s (x .temperatures))
+-- ---- as C has them: the answer as one number, and what is left
 
--- D's steps, where there is a deck
-abbrev pub begins : Answer → List ℤ → RunExit → RunExit
-begins Done old rest = rest
-begins (Refused r) old rest = record { answer = runAnswer.Refused r; temperatures = old }
+pub record ToC (X : Type 0) : Type 0 where
+  pub answer : ℕ
+  pub left : X
 
-unfoldable pub runCall : List ℕ → Slices → List ℤ → RunExit
-runCall t s old = begins (judged t) old (runFrom (stepsOf t) 0 t s old)
+abbrev pub gave : {X : Type 0} → ℕ → X → ToC X
+gave answer left = record { answer = answer; left = left }
+
+-- a read: where the part starts and where it ends, and the table
+pub record Marked : Type 0 where
+  pub start : ℕ
+  pub end : ℕ
+  pub table : List ℕ
+
+abbrev pub marked : ℕ → ℕ → List ℕ → Marked
+marked start end table = record { start = start; end = end; table = table }
+
+abbrev pub readToC : List ℕ → List ℕ → ToC Marked
+readToC b t = gave (packed (told (reads b (length t)))) (marked (readStart b (length t)) (readEnd b (length t)) (readTable b t))
+
+abbrev pub writeToC : List ℕ → List ℕ → ToC (List ℕ)
+writeToC t b = gave (packed (told (writes t (length b)))) (written t b)
+
+-- build and replace, and a step
+abbrev pub exitToC : Exit → ToC Lent
+exitToC x = gave (packed (told (x .answer))) (x .lent)
+
+abbrev pub stepToC : StepExit → ToC Lent
+stepToC x = gave (packed (toldStep (x .answer))) (x .lent)

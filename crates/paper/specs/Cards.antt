@@ -1,95 +1,91 @@
--- "The deck": a card's six numbers (the letter's code, five fields), the range of each field, and a table of cards.
+-- "The deck": a card's six numbers (the letter's code, five fields), the columns of each kind, and a table of cards.
 -- Rows of a table from 0: D is row 0, so node k's row is k; the last row is Z.
-use mathlib.Core.Bool.{Bool, true, cond, _&&_}
+use mathlib.Core.Bool.{Bool, true, _&&_}
 use mathlib.Core.List.{List, [], _∷_, _++_}
 use Prim.Native.Nat.{ℕ, zero, suc, _+_, _-_, _*_, _/_}
 use lib.Dec.{leb, eqb}
 use lib.ListN.{length, getD, take, drop}
+use Rattle.whole.specs.Sums.{sumN}
 use Rattle.paper.specs.Ticks.{top}
+use Rattle.paper.specs.Kinds.{about, letterOf, kindAt, ends}
 use Rattle.paper.specs.declared.Kind.{Kind}
 use Rattle.paper.specs.declared.Kind.the-variants.{D, N, M, E, H, F, T, Z, Other}
 use Rattle.paper.specs.declared.Counts.{Counts}
 
--- the letters' ASCII codes
-abbrev pub letterOf : Kind → ℕ
-letterOf D = 68
-letterOf N = 78
-letterOf M = 77
-letterOf E = 69
-letterOf H = 72
-letterOf F = 70
-letterOf T = 84
-letterOf Z = 90
-letterOf Other = 0
+-- the cards of each section, those before a section, and those before Z
+abbrev pub sections : Counts → List ℕ
+sections z = 1 ∷ z .nodes ∷ z .materials ∷ z .elements ∷ z .loads ∷ 1 ∷ []
 
-unfoldable pub kindOf : ℕ → Kind
-kindOf letter =
-    cond (eqb letter (letterOf D)) D (cond (eqb letter (letterOf N)) N
-    (cond (eqb letter (letterOf M)) M (cond (eqb letter (letterOf E)) E
-    (cond (eqb letter (letterOf H)) H (cond (eqb letter (letterOf F)) F
-    (cond (eqb letter (letterOf T)) T (cond (eqb letter (letterOf Z)) Z Other)))))))
+unfoldable pub before : Counts → ℕ → ℕ
+before z s = sumN s (λ k. getD (sections z) k 0)
 
--- the groups' order
-unfoldable pub order : Kind → ℕ
-order D = 0
-order N = 1
-order M = 2
-order E = 3
-order H = 4
-order F = 5
-order T = 6
-order Z = 7
-order Other = 8
+abbrev pub cards : Counts → ℕ
+cards z = before z ends
 
--- the cards before Z, and the bytes from D to Z: a card is 42
-unfoldable pub cards : Counts → ℕ
-cards z = 1 + z .nodes + z .materials + z .elements + z .loads
-
+-- the bytes from D to Z: a card is 42
 abbrev pub back : Counts → ℕ
 back z = 42 * cards z
 
-pub record Between : Type 0 where
+-- ---- columns: the values that a field may have
+
+pub record Column : Type 0 where
   pub least : ℕ
   pub most : ℕ
 
 infixl 20 _⋯_
-abbrev pub _⋯_ : ℕ → ℕ → Between
+abbrev pub _⋯_ : ℕ → ℕ → Column
 _⋯_ a b = record { least = a; most = b }
 
-abbrev pub within : Between → ℕ → Bool
-within b v = leb (b .least) v && leb v (b .most)
+abbrev pub within : Column → ℕ → Bool
+within c v = leb (c .least) v && leb v (c .most)
 
--- the used fields of each kind of card, with the values that each may have
-unfoldable pub fields : Counts → Kind → List Between
-fields z D = (1 ⋯ 60000) ∷ (0 ⋯ top) ∷ (1 ⋯ 100000) ∷ []
-fields z N = (0 ⋯ 4095) ∷ (0 ⋯ 4095) ∷ []
-fields z M = (1 ⋯ 500000) ∷ (1 ⋯ 500000) ∷ (1 ⋯ 5000) ∷ []
-fields z E = (1 ⋯ z .nodes) ∷ (1 ⋯ z .nodes) ∷ (1 ⋯ z .nodes) ∷ (1 ⋯ z .materials) ∷ (1 ⋯ 4000) ∷ []
-fields z H = (1 ⋯ z .elements) ∷ (1 ⋯ 5000000) ∷ []
-fields z F = (1 ⋯ z .elements) ∷ (1 ⋯ 100000) ∷ (0 ⋯ top) ∷ []
-fields z T = (1 ⋯ z .nodes) ∷ (0 ⋯ top) ∷ []
-fields z Z = (back z ⋯ back z) ∷ (3 ⋯ 96) ∷ (1 ⋯ 8) ∷ (1 ⋯ 160) ∷ (0 ⋯ 416) ∷ []
-fields z Other = []
+-- the used fields of each kind
+unfoldable pub columns : Counts → Kind → List Column
+columns z D = (1 ⋯ 60000) ∷ (0 ⋯ top) ∷ (1 ⋯ 100000) ∷ []
+columns z N = (0 ⋯ 4095) ∷ (0 ⋯ 4095) ∷ []
+columns z M = (1 ⋯ 500000) ∷ (1 ⋯ 500000) ∷ (1 ⋯ 5000) ∷ []
+columns z E = (1 ⋯ z .nodes) ∷ (1 ⋯ z .nodes) ∷ (1 ⋯ z .nodes) ∷ (1 ⋯ z .materials) ∷ (1 ⋯ 4000) ∷ []
+columns z H = (1 ⋯ z .elements) ∷ (1 ⋯ 5000000) ∷ []
+columns z F = (1 ⋯ z .elements) ∷ (1 ⋯ 100000) ∷ (0 ⋯ top) ∷ []
+columns z T = (1 ⋯ z .nodes) ∷ (0 ⋯ top) ∷ []
+columns z Z = (back z ⋯ back z) ∷ (3 ⋯ 96) ∷ (1 ⋯ 8) ∷ (1 ⋯ 160) ∷ (0 ⋯ 416) ∷ []
+columns z Other = []
 
+-- the columns of a card
+abbrev pub columnsOf : Counts → List ℕ → List Column
+columnsOf z card = columns z (kindAt card)
+
+-- the rows of the longest table: D, 96 N, 8 M, 160 elements, 416 loads, Z
+abbrev pub mostRows : ℕ
+mostRows = 682
+
+-- the fields that a kind uses
 unfoldable pub used : Kind → ℕ
-used kind = length (fields (record { nodes = 0; materials = 0; elements = 0; loads = 0 }) kind)
+used kind = length (columns (record { nodes = 0; materials = 0; elements = 0; loads = 0 }) kind)
 
 -- of a card's numbers from place k on, the next n are 0
 unfoldable pub zeros : List ℕ → ℕ → ℕ → Bool
 zeros card zero k = true
 zeros card (suc n) k = eqb (getD card k 0) 0 && zeros card n (suc k)
 
--- of a card's fields from field k on, counted from 0, the next n are within their bounds; an unused one is 0
-unfoldable pub inRange : List Between → List ℕ → ℕ → ℕ → Bool
-inRange bs card zero k = true
-inRange bs card (suc n) k = within (getD bs k (0 ⋯ 0)) (getD card (suc k) 0) && inRange bs card n (suc k)
+-- of a card's fields from field k on, counted from 0, the next n are within their columns; an unused one is 0
+unfoldable pub inRange : List Column → List ℕ → ℕ → ℕ → Bool
+inRange cs card zero k = true
+inRange cs card (suc n) k = within (getD cs k (0 ⋯ 0)) (getD card (suc k) 0) && inRange cs card n (suc k)
 
-abbrev pub kindAt : List ℕ → Kind
-kindAt card = kindOf (getD card 0 0)
+-- the first n numbers of two cards are the same
+unfoldable pub agree : List ℕ → List ℕ → ℕ → Bool
+agree x y zero = true
+agree x y (suc n) = eqb (getD x n 0) (getD y n 0) && agree x y n
 
 abbrev pub orderOf : List ℕ → ℕ
-orderOf card = order (kindAt card)
+orderOf card = about (kindAt card) .order
 
+-- what rises within a group of loads: the key
+abbrev pub rank : List ℕ → ℕ
+rank card = getD card 1 0
+
+-- what Z counts
 abbrev pub countsOf : List ℕ → Counts
 countsOf card = record { nodes = getD card 2 0; materials = getD card 3 0; elements = getD card 4 0; loads = getD card 5 0 }
 
@@ -111,7 +107,9 @@ isCard kind t row = eqb (letter t row) (letterOf kind)
 abbrev pub rows : List ℕ → ℕ
 rows t = length t / 6
 
--- what Z counts
+abbrev pub countsAt : List ℕ → Counts
+countsAt t = countsOf (rowAt t (rows t - 1))
+
 unfoldable pub nodes : List ℕ → ℕ
 nodes t = field t (rows t - 1) 2
 

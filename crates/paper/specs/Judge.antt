@@ -5,84 +5,77 @@ use Prim.Native.Nat.{ℕ, zero, suc, _+_, _-_, _*_, _%_}
 use lib.Dec.{ltb, leb, eqb}
 use lib.ListN.{length, getD}
 use Rattle.paper.specs.Refusals.{andThen}
-use Rattle.paper.specs.Cards.{letterOf, fields, used, zeros, inRange, kindAt, orderOf, countsOf, rowAt, field, rows}
+use Rattle.paper.specs.Kinds.{about, aboutOf, bodies, kindAt, isA}
+use Rattle.paper.specs.Cards.{before, columnsOf, used, zeros, inRange, agree, orderOf, rank, countsOf, countsAt, mostRows, rowAt, rows}
 use Rattle.paper.specs.declared.Answer.{Answer}
 use Rattle.paper.specs.declared.Answer.the-variants.{Done, Refused}
 use Rattle.paper.specs.declared.Refusal.the-variants.{Length, Trailer, Form, Range, Replacement}
-use Rattle.paper.specs.declared.Kind.the-variants.{Z}
+use Rattle.paper.specs.declared.Kind.the-variants.{Z, Other}
+use Rattle.paper.specs.declared.About.{About}
 use Rattle.paper.specs.declared.Counts.{Counts}
 
--- heat, film or fixed, by the order of the groups
-unfoldable pub load : ℕ → Bool
-load o = leb 4 o && leb o 6
-
--- whether a kind of order o may stand after i cards, the last of them of order p
-unfoldable pub stands : Counts → ℕ → ℕ → ℕ → Bool
-stands z i p o =
-    cond (ltb i 1) (eqb o 0)
-    (cond (ltb i (1 + z .nodes)) (eqb o 1)
-    (cond (ltb i (1 + z .nodes + z .materials)) (eqb o 2)
-    (cond (ltb i (1 + z .nodes + z .materials + z .elements)) (eqb o 3)
-    (load o && leb p o))))
-
--- keys rise strictly within a group of loads
-unfoldable pub rises : ℕ → ℕ → ℕ → ℕ → Bool
-rises p key o next = not (load o && eqb p o) || ltb key next
+-- whether a kind may stand after i cards, the last of them of order p: in its section, and not before p's group
+unfoldable pub stands : Counts → ℕ → ℕ → About → Bool
+stands z i p a = leb (before z (a .section)) i && ltb i (before z (suc (a .section))) && leb p (a .order)
 
 -- a card's unused fields are 0
 unfoldable pub clean : List ℕ → Bool
 clean card = zeros card (5 - used (kindAt card)) (1 + used (kindAt card))
 
+-- keys rise strictly within a group
+unfoldable pub rises : ℕ → ℕ → About → List ℕ → Bool
+rises p key a card = eqb (a .keys) 0 || not (eqb p (a .order)) || ltb key (rank card)
+
+-- the number by which the card in row i is named: elements by their place, the others by their first field
+unfoldable pub nameAt : Counts → (ℕ → List ℕ) → ℕ → ℕ
+nameAt z row i = cond (eqb (aboutOf (row i) .section) bodies) (suc i - before z bodies) (getD (row i) 1 0)
+
 -- refusal 3: letter, and unused fields
-unfoldable pub formed : Counts → ℕ → ℕ → List ℕ → Bool
-formed z i p card = stands z i p (orderOf card) && clean card
+unfoldable pub formed : Counts → (ℕ → List ℕ) → ℕ → ℕ → Bool
+formed z row i p = stands z i p (aboutOf (row i)) && clean (row i)
 
 -- refusal 4: ranges, and rising keys
-unfoldable pub ranged : Counts → ℕ → ℕ → List ℕ → Bool
-ranged z p key card = inRange (fields z (kindAt card)) card 5 0 && rises p key (orderOf card) (getD card 1 0)
+unfoldable pub ranged : Counts → (ℕ → List ℕ) → ℕ → ℕ → ℕ → Bool
+ranged z row i p key = inRange (columnsOf z (row i)) (row i) 5 0 && rises p key (aboutOf (row i)) (row i)
 
--- a card that stands after i cards, the last of them of order p with this key
-unfoldable pub judgeCard : Counts → ℕ → ℕ → ℕ → List ℕ → Answer
-judgeCard z i p key card =
-    cond (formed z i p card) (cond (ranged z p key card) Done (Refused (Range (suc i)))) (Refused (Form (suc i)))
+-- the card in row i, the one before it being of order p and of this rank
+unfoldable pub judgeCard : Counts → (ℕ → List ℕ) → ℕ → ℕ → ℕ → Answer
+judgeCard z row i p key =
+    cond (formed z row i p) (cond (ranged z row i p key) Done (Refused (Range (suc i)))) (Refused (Form (suc i)))
 
 -- cards in turn, n of them from the i-th on: row gives each one's six numbers
 unfoldable pub judgeFrom : Counts → (ℕ → List ℕ) → ℕ → ℕ → ℕ → ℕ → Answer
 judgeFrom z row zero i p key = Done
 judgeFrom z row (suc n) i p key =
-    andThen (judgeCard z i p key (row i)) (judgeFrom z row n (suc i) (orderOf (row i)) (getD (row i) 1 0))
+    andThen (judgeCard z row i p key) (judgeFrom z row n (suc i) (orderOf (row i)) (rank (row i)))
 
 -- a Z card: its counts in bounds, and bytes back as they say
 unfoldable pub trailer : List ℕ → Bool
-trailer card = eqb (getD card 0 0) (letterOf Z) && inRange (fields (countsOf card) Z) card 5 0
+trailer card = isA Z card && inRange (columnsOf (countsOf card) card) card 5 0
 
 -- a table of n cards and then Z, of which bytes back are 42 times the rows before it
 unfoldable pub judgeRows : List ℕ → ℕ → Answer
 judgeRows t n =
-    cond (trailer (rowAt t n) && eqb (getD (rowAt t n) 1 0) (42 * n))
-    (judgeFrom (countsOf (rowAt t n)) (rowAt t) n 0 0 0)
-    (Refused Trailer)
+    cond (trailer (rowAt t n) && eqb (getD (rowAt t n) 1 0) (42 * n)) (judgeFrom (countsAt t) (rowAt t) n 0 0 0) (Refused Trailer)
 
 -- the judge of a lent table
 unfoldable pub judged : List ℕ → Answer
 judged t =
-    cond (not (eqb (length t % 6) 0) || ltb (length t) 12 || ltb 4092 (length t)) (Refused Length)
-    (judgeRows t (rows t - 1))
+    cond (not (eqb (length t % 6) 0) || ltb (length t) 12 || ltb (mostRows * 6) (length t)) (Refused Length) (judgeRows t (rows t - 1))
 
 -- ---- a new card for the card asked for, by its number
 
--- whether it may take that card's place: an E, H, F or T of the same letter and key, an E of the same corners
+-- whether it may take that card's place: of a kind that is replaced, its letter and the fields it keeps the same
 unfoldable pub answers : List ℕ → ℕ → List ℕ → Bool
 answers t card new =
-    let row = card - 1 in
-    let o = orderOf new in
-    leb 1 card && leb card (rows t) && (eqb o 3 || load o) && eqb (getD new 0 0) (field t row 0) && eqb (getD new 1 0) (field t row 1)
-    && (not (eqb o 3) || (eqb (getD new 2 0) (field t row 2) && eqb (getD new 3 0) (field t row 3)))
+    let keeps = aboutOf new .keeps in
+    leb 1 card && leb card (rows t) && leb 1 keeps && agree new (rowAt t (card - 1)) (1 + keeps)
 
+-- 3: a letter that is none of the eight, or an unused field not 0; 13; 4
 unfoldable pub newJudged : List ℕ → ℕ → List ℕ → Answer
 newJudged t card new =
-    cond (ltb (orderOf new) 8 && clean new)
+    cond (ltb (orderOf new) (about Other .order) && clean new)
     (cond (answers t card new)
-    (cond (inRange (fields (countsOf (rowAt t (rows t - 1))) (kindAt new)) new 5 0) Done (Refused (Range card)))
+    (cond (inRange (columnsOf (countsAt t) new) new 5 0) Done (Refused (Range card)))
     (Refused (Replacement card)))
     (Refused (Form card))

@@ -1,40 +1,40 @@
--- "Refusal numbers": the number and the place of each refusal, and how refusals follow one another.
+-- "Refusal numbers": a table of number and place by refusal, how refusals follow one another, and what an answer tells.
 use mathlib.Core.Bool.{Bool, true, false}
-use Prim.Native.Nat.{ℕ}
+use Prim.Native.Nat.{ℕ, zero, suc, _+_, _*_}
 use Rattle.paper.specs.declared.Answer.{Answer}
 use Rattle.paper.specs.declared.Answer.the-variants.{Done, Refused}
+use Rattle.paper.specs.declared.Given.{Given}
 use Rattle.paper.specs.declared.Refusal.{Refusal}
 use Rattle.paper.specs.declared.Refusal.the-variants.{Length, Trailer, Form, Range, Flat, Stiff, Pivot, Bound, Short, Foreign, OffScale, Unsettled, Replacement}
+use Rattle.paper.specs.declared.Stepped.{Stepped}
+use Rattle.paper.specs.declared.Stepped.the-variants as stepAnswer
+use Rattle.paper.specs.declared.Ran.{Ran}
+use Rattle.paper.specs.declared.Ran.the-variants as runAnswer
 
-unfoldable pub numberOf : Refusal → ℕ
-numberOf Length = 1
-numberOf Trailer = 2
-numberOf (Form card) = 3
-numberOf (Range card) = 4
-numberOf (Flat element) = 5
-numberOf (Stiff element) = 6
-numberOf (Pivot row) = 7
-numberOf (Bound row) = 8
-numberOf Short = 9
-numberOf Foreign = 10
-numberOf (OffScale node) = 11
-numberOf (Unsettled row) = 12
-numberOf (Replacement card) = 13
+-- a row of the table
+abbrev pub given : ℕ → ℕ → Given
+given number place = record { number = number; place = place }
 
-unfoldable pub placeOf : Refusal → ℕ
-placeOf Length = 0
-placeOf Trailer = 0
-placeOf (Form card) = card
-placeOf (Range card) = card
-placeOf (Flat element) = element
-placeOf (Stiff element) = element
-placeOf (Pivot row) = row
-placeOf (Bound row) = row
-placeOf Short = 0
-placeOf Foreign = 0
-placeOf (OffScale node) = node
-placeOf (Unsettled row) = row
-placeOf (Replacement card) = card
+abbrev pub givenBy : Refusal → Given
+givenBy Length = given 1 0
+givenBy Trailer = given 2 0
+givenBy (Form card) = given 3 card
+givenBy (Range card) = given 4 card
+givenBy (Flat element) = given 5 element
+givenBy (Stiff element) = given 6 element
+givenBy (Pivot row) = given 7 row
+givenBy (Bound row) = given 8 row
+givenBy Short = given 9 0
+givenBy Foreign = given 10 0
+givenBy (OffScale node) = given 11 node
+givenBy (Unsettled row) = given 12 row
+givenBy (Replacement card) = given 13 card
+
+abbrev pub numberOf : Refusal → ℕ
+numberOf r = givenBy r .number
+
+abbrev pub placeOf : Refusal → ℕ
+placeOf r = givenBy r .place
 
 -- a refusal, or what was made
 pub data Outcome (X : Type 0) : Type 0 where
@@ -62,3 +62,38 @@ after (Refused r) rest = refused r
 abbrev pub answerOf : {X : Type 0} → Outcome X → Answer
 answerOf (refused r) = Refused r
 answerOf (done x) = Done
+
+-- a test's lowest row, node or card, counted from 1 (0: none), or else the rest
+abbrev pub unlessAt : {X : Type 0} → ℕ → (ℕ → Refusal) → Outcome X → Outcome X
+unlessAt zero r rest = rest
+unlessAt (suc k) r rest = refused (r (suc k))
+
+-- ---- each answer's number, place and value: 0 is acceptance
+
+pub record Told : Type 0 where
+  pub number : ℕ
+  pub value : ℕ
+  pub place : ℕ
+
+abbrev pub acceptance : ℕ → Told
+acceptance value = record { number = 0; value = value; place = 0 }
+
+abbrev pub refusal : Refusal → Told
+refusal r = record { number = numberOf r; value = 0; place = placeOf r }
+
+unfoldable pub told : Answer → Told
+told Done = acceptance 0
+told (Refused r) = refusal r
+
+-- the value of a step is its count of corrections, of a run the steps done
+unfoldable pub toldStep : Stepped → Told
+toldStep (stepAnswer.Settled corrections) = acceptance corrections
+toldStep (stepAnswer.Refused r) = refusal r
+
+unfoldable pub toldRun : Ran → Told
+toldRun (runAnswer.Finished steps) = acceptance steps
+toldRun (runAnswer.Refused r) = refusal r
+
+-- as C has it
+unfoldable pub packed : Told → ℕ
+packed x = x .number + 256 * x .value + 65536 * x .place

@@ -25,11 +25,9 @@ pub record Board : Type 0 where
   pub fixed : List ℤ
   pub old : List ℤ
 
-abbrev pub board : ℕ → List ℤ → List ℤ → List ℤ → List ℤ → List ℤ → Board
-board n p a loads fixed old = record { n = n; p = p; a = a; loads = loads; fixed = fixed; old = old }
-
 unfoldable pub boardOf : List ℕ → List ℤ → List ℤ → List ℤ → Board
-boardOf t p a old = board (nodes t) p a (table (nodes t) (loadOf t)) (table (nodes t) (held t)) old
+boardOf t p a old =
+    record { n = nodes t; p = p; a = a; loads = table (nodes t) (loadOf t); fixed = table (nodes t) (held t); old = old }
 
 abbrev pub isFixed : List ℤ → ℕ → Bool
 isFixed f i = leZ (pos 0) (cell f i)

@@ -4,7 +4,8 @@ use mathlib.Core.List.{List, [], _∷_, _++_}
 use Prim.Native.Nat.{ℕ, zero, suc, _+_, _-_, _*_, _/_, _%_}
 use lib.Dec.{ltb, leb, eqb}
 use lib.ListN.{getD, take, drop, set, replicate}
-use Rattle.paper.specs.Cards.{kindOf, letterOf, used}
+use Rattle.paper.specs.Kinds.{kindOf, letterOf}
+use Rattle.paper.specs.Cards.{used}
 use Rattle.paper.specs.declared.Field.{Field}
 use Rattle.paper.specs.declared.Field.the-variants.{Number, Malformed}
 
@@ -29,17 +30,17 @@ blank [] = Number 0
 blank (b ∷ s) = cond (eqb b 32) (blank s) Malformed
 
 -- the column of a number's last digit; blank where no number is left
-abbrev pub column : ℕ → ℕ
-column n = cond (eqb n 0) 32 (48 + n % 10)
+abbrev pub digit : ℕ → ℕ
+digit n = cond (eqb n 0) 32 (48 + n % 10)
 
 -- w columns for the digits of n, blank where n has none, and then s
-unfoldable pub columns : ℕ → ℕ → List ℕ → List ℕ
-columns zero n s = s
-columns (suc w) n s = columns w (n / 10) (column n ∷ s)
+unfoldable pub spaced : ℕ → ℕ → List ℕ → List ℕ
+spaced zero n s = s
+spaced (suc w) n s = spaced w (n / 10) (digit n ∷ s)
 
 -- a number in 8 columns
 unfoldable pub printed : ℕ → List ℕ
-printed n = columns 7 (n / 10) ((48 + n % 10) ∷ [])
+printed n = spaced 7 (n / 10) ((48 + n % 10) ∷ [])
 
 -- field k of a card's bytes, counted from 0; u fields are used
 unfoldable pub fieldOf : ℕ → List ℕ → ℕ → Field

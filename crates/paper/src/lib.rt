@@ -2,6 +2,7 @@
 ghost use mathlib.Core.Path.{_≡_};
 ghost use Prim.Native.Nat.{_*_, _≤_};
 ghost use Rattle.paper.specs.Ticks.{kelvin, onScale};
+ghost use Rattle.paper.specs.Refusals.{givenBy, refusal, told, toldStep, packed};
 
 // Three kinds of count, as on the cards. None is taken for another.
 pub struct Node(pub u8);
@@ -45,6 +46,15 @@ pub enum Kind {
     Other,
 }
 
+// What is known of a kind of card: specs/Kinds has a line of it for each.
+pub struct About {
+    pub letter: u32,
+    pub order: u32,
+    pub section: usize,
+    pub keeps: usize,
+    pub keys: u32,
+}
+
 // What Z counts.
 pub struct Counts {
     pub nodes: u32,
@@ -76,6 +86,12 @@ pub enum Refusal {
     Replacement(u32),
 }
 
+// A refusal's number and place.
+pub struct Given {
+    pub number: u32,
+    pub place: u32,
+}
+
 // What read, write, build and replace answer.
 pub enum Answer {
     Done,
@@ -92,4 +108,93 @@ pub enum Stepped {
 pub enum Ran {
     Finished(u32),
     Refused(Refusal),
+}
+
+// ---- an answer's number, place and value
+
+// The table of refusals.
+pub fn given_by(r: Refusal) -> Given
+    ensures { λ g. ⌜ g ≡ givenBy r ⌝ }
+{
+    match r {
+        Refusal::Length => Given {
+            number: 1,
+            place: 0,
+        },
+        Refusal::Trailer => Given {
+            number: 2,
+            place: 0,
+        },
+        Refusal::Form(card) => Given {
+            number: 3,
+            place: card,
+        },
+        Refusal::Range(card) => Given {
+            number: 4,
+            place: card,
+        },
+        Refusal::Flat(element) => Given {
+            number: 5,
+            place: element,
+        },
+        Refusal::Stiff(element) => Given {
+            number: 6,
+            place: element,
+        },
+        Refusal::Pivot(line) => Given {
+            number: 7,
+            place: line,
+        },
+        Refusal::Bound(line) => Given {
+            number: 8,
+            place: line,
+        },
+        Refusal::Short => Given {
+            number: 9,
+            place: 0,
+        },
+        Refusal::Foreign => Given {
+            number: 10,
+            place: 0,
+        },
+        Refusal::OffScale(node) => Given {
+            number: 11,
+            place: node,
+        },
+        Refusal::Unsettled(line) => Given {
+            number: 12,
+            place: line,
+        },
+        Refusal::Replacement(card) => Given {
+            number: 13,
+            place: card,
+        },
+    }
+}
+
+// 256 is where a value begins, 65,536 where a place does.
+fn packed_refusal(r: Refusal) -> u64
+    ensures { λ n. ⌜ n ≡ packed (refusal r) ⌝ }
+{
+    let g = given_by(r);
+    g.number as u64 + 65_536 * g.place as u64
+}
+
+// An answer as one number.
+pub fn packed_answer(a: Answer) -> u64
+    ensures { λ n. ⌜ n ≡ packed (told a) ⌝ }
+{
+    match a {
+        Answer::Done => 0,
+        Answer::Refused(r) => packed_refusal(r),
+    }
+}
+
+pub fn packed_step(s: Stepped) -> u64
+    ensures { λ n. ⌜ n ≡ packed (toldStep s) ⌝ }
+{
+    match s {
+        Stepped::Settled(corrections) => 256 * corrections as u64,
+        Stepped::Refused(r) => packed_refusal(r),
+    }
 }

@@ -5,4 +5,5 @@ pub mod Packing
 pub mod Decks
 pub mod Matrices
 pub mod Replacing
+pub mod Leaving
 pub mod Step

@@ -4,22 +4,22 @@ use mathlib.Core.Bool.{false}
 use mathlib.Core.List.{List}
 use Prim.Native.Nat.{ℕ, _<_}
 use lib.IntN.{ℤ, pos, _+ℤ_}
+use lib.ListN.{length, getD}
 use Rattle.whole.specs.Sums.{sum}
 use Rattle.paper.specs.Refusals.{done}
 use Rattle.paper.specs.Cards.{rows, nodes}
 use Rattle.paper.specs.Judge.{judged}
-use Rattle.paper.specs.Triangle.{square, shapeAt}
-use Rattle.paper.specs.Matrices.{P, A}
+use Rattle.paper.specs.Corners.{square}
+use Rattle.paper.specs.Parts.{partAt}
+use Rattle.paper.specs.Matrices.{P, A, K, Film}
 use Rattle.paper.specs.Building.{Slices, build}
 use Rattle.paper.specs.Lent.{foreign}
 use Rattle.paper.specs.declared.Answer.the-variants.{Done}
-use Rattle.paper.specs.declared.Kind.the-variants.{E}
-use Rattle.paper.proofs.Square.{square-symmetric, square-rows}
-use Rattle.paper.proofs.Assembled.{K, Film, three-kinds, K-symmetric, P-symmetric, A-symmetric, conducted}
-use Rattle.paper.proofs.Decks.{Is}
+use Rattle.paper.proofs.Square.{square-symmetric, square-rows, P-symmetric, A-symmetric}
+use Rattle.paper.proofs.Assembled.{three-kinds, K-symmetric, conducted}
 use Rattle.paper.proofs.Judged.{deck}
-use Rattle.paper.proofs.Sizes.{Distinct}
-use Rattle.paper.proofs.Built.{own, three-corners}
+use Rattle.paper.proofs.Elements.{part-distinct}
+use Rattle.paper.proofs.Built.{own}
 use Rattle.paper.proofs.Lent.{own-pass}
 
 -- ---- a square over any number of corners, whatever its pairs are
@@ -43,7 +43,7 @@ pub a-symmetric : (t : List ℕ) (i j : ℕ) → A t i j ≡ A t j i
 a-symmetric = A-symmetric
 
 -- every row of the conductance sums to exactly zero
-pub conductance-rows : (t : List ℕ) (i : ℕ) → judged t ≡ Done → i < nodes t → sum (nodes t) (λ j. K t i j) ≡ pos 0
+pub conductance-rows : (t : List ℕ) (i : ℕ) → judged t ≡ Done → sum (nodes t) (λ j. K t i j) ≡ pos 0
 conductance-rows = conducted
 
 -- A is conductance, capacity and film, entry by entry
@@ -56,6 +56,7 @@ a-is-three-kinds = three-kinds
 pub own-slices-pass : (t : List ℕ) (s : Slices) → judged t ≡ Done → build t ≡ done s → foreign (nodes t) s ≡ false
 own-slices-pass t s ok b = own-pass t s (deck t ok) (own t s b)
 
--- and no element of it has two corners at one node
-pub corners-apart : (t : List ℕ) (s : Slices) (row : ℕ) → judged t ≡ Done → build t ≡ done s → row < rows t → Is E t row → Distinct 3 (shapeAt t row .corners)
-corners-apart t s row ok b = three-corners t s row (deck t ok) (own t s b)
+-- and no card of it has two corners at one node
+pub corners-apart : (t : List ℕ) (s : Slices) (row : ℕ) → judged t ≡ Done → build t ≡ done s → row < rows t
+    → let ns = partAt t row .corners in (a b : ℕ) → a < length ns → b < length ns → getD ns a 0 ≡ getD ns b 0 → a ≡ b
+corners-apart t s row ok b = part-distinct t (deck t ok) (own t s b .passed) row

@@ -4,10 +4,9 @@ use mathlib.Core.Bool.{cond}
 use mathlib.Core.List.{List}
 use Prim.Native.Nat.{ℕ}
 use lib.Dec.{eqb}
-use lib.IntN.{ℤ}
 use Rattle.paper.specs.Refusals.{numberOf, placeOf}
-use Rattle.paper.specs.Building.{Slices}
-use Rattle.paper.specs.Calls.{readCall, writeCall, Lent, buildCall, replaceCall, stepCall, runCall}
+use Rattle.paper.specs.Calls.{readCall, writeCall, Lent, buildCall, replaceCall, stepCall}
+use Rattle.paper.specs.Running.{runCall}
 use Rattle.paper.specs.declared.Refusal.{Refusal}
 use Rattle.paper.specs.declared.Refusal.the-variants.{Length, Trailer, Form, Range, Flat, Stiff, Pivot, Bound, Short, Foreign, OffScale, Unsettled, Replacement}
 
@@ -19,7 +18,6 @@ refusalOf n place =
     (cond (eqb n 9) Short (cond (eqb n 10) Foreign (cond (eqb n 11) (OffScale place) (cond (eqb n 12) (Unsettled place) (Replacement place))))))))))))
 
 pub number-and-place-tell : (r : Refusal) → refusalOf (numberOf r) (placeOf r) ≡ r
-unfolding numberOf placeOf
 number-and-place-tell Length = refl
 number-and-place-tell Trailer = refl
 number-and-place-tell (Form k) = refl
@@ -47,14 +45,14 @@ read-only bytes table = only (readCall bytes table)
 pub write-only : (table bytes : List ℕ) → Only (writeCall table bytes)
 write-only table bytes = only (writeCall table bytes)
 
-pub build-only : (table : List ℕ) (lent : Lent) → Only (buildCall table lent)
-build-only table lent = only (buildCall table lent)
+pub build-only : (z : Lent) → Only (buildCall z)
+build-only z = only (buildCall z)
 
-pub replace-only : (table : List ℕ) (lent : Lent) (card : ℕ) (new : List ℕ) → Only (replaceCall table lent card new)
-replace-only table lent card new = only (replaceCall table lent card new)
+pub replace-only : (z : Lent) (card : ℕ) (new : List ℕ) → Only (replaceCall z card new)
+replace-only z card new = only (replaceCall z card new)
 
-pub step-only : (table : List ℕ) (lent : Slices) (temperatures : List ℤ) → Only (stepCall table lent temperatures)
-step-only table lent temperatures = only (stepCall table lent temperatures)
+pub step-only : (z : Lent) → Only (stepCall z)
+step-only z = only (stepCall z)
 
-pub run-only : (table : List ℕ) (lent : Slices) (temperatures : List ℤ) → Only (runCall table lent temperatures)
-run-only table lent temperatures = only (runCall table lent temperatures)
+pub run-only : (z : Lent) → Only (runCall z)
+run-only z = only (runCall z)

@@ -12,7 +12,8 @@ use mir.Facts.{toZ-ofZ}
 use Rattle.whole.specs.Sums.{table}
 use Rattle.whole.specs.Packed.{cell}
 use Rattle.whole.proofs.Sums.{filled, filled-none, filled-more, filled-next, filled-length, filled-end}
-use Rattle.whole.proofs.Calc.{rd, num, size-of}
+use Rattle.whole.proofs.Calc.{rd, size-of}
+use Rattle.lent.proofs.Narrow.{rd32, num32}
 use Rattle.lent.specs.Rows.{Mild}
 use Rattle.residual.specs.Asks.{fixedOr}
 
@@ -28,13 +29,13 @@ module _ {f t r₀ r : List ℤ} {n i : ℕ} (q : Mild f n) (s : Mild t n) (e : 
   fix-long = ap length (v .rows) ∙ filled-length (λ k. fixedOr (cell f k) (cell t k) (cell r₀ k)) r₀ i (omega (arith, v .upto)) ∙ e
 
   module _ (h : i < n) where
-    pub fix-asks : (natAbs (rd (cell f i)) ≤ 2 ^ 25) × (natAbs (rd (cell t i)) ≤ 2 ^ 25)
-    fix-asks = (size-of (num (cell f i) (q .each i h) (lit< tt)), size-of (num (cell t i) (s .each i h) (lit< tt)))
+    pub fix-asks : (natAbs (rd32 (cell f i)) ≤ 2 ^ 25) × (natAbs (rd32 (cell t i)) ≤ 2 ^ 25)
+    fix-asks = (size-of (num32 (cell f i) (q .each i h) (lit< tt)), size-of (num32 (cell t i) (s .each i h) (lit< tt)))
 
-    pub fix-next : SFits w64 (cell r i) → (z : ℤ) → SFits w64 z → z ≡ fixedOr (rd (cell f i)) (rd (cell t i)) (rd (cell r i)) → FixInv f t r₀ (set r i (rd z)) n (i + 1)
+    pub fix-next : SFits w64 (cell r i) → (z : ℤ) → SFits w64 z → z ≡ fixedOr (rd32 (cell f i)) (rd32 (cell t i)) (rd (cell r i)) → FixInv f t r₀ (set r i (rd z)) n (i + 1)
     fix-next g z gz ez =
-        let x : rd (cell f i) ≡ cell f i = num (cell f i) (q .each i h) (lit< tt) .eq in
-        let y : rd (cell t i) ≡ cell t i = num (cell t i) (s .each i h) (lit< tt) .eq in
+        let x : rd32 (cell f i) ≡ cell f i = num32 (cell f i) (q .each i h) (lit< tt) .eq in
+        let y : rd32 (cell t i) ≡ cell t i = num32 (cell t i) (s .each i h) (lit< tt) .eq in
         let w : rd (cell r i) ≡ cell r₀ i = toZ-ofZ g ∙ ap (λ (l : List ℤ). cell l i) (v .rows) ∙ filled-next (λ k. fixedOr (cell f k) (cell t k) (cell r₀ k)) r₀ i (omega arith) in
         record {
           upto = omega arith;

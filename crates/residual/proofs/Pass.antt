@@ -14,6 +14,7 @@ use Rattle.whole.proofs.Sums.{sum-more, filled, filled-more, filled-next, fille
 use Rattle.whole.proofs.Packed.{tri-below, place-low, place-high}
 use Rattle.whole.proofs.Calc.{Is, rd, num, is}
 use Rattle.paper.specs.Step.{Board}
+use Rattle.lent.proofs.Narrow.{rd32}
 use Rattle.lent.specs.Rows.{Mild}
 use Rattle.residual.specs.Asks.{Fair, heldOr, mixed, InRow, Term}
 use Rattle.residual.proofs.Terms.{part-size, term-asks, term-is}
@@ -43,7 +44,7 @@ module _ {p a f old t r₀ : List ℤ} {i n : ℕ} (q : InRow p a f old t r₀ i
     in-a = omega (arith, ea, tri-below i n (q .here), q .lines .a-light .rows .room)
 
     -- column j, for row i itself: s is what it came to so far
-    module _ (j : ℕ) (l : j ≤ i) (s : ℤ) (es : s ≡ cell r₀ i +ℤ sum j (mixed p a f old t i)) (h : ℤ) (eh : h ≡ heldOr (rd (cell f j)) (rd (cell t j))) where
+    module _ (j : ℕ) (l : j ≤ i) (s : ℤ) (es : s ≡ cell r₀ i +ℤ sum j (mixed p a f old t i)) (h : ℤ) (eh : h ≡ heldOr (rd32 (cell f j)) (rd32 (cell t j))) where
       own-at : at + j ≡ place i j
       own-at = ap (λ (k : ℕ). k + j) ea ∙ sym (place-low i j l)
 
@@ -60,7 +61,7 @@ module _ {p a f old t r₀ : List ℤ} {i n : ℕ} (q : InRow p a f old t r₀ i
           ∙ ap (λ (x : ℤ). cell r₀ i +ℤ x) (sym (sum-more j (mixed p a f old t i)))
 
     -- and for row j
-    module _ (j : ℕ) (l : j < i) (r : List ℤ) (er : r ≡ filled (λ k. cell r₀ k +ℤ mixed p a f old t k i) r₀ j) (h : ℤ) (eh : h ≡ heldOr (rd (cell f i)) (rd (cell t i))) where
+    module _ (j : ℕ) (l : j < i) (r : List ℤ) (er : r ≡ filled (λ k. cell r₀ k +ℤ mixed p a f old t k i) r₀ j) (h : ℤ) (eh : h ≡ heldOr (rd32 (cell f i)) (rd32 (cell t i))) where
       other-at : at + j ≡ place j i
       other-at = ap (λ (k : ℕ). k + j) ea ∙ sym (place-high j i (omega arith))
 

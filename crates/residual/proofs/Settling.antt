@@ -17,6 +17,7 @@ use Rattle.whole.proofs.Sums.{sumN-one, table-at, table-ext}
 use Rattle.whole.proofs.Packed.{place-low}
 use Rattle.whole.proofs.Calc.{rd, num}
 use Rattle.paper.specs.Step.{Board, isFixed, residual, residuals, rowBound, unsettled}
+use Rattle.lent.proofs.Narrow.{rd32, num32}
 use Rattle.lent.specs.Rows.{Light, Mild}
 use Rattle.lent.proofs.Told.{light-entry}
 use Rattle.residual.specs.Asks.{mixed, share, fixedOr, Weighed}
@@ -27,13 +28,13 @@ module _ {a f : List ℤ} {n i : ℕ} (q : Light a n) (s : Mild f n) (h : i < n)
   m-is : m ≡ natAbs r
   m-is = em ∙ ap natAbs (toZ-ofZ g)
 
-  test-is : {w : Bool} → leZ (pos 0) (rd (cell f i)) ≡ w → isFixed f i ≡ w
-  test-is e = ap (leZ (pos 0)) (sym (num (cell f i) (s .each i h) (lit< tt) .eq)) ∙ e
+  test-is : {w : Bool} → leZ (pos 0) (rd32 (cell f i)) ≡ w → isFixed f i ≡ w
+  test-is e = ap (leZ (pos 0)) (sym (num32 (cell f i) (s .each i h) (lit< tt) .eq)) ∙ e
 
-  pub fixed-settled : leZ (pos 0) (rd (cell f i)) ≡ true → leb m (2 ^ 20) ≡ leb (natAbs r) (rowBound a f n i)
+  pub fixed-settled : leZ (pos 0) (rd32 (cell f i)) ≡ true → leb m (2 ^ 20) ≡ leb (natAbs r) (rowBound a f n i)
   fixed-settled e = λ k. leb (m-is k) (fixed-bound a f n i h (test-is e) k)
 
-  module _ (e : leZ (pos 0) (rd (cell f i)) ≡ false) where
+  module _ (e : leZ (pos 0) (rd32 (cell f i)) ≡ false) where
     pub bound-settled : (z : ℕ) → z ≡ sumN n (λ j. share (cell f j) (entry a i j)) → leb m z ≡ leb (natAbs r) (rowBound a f n i)
     bound-settled z ez = λ k. leb (m-is k) ((ez ∙ free-bound a f n i (test-is e)) k)
 

@@ -14,6 +14,7 @@ use Rattle.whole.proofs.Signs.{natAbs-plus, natAbs-minus, natAbs-times}
 use Rattle.whole.proofs.Sums.{sum-size, sumN-plus, sumN-more, sumN-mono}
 use Rattle.whole.proofs.Calc.{Is, rd, num, is, plus, minus, times, again, size-of}
 use Rattle.lent.specs.Rows.{Light, Mild}
+use Rattle.lent.proofs.Narrow.{rd32, num32}
 use Rattle.lent.proofs.Told.{light-entry, light-part}
 use Rattle.residual.specs.Asks.{heldOr, mixed, share, Lines, Term}
 
@@ -55,7 +56,7 @@ module _ {p a f old t : List ℤ} {n : ℕ} (q : Lines p a f old t n) where
       )
 
   -- column j of row i, which is at `at`: h is what the column is taken times
-  module _ (i j at : ℕ) (e : at ≡ place i j) (here : i < n) (l : j < n) (h : ℤ) (eh : h ≡ heldOr (rd (cell f j)) (rd (cell t j))) where
+  module _ (i j at : ℕ) (e : at ≡ place i j) (here : i < n) (l : j < n) (h : ℤ) (eh : h ≡ heldOr (rd32 (cell f j)) (rd32 (cell t j))) where
     p-is : Is (rd (cell p at)) (entry p i j) (2 ^ 33)
     p-is = subst (λ (k : ℕ). Is (rd (cell p k)) (entry p i j) (2 ^ 33)) (sym e) (num (entry p i j) (light-entry (q .p-light) i j here l) (lit< tt))
 
@@ -67,8 +68,8 @@ module _ {p a f old t : List ℤ} {n : ℕ} (q : Lines p a f old t n) where
 
     h-is : Is (rd h) (heldOr (cell f j) (cell t j)) (2 ^ 25)
     h-is =
-        let x : rd (cell f j) ≡ cell f j = num (cell f j) (q .fixed-mild .each j l) (lit< tt) .eq in
-        let y : rd (cell t j) ≡ cell t j = num (cell t j) (q .t-mild .each j l) (lit< tt) .eq in
+        let x : rd32 (cell f j) ≡ cell f j = num32 (cell f j) (q .fixed-mild .each j l) (lit< tt) .eq in
+        let y : rd32 (cell t j) ≡ cell t j = num32 (cell t j) (q .t-mild .each j l) (lit< tt) .eq in
         again (is (eh ∙ (λ k. heldOr (x k) (y k))) (held-small (cell f j) (cell t j) (q .fixed-mild .each j l) (q .t-mild .each j l))) (lit< tt)
 
     module _ {s v : ℤ} (es : Is s v (2 ^ 60)) where
@@ -92,10 +93,10 @@ share-le f a = go (leZ (pos 0) f)
     go false = omega arith
 
 module _ {a f : List ℤ} {n : ℕ} (q : Light a n) (s : Mild f n) (i j at : ℕ) (e : at ≡ place i j) (here : i < n) (l : j < n) where
-  module _ (sum z : ℕ) (eb : sum ≡ sumN j (λ k. share (cell f k) (entry a i k))) (ez : z ≡ share (rd (cell f j)) (rd (cell a at))) where
+  module _ (sum z : ℕ) (eb : sum ≡ sumN j (λ k. share (cell f k) (entry a i k))) (ez : z ≡ share (rd32 (cell f j)) (rd (cell a at))) where
     pub bound-is : sum + z ≡ sumN (j + 1) (λ k. share (cell f k) (entry a i k))
     bound-is =
-        let x : rd (cell f j) ≡ cell f j = num (cell f j) (s .each j l) (lit< tt) .eq in
+        let x : rd32 (cell f j) ≡ cell f j = num32 (cell f j) (s .each j l) (lit< tt) .eq in
         let y : rd (cell a at) ≡ entry a i j = ap (λ (k : ℕ). rd (cell a k)) e ∙ num (entry a i j) (light-entry q i j here l) (lit< tt) .eq in
         (λ k. eb k + (ez ∙ (λ k. share (x k) (y k))) k) ∙ sym (sumN-more j (λ (k : ℕ). share (cell f k) (entry a i k)))
 

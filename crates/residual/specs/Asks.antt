@@ -10,6 +10,9 @@ use Rattle.whole.specs.Packed.{cell, entry}
 use Rattle.paper.specs.Step.{Board, residuals, unsettled}
 use Rattle.lent.specs.Rows.{Light, Mild}
 
+abbrev pub board : ℕ → List ℤ → List ℤ → List ℤ → List ℤ → List ℤ → Board
+board n p a loads fixed old = record { n = n; p = p; a = a; loads = loads; fixed = fixed; old = old }
+
 pub record Fair (b : Board) : Type 0 where
   pub p-light : Light (b .p) (b .n)
   pub a-light : Light (b .a) (b .n)

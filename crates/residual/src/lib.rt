@@ -8,17 +8,17 @@ ghost use lib.ListN.{length};
 ghost use Rattle.whole.specs.Sums.{sum, sumN, table, firstFrom};
 ghost use Rattle.whole.specs.Packed.{cell, entry};
 ghost use Rattle.whole.proofs.Sums.{filled};
-ghost use Rattle.paper.specs.Step.{board, rowBound};
+ghost use Rattle.paper.specs.Step.{rowBound};
 ghost use Rattle.lent.specs.Rows.{Light, Mild};
-ghost use Rattle.residual.specs.Asks.{Fair, heldOr, mixed, share, fixedOr, InRow, Term, Weighed};
+ghost use Rattle.residual.specs.Asks.{board, Fair, heldOr, mixed, share, fixedOr, InRow, Term, Weighed};
 
 // ---- each number of P and of A, in the rows of its two nodes
 
 // The T card's temperature, or the node's own where it is free.
-fn held(f: i64, t: i64) -> i64
+fn held(f: i32, t: i32) -> i64
     ensures { λ r. ⌜ r ≡ heldOr f t ⌝ }
 {
-    if 0 <= f { f } else { t }
+    if 0 <= f { f as i64 } else { t as i64 }
 }
 
 fn term(s: i64, p: i64, o: i64, a: i64, h: i64) -> i64
@@ -32,9 +32,9 @@ fn term(s: i64, p: i64, o: i64, a: i64, h: i64) -> i64
 fn row(
     p: &[i64],
     a: &[i64],
-    fixed: &[i64],
+    fixed: &[i32],
     old: &[i64],
-    t: &[i64],
+    t: &[i32],
     r: &mut [i64],
     i: usize,
     n: usize,
@@ -60,7 +60,7 @@ fn row(
 }
 
 // To the loads in r: P times the old temperatures, less A times the T cards' temperatures and the new ones.
-fn sums(p: &[i64], a: &[i64], fixed: &[i64], old: &[i64], t: &[i64], r: &mut [i64], n: usize)
+fn sums(p: &[i64], a: &[i64], fixed: &[i32], old: &[i64], t: &[i32], r: &mut [i64], n: usize)
     requires { ⌜ Fair (board n (now p) (now a) (now r) (now fixed) (now old)) × Mild (now t) n ⌝ }
     ensures { λ _. ⌜ now (r .exit) ≡ table n (λ i. cell (now (r .entry)) i +ℤ sum n (mixed (now (p .entry)) (now (a .entry)) (now (fixed .entry)) (now (old .entry)) (now (t .entry)) i)) ⌝ }
 {
@@ -75,18 +75,18 @@ fn sums(p: &[i64], a: &[i64], fixed: &[i64], old: &[i64], t: &[i64], r: &mut [i6
 // ---- fixed rows
 
 // 2^20 times what a fixed node is off its card, or what a free node's row came to.
-fn fixed_or(f: i64, t: i64, r: i64) -> i64
+fn fixed_or(f: i32, t: i32, r: i64) -> i64
     requires { ⌜ (natAbs f ≤ 2 ^ 25) × (natAbs t ≤ 2 ^ 25) ⌝ }
     ensures { λ s. ⌜ s ≡ fixedOr f t r ⌝ }
 {
     if 0 <= f {
-        1_048_576 * f - 1_048_576 * t
+        1_048_576 * f as i64 - 1_048_576 * t as i64
     } else {
         r
     }
 }
 
-fn fix(fixed: &[i64], t: &[i64], r: &mut [i64], n: usize)
+fn fix(fixed: &[i32], t: &[i32], r: &mut [i64], n: usize)
     requires { ⌜ (n ≤ 96) × Mild (now fixed) n × Mild (now t) n × (length (now r) ≡ n) ⌝ }
     ensures { λ _. ⌜ now (r .exit) ≡ table n (λ i. fixedOr (cell (now (fixed .entry)) i) (cell (now (t .entry)) i) (cell (now (r .entry)) i)) ⌝ }
 {
@@ -101,14 +101,14 @@ fn fix(fixed: &[i64], t: &[i64], r: &mut [i64], n: usize)
 // ---- settled rows
 
 // |A'| off a free node's diagonal: a fixed column is cleared.
-fn share(f: i64, a: i64) -> u64
+fn share(f: i32, a: i64) -> u64
     ensures { λ r. ⌜ r ≡ share f a ⌝ }
 {
     if 0 <= f { 0 } else { whole::size(a) }
 }
 
 // The sum of |A'| along a free node's row.
-fn bound(a: &[i64], fixed: &[i64], i: usize, n: usize) -> u64
+fn bound(a: &[i64], fixed: &[i32], i: usize, n: usize) -> u64
     requires { ⌜ Light (now a) n × Mild (now fixed) n × (i < n) ⌝ }
     ensures { λ r. ⌜ r ≡ sumN n (λ j. share (cell (now (fixed .entry)) j) (entry (now (a .entry)) i j)) ⌝ }
 {
@@ -124,7 +124,7 @@ fn bound(a: &[i64], fixed: &[i64], i: usize, n: usize) -> u64
 }
 
 // Whether a residual of row i is within the row's bound. The diagonal alone nearly always reaches it.
-fn settled(a: &[i64], fixed: &[i64], r: i64, i: usize, n: usize) -> bool
+fn settled(a: &[i64], fixed: &[i32], r: i64, i: usize, n: usize) -> bool
     requires { ⌜ Light (now a) n × Mild (now fixed) n × (i < n) ⌝ }
     ensures { λ s. ⌜ s ≡ leb (natAbs r) (rowBound (now (a .entry)) (now (fixed .entry)) n i) ⌝ }
 {
@@ -139,7 +139,7 @@ fn settled(a: &[i64], fixed: &[i64], r: i64, i: usize, n: usize) -> bool
 }
 
 // The lowest row that is not settled, from 1, or 0.
-fn unsettled(a: &[i64], fixed: &[i64], r: &[i64], n: usize) -> u32
+fn unsettled(a: &[i64], fixed: &[i32], r: &[i64], n: usize) -> u32
     requires { ⌜ Light (now a) n × Mild (now fixed) n × (length (now r) ≡ n) ⌝ }
     ensures { λ row. ⌜ row ≡ firstFrom n 0 (λ i. not (leb (natAbs (cell (now (r .entry)) i)) (rowBound (now (a .entry)) (now (fixed .entry)) n i))) ⌝ }
 {
@@ -159,9 +159,9 @@ fn unsettled(a: &[i64], fixed: &[i64], r: &[i64], n: usize) -> u32
 pub fn residuals(
     p: &[i64],
     a: &[i64],
-    fixed: &[i64],
+    fixed: &[i32],
     old: &[i64],
-    t: &[i64],
+    t: &[i32],
     r: &mut [i64],
     n: usize,
 ) -> u32

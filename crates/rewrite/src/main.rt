@@ -1,32 +1,40 @@
-// Reads a deck from standard input and writes it back, without its notes: the same bytes from D to Z. What it refuses it does not write.
-use libc::STDERR_FILENO;
+// Reads a deck from standard input and writes it back, without its notes: the same bytes from D to Z. A refusal prints `R number place` alone.
 use libc::STDIN_FILENO;
 use libc::STDOUT_FILENO;
 ghost use Prim.Native.Nat.{_*_, _≤_};
 ghost use lib.ListN.{length};
 
+// A refusal out of a packed answer.
+fn refused(answer: u64) {
+    io::write_all(STDOUT_FILENO, b"R ");
+    io::print_decimal(STDOUT_FILENO, answer % 256);
+    io::write_all(STDOUT_FILENO, b" ");
+    io::print_decimal(STDOUT_FILENO, answer / 65_536);
+    io::write_all(STDOUT_FILENO, b"\n");
+}
+
 // The table's deck as bytes.
 fn written(table: &[u32]) {
-    let mut bytes = [0u8; 65_536];
+    let mut bytes = [0u8; deck::BYTES];
     let k = table.len() / 6 * 42;
     let answer = deck::write(table, &mut bytes);
-    if k <= 65_536 {
+    if k <= deck::BYTES {
         io::write_all(STDOUT_FILENO, &bytes[0..k]);
     }
 }
 
 fn main() {
-    let mut bytes = [0u8; 65_537];
-    let mut table = [0u32; 4_092];
+    let mut bytes = [0u8; deck::BYTES + 1];
+    let mut table = [0u32; deck::NUMBERS];
     let mut answer: u64 = 0;
     let n = io::read_full(STDIN_FILENO, &mut bytes);
     let part = deck::read(&bytes[..n], &mut table, &mut answer);
     if answer != 0 {
-        io::write_all(STDERR_FILENO, b"rewrite: not a deck\n");
+        refused(answer);
         return;
     }
     let k = part.len() / 42 * 6;
-    if k <= 4_092 {
+    if k <= deck::NUMBERS {
         written(&table[0..k]);
     }
 }

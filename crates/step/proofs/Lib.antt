@@ -1,6 +1,3 @@
--- The laws of a step's stages.
-mod Boards
-mod Corrections
-mod Ends
+-- The laws of a step's refusals, and of its arrays.
+mod Arrays
 mod Refusing
-mod Running

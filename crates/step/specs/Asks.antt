@@ -1,76 +1,18 @@
--- What the stages of a step ask of each other, and what they leave.
+-- What a step asks past its first refusals.
 use mathlib.Core.Path.{_≡_}
 use mathlib.Core.List.{List}
 use Prim.Native.Nat.{ℕ}
 use lib.IntN.{ℤ}
 use lib.ListN.{length}
-use Rattle.whole.specs.Sums.{table}
-use Rattle.paper.specs.Refusals.{Outcome, refused, done}
 use Rattle.paper.specs.Cards.{nodes}
-use Rattle.paper.specs.Matrices.{held}
-use Rattle.paper.specs.Step.{Settling, settled}
-use Rattle.paper.specs.Calls.{StepExit, RunExit}
-use Rattle.paper.specs.declared.Ran.{Ran}
-use Rattle.paper.specs.declared.Stepped.{Stepped}
-use Rattle.paper.specs.declared.Stepped.the-variants.{Settled, Refused}
 use Rattle.paper.proofs.Decks.{Deck}
-use Rattle.lent.specs.Rows.{Rows, Light, Sound, Mild}
+use Rattle.lent.specs.Rows.{Light, Factored}
 
--- a deck's n nodes, and P, A, the factor and the temperatures for them, each of its length
-pub record Cut (t : List ℕ) (p a l old : List ℤ) (n : ℕ) : Type 0 where
-  pub deck : Deck t
-  pub count : n ≡ nodes t
-  pub p-rows : Rows p n
-  pub a-rows : Rows a n
-  pub l-rows : Rows l n
-  pub old-long : length old ≡ n
-
--- past refusal 10
+-- past refusals 9 and 10: a deck's n nodes, and P, A, the factor and the temperatures for them, each of its length
 pub record Own (t : List ℕ) (p a l old : List ℤ) (n : ℕ) : Type 0 where
   pub deck : Deck t
   pub count : n ≡ nodes t
   pub p-light : Light p n
   pub a-light : Light a n
-  pub sound : Sound l n
+  pub factored : Factored l n
   pub old-long : length old ≡ n
-
--- past refusal 11: what the residuals are of
-pub record Ready (t : List ℕ) (p a old : List ℤ) (n : ℕ) : Type 0 where
-  pub deck : Deck t
-  pub count : n ≡ nodes t
-  pub p-light : Light p n
-  pub a-light : Light a n
-  pub old-mild : Mild old n
-
--- with the T cards' temperatures looked up, the temperatures u so far, and room for residuals
-pub record Trying (t : List ℕ) (p a fixed old u r : List ℤ) (n : ℕ) : Type 0 where
-  pub ready : Ready t p a old n
-  pub fixed-is : fixed ≡ table (nodes t) (held t)
-  pub u-mild : Mild u n
-  pub r-long : length r ≡ n
-
--- an answer with the temperatures that are left where it is no refusal
-abbrev pub ended : Stepped → List ℤ → Outcome Settling
-ended (Settled c) t = settled c t
-ended (Refused r) t = refused r
-
--- the answer of an outcome, and the temperatures that it leaves in place of the old ones
-abbrev pub answerOf : Outcome Settling → Stepped
-answerOf (done s) = Settled (s .corrections)
-answerOf (refused r) = Refused r
-
-abbrev pub leftOf : List ℤ → Outcome Settling → List ℤ
-leftOf old (done s) = s .temperatures
-leftOf old (refused r) = old
-
-pub record Exits (e : Stepped) (new old : List ℤ) (o : Outcome Settling) : Type 0 where
-  pub answer-is : e ≡ answerOf o
-  pub left-is : new ≡ leftOf old o
-
-pub record Returns (e : Stepped) (new : List ℤ) (x : StepExit) : Type 0 where
-  pub answer-is : e ≡ x .answer
-  pub left-is : new ≡ x .temperatures
-
-pub record Leaves (e : Ran) (new : List ℤ) (x : RunExit) : Type 0 where
-  pub answer-is : e ≡ x .answer
-  pub left-is : new ≡ x .temperatures

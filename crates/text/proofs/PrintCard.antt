@@ -8,7 +8,8 @@ use borrow.Rule.Slice.PartMut.{putMid}
 use lib.ListN.{length, getD, take, set, drop-of-length-le}
 use lib.Seq.{set-split, take-suc-set}
 use Rattle.whole.proofs.Lists.{put-next}
-use Rattle.paper.specs.Cards.{used, kindOf, letterOf}
+use Rattle.paper.specs.Kinds.{kindOf, letterOf}
+use Rattle.paper.specs.Cards.{used}
 use Rattle.paper.specs.Text.{textField, textFrom, textOf}
 use Rattle.paper.proofs.Fields.{length-field}
 

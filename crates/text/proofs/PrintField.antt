@@ -8,7 +8,7 @@ use borrow.Author.Tests.{lt-ltb, le-ltb, ne-eqb}
 use lib.ListN.{length, take, drop, set, replicate, take-append-drop, drop-of-length-le}
 use lib.Seq.{take-take, take-set-le, take-suc-set}
 use Rattle.whole.proofs.Lists.{drop-set}
-use Rattle.paper.specs.Text.{column, columns, printed, textField}
+use Rattle.paper.specs.Text.{digit, spaced, printed, textField}
 
 -- ---- blanks
 
@@ -32,31 +32,31 @@ blanks-kept out j d e =
 
 -- ---- columns
 
-columns-blank : (j : ℕ) (s : List ℕ) → columns j 0 s ≡ replicate j 32 ++ s
-unfolding columns
-columns-blank zero s = refl
-columns-blank (suc j) s = columns-blank j (32 ∷ s) ∙ one-more j s
+spaced-blank : (j : ℕ) (s : List ℕ) → spaced j 0 s ≡ replicate j 32 ++ s
+unfolding spaced
+spaced-blank zero s = refl
+spaced-blank (suc j) s = spaced-blank j (32 ∷ s) ∙ one-more j s
 
 -- no digit is left
-pub columns-end : (out : List ℕ) (j : ℕ) → take j out ≡ replicate j 32 → out ≡ columns j 0 (drop j out)
-columns-end out j e = sym (take-append-drop j out) ∙ ap (λ (r : List ℕ). r ++ drop j out) e ∙ sym (columns-blank j (drop j out))
+pub spaced-end : (out : List ℕ) (j : ℕ) → take j out ≡ replicate j 32 → out ≡ spaced j 0 (drop j out)
+spaced-end out j e = sym (take-append-drop j out) ∙ ap (λ (r : List ℕ). r ++ drop j out) e ∙ sym (spaced-blank j (drop j out))
 
-pub columns-on : (out : List ℕ) (j v : ℕ) → 0 < j → j ≤ length out → (v ≡ 0 → ⊥)
-    → columns j v (drop j out) ≡ columns (j - 1) (v / 10) (drop (j - 1) (set out (j - 1) (48 + v % 10)))
-unfolding columns
-columns-on out j v h l z =
+pub spaced-on : (out : List ℕ) (j v : ℕ) → 0 < j → j ≤ length out → (v ≡ 0 → ⊥)
+    → spaced j v (drop j out) ≡ spaced (j - 1) (v / 10) (drop (j - 1) (set out (j - 1) (48 + v % 10)))
+unfolding spaced
+spaced-on out j v h l z =
     let m : j ≡ suc (j - 1) = omega arith in
     let g : j - 1 < length out = omega arith in
-    let e : 48 + v % 10 ≡ column v = simp (ne-eqb v 0 z) in
-    ap (λ (k : ℕ). columns k v (drop k out)) m
-    ∙ sym (ap (columns (j - 1) (v / 10)) (drop-set out (j - 1) (48 + v % 10) g ∙ ap (λ (x : ℕ). x ∷ drop (suc (j - 1)) out) e))
+    let e : 48 + v % 10 ≡ digit v = simp (ne-eqb v 0 z) in
+    ap (λ (k : ℕ). spaced k v (drop k out)) m
+    ∙ sym (ap (spaced (j - 1) (v / 10)) (drop-set out (j - 1) (48 + v % 10) g ∙ ap (λ (x : ℕ). x ∷ drop (suc (j - 1)) out) e))
 
-pub printed-is : (out : List ℕ) (n : ℕ) → length out ≡ 8 → columns 7 (n / 10) (drop 7 (set out 7 (48 + n % 10))) ≡ printed n
+pub printed-is : (out : List ℕ) (n : ℕ) → length out ≡ 8 → spaced 7 (n / 10) (drop 7 (set out 7 (48 + n % 10))) ≡ printed n
 unfolding printed
 printed-is out n h =
     let l : 7 < length out = omega arith in
     let f : length out ≤ 8 = omega arith in
-    ap (columns 7 (n / 10)) (drop-set out 7 (48 + n % 10) l ∙ ap (λ (s : List ℕ). (48 + n % 10) ∷ s) (drop-of-length-le out {i = 8} f))
+    ap (spaced 7 (n / 10)) (drop-set out 7 (48 + n % 10) l ∙ ap (λ (s : List ℕ). (48 + n % 10) ∷ s) (drop-of-length-le out {i = 8} f))
 
 -- ---- a field
 

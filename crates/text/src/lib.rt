@@ -4,7 +4,7 @@ ghost use mathlib.Core.Path.{_≡_};
 ghost use mathlib.Core.List.{List, [], _∷_, _++_};
 ghost use Prim.Native.Nat.{ℕ, _+_, _≤_, _<_};
 ghost use lib.ListN.{length, take, drop, replicate};
-ghost use Rattle.paper.specs.Text.{digits, number, blank, columns, printed, fieldOf, fieldsFrom, cardOf, textField, textFrom, textOf};
+ghost use Rattle.paper.specs.Text.{digits, number, blank, spaced, printed, fieldOf, fieldsFrom, cardOf, textField, textFrom, textOf};
 
 // ---- read
 
@@ -91,7 +91,7 @@ fn fields_of(u: usize, s: &[u8], row: &mut [u32])
     while k < 5 {
         let f = field_of(u, s, k);
         let Field::Number(v) = f else {
-            cards::row_to([0, 0, 0, 0, 0, 0], row);
+            kinds::row_to([0, 0, 0, 0, 0, 0], row);
             return;
         };
         row[k + 1] = v;
@@ -106,16 +106,16 @@ pub fn card_of(s: &[u8], row: &mut [u32])
     ensures { λ _. ⌜ now (row .exit) ≡ cardOf (now (s .entry)) ⌝ }
 {
     let letter = s[0] as u32;
-    let u = cards::used_of(cards::kind(letter));
+    let u = kinds::used_of(kinds::kind(letter));
     if u == 0 {
-        cards::row_to([0, 0, 0, 0, 0, 0], row);
+        kinds::row_to([0, 0, 0, 0, 0, 0], row);
         return;
     }
     if s[41] != 10 {
-        cards::row_to([0, 0, 0, 0, 0, 0], row);
+        kinds::row_to([0, 0, 0, 0, 0, 0], row);
         return;
     }
-    cards::row_to([letter, 0, 0, 0, 0, 0], row);
+    kinds::row_to([letter, 0, 0, 0, 0, 0], row);
     fields_of(u, s, row);
 }
 
@@ -134,7 +134,7 @@ fn blank_to(out: &mut [u8])
 // The digits of n before what stands from w on, over blanks.
 fn digits_to(w: usize, n: u32, out: &mut [u8])
     requires { ⌜ (w ≤ length (now out)) × (take w (now out) ≡ replicate w 32) ⌝ }
-    ensures { λ _. ⌜ now (out .exit) ≡ columns w n (drop w (now (out .entry))) ⌝ }
+    ensures { λ _. ⌜ now (out .exit) ≡ spaced w n (drop w (now (out .entry))) ⌝ }
 {
     let mut v = n;
     let mut j = w;
@@ -186,8 +186,8 @@ pub fn card_to(card: &[u32], out: &mut [u8])
     requires { ⌜ (length (now card) ≡ 6) × (length (now out) ≡ 42) ⌝ }
     ensures { λ r. ⌜ now (out .exit) ≡ textOf (now (card .entry)) ⌝ }
 {
-    let k = cards::kind(card[0]);
-    out[0] = cards::letter_of(k);
-    fields_to(cards::used_of(k), card, out);
+    let k = kinds::kind(card[0]);
+    out[0] = kinds::about(k).letter as u8;
+    fields_to(kinds::used_of(k), card, out);
     out[41] = 10;
 }

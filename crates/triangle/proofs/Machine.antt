@@ -16,7 +16,8 @@ use Rattle.whole.specs.Packed.{cell}
 use Rattle.whole.proofs.Sums.{table-at}
 use Rattle.whole.proofs.Signs.{natAbs-neg}
 use Rattle.whole.proofs.Calc.{Is, rd, cast, num, lit, of, is, res, plus, minus, times, again}
-use Rattle.paper.specs.Triangle.{Triangle, b, c}
+use Rattle.paper.specs.Corners.{Body}
+use Rattle.paper.specs.Triangle.{b, c}
 use Rattle.triangle.specs.Asks.{OnGrid, Sized}
 use Rattle.triangle.proofs.Sizes.{grid-apart, b-size, c-size}
 
@@ -55,7 +56,7 @@ work-size a t s h k l = mul-le-mul {n₂ = 5000 * 4000} {m₂ = 33538050} (mul-l
 
 -- ---- a pair's dividend, step by step
 
-pub record Flux (e : Triangle) (bs cs : List ℤ) (i j : ℕ) : Type 0 where
+pub record Flux (e : Body) (bs cs : List ℤ) (i j : ℕ) : Type 0 where
   pub bb : Is (rd (cell bs i) *ℤ rd (cell bs j)) (b (e .shape) i *ℤ b (e .shape) j) (4095 * 4095)
   pub kbb : Is (toZ w64 (e .kx) *ℤ rd (rd (cell bs i) *ℤ rd (cell bs j))) (pos (e .kx) *ℤ (b (e .shape) i *ℤ b (e .shape) j)) (500000 * (4095 * 4095))
   pub cc : Is (rd (cell cs i) *ℤ rd (cell cs j)) (c (e .shape) i *ℤ c (e .shape) j) (4095 * 4095)
@@ -63,7 +64,7 @@ pub record Flux (e : Triangle) (bs cs : List ℤ) (i j : ℕ) : Type 0 where
   pub both : Is (rd (toZ w64 (e .kx) *ℤ rd (rd (cell bs i) *ℤ rd (cell bs j))) +ℤ rd (toZ w64 (e .ky) *ℤ rd (rd (cell cs i) *ℤ rd (cell cs j)))) (pos (e .kx) *ℤ (b (e .shape) i *ℤ b (e .shape) j) +ℤ pos (e .ky) *ℤ (c (e .shape) i *ℤ c (e .shape) j)) sumSize
   pub all : Is (toZ w64 (e .thickness) *ℤ rd (rd (toZ w64 (e .kx) *ℤ rd (rd (cell bs i) *ℤ rd (cell bs j))) +ℤ rd (toZ w64 (e .ky) *ℤ rd (rd (cell cs i) *ℤ rd (cell cs j))))) (pos (e .thickness) *ℤ (pos (e .kx) *ℤ (b (e .shape) i *ℤ b (e .shape) j) +ℤ pos (e .ky) *ℤ (c (e .shape) i *ℤ c (e .shape) j))) (4000 * sumSize)
 
-pub flux : (e : Triangle) (bs cs : List ℤ) (i j : ℕ) → Sized e → bs ≡ table 3 (b (e .shape)) → cs ≡ table 3 (c (e .shape)) → i < 3 → j < 3 → Flux e bs cs i j
+pub flux : (e : Body) (bs cs : List ℤ) (i j : ℕ) → Sized e → bs ≡ table 3 (b (e .shape)) → cs ≡ table 3 (c (e .shape)) → i < 3 → j < 3 → Flux e bs cs i j
 flux e bs cs i j z p q h l =
     let s = e .shape in
     let b₁ = one-of bs (b s) i 4095 p h (b-size s i (z .placed) h) (lit< tt) in

@@ -1,15 +1,17 @@
 -- Refusals 5 and 6, test by test.
-use mathlib.Core.Path.{_≡_, ap, _∙_}
-use mathlib.Core.Bool.{true, false}
-use Prim.Native.Nat.{ℕ, _^_, _≤_, _<_}
+use mathlib.Core.Path.{_≡_, refl, ap, _∙_}
+use mathlib.Core.Bool.{Bool, true, false, not, _&&_, _||_}
+use Prim.Native.Nat.{ℕ, suc, _^_, _≤_, _<_}
 use native.Mathlib.Omega.{arith}
 use borrow.Author.Tests.{le-leb, lt-leb}
 use lib.Dec.{leb}
 use lib.IntN.{ℤ, natAbs}
+use lib.ListN.{length}
 use lib.Signed.{mag}
+use Rattle.whole.specs.Sums.{any}
 use Rattle.whole.proofs.Signs.{got}
 use Rattle.whole.proofs.Calc.{rd}
-use Rattle.paper.specs.Triangle.{Triangle, S, pair, u, fair, formJudged}
+use Rattle.paper.specs.Elements.{Element, soft, fair, formJudged}
 use Rattle.paper.specs.declared.Answer.the-variants.{Done, Refused}
 use Rattle.paper.specs.declared.Refusal.the-variants.{Flat, Stiff}
 
@@ -17,31 +19,42 @@ use Rattle.paper.specs.declared.Refusal.the-variants.{Flat, Stiff}
 pub size-of-call : {z v : ℤ} {n : ℕ} → n ≡ natAbs (rd z) → mag z < 2 ^ 63 → z ≡ v → n ≡ natAbs v
 size-of-call {z} e m q = e ∙ ap natAbs (got z m ∙ q)
 
-module _ (ms : ℕ) (e : Triangle) where
-  pub stiff-u : 4000000 < u ms e → false ≡ fair ms e
-  unfolding fair
-  stiff-u h = rw (lt-leb (u ms e) 4000000 h)
+module _ (it : Element) (corners : length (it .shape .corners) ≡ 3) where
+  -- u and the three pairs
+  abbrev gentle : ℕ → ℕ → Bool
+  gentle i j = soft (natAbs (it .between i j))
 
-  pub stiff-01 : u ms e ≤ 4000000 → 4000000 < natAbs (pair e 0 1) → false ≡ fair ms e
-  unfolding fair
-  stiff-01 h k = rw (le-leb (u ms e) 4000000 h, lt-leb (natAbs (pair e 0 1)) 4000000 k)
+  fair-is : fair it ≡ (soft (it .stored) && not (not (gentle 1 0) || (not (gentle 2 0) || not (gentle 2 1))))
+  unfolding fair any
+  fair-is = rw corners
 
-  pub stiff-02 : u ms e ≤ 4000000 → natAbs (pair e 0 1) ≤ 4000000 → 4000000 < natAbs (pair e 0 2) → false ≡ fair ms e
+  pub stiff-u : 4000000 < it .stored → false ≡ fair it
   unfolding fair
-  stiff-02 h k l = rw (le-leb (u ms e) 4000000 h, le-leb (natAbs (pair e 0 1)) 4000000 k, lt-leb (natAbs (pair e 0 2)) 4000000 l)
+  stiff-u h = rw (lt-leb (it .stored) 4000000 h)
 
-  pub last-12 : u ms e ≤ 4000000 → natAbs (pair e 0 1) ≤ 4000000 → natAbs (pair e 0 2) ≤ 4000000 → leb (natAbs (pair e 1 2)) 4000000 ≡ fair ms e
-  unfolding fair
-  last-12 h k l = rw (le-leb (u ms e) 4000000 h, le-leb (natAbs (pair e 0 1)) 4000000 k, le-leb (natAbs (pair e 0 2)) 4000000 l)
+  pub stiff-10 : it .stored ≤ 4000000 → 4000000 < natAbs (it .between 1 0) → false ≡ fair it
+  stiff-10 h k = rw (fair-is, le-leb (it .stored) 4000000 h, lt-leb (natAbs (it .between 1 0)) 4000000 k)
 
-  pub is-flat : (n : ℕ) → S (e .shape) ≡ 0 → Refused (Flat n) ≡ formJudged ms e n
+  pub stiff-20 : it .stored ≤ 4000000 → natAbs (it .between 1 0) ≤ 4000000 → 4000000 < natAbs (it .between 2 0) → false ≡ fair it
+  stiff-20 h k l = rw (fair-is, le-leb (it .stored) 4000000 h, le-leb (natAbs (it .between 1 0)) 4000000 k, lt-leb (natAbs (it .between 2 0)) 4000000 l)
+
+  pub last-21 : it .stored ≤ 4000000 → natAbs (it .between 1 0) ≤ 4000000 → natAbs (it .between 2 0) ≤ 4000000 → leb (natAbs (it .between 2 1)) 4000000 ≡ fair it
+  last-21 h k l =
+      rw (fair-is, le-leb (it .stored) 4000000 h, le-leb (natAbs (it .between 1 0)) 4000000 k, le-leb (natAbs (it .between 2 0)) 4000000 l) (twice (gentle 2 1))
+    where
+      twice : (b : Bool) → b ≡ not (not b)
+      twice true = refl
+      twice false = refl
+
+module _ (it : Element) (n : ℕ) where
+  pub is-flat : it .size ≡ 0 → Refused (Flat n) ≡ formJudged it n
   unfolding formJudged
-  is-flat n h = rw (lt-leb 1 (S (e .shape)) (omega arith))
+  is-flat h = rw (lt-leb 1 (it .size) (omega arith))
 
-  pub is-fair : (n : ℕ) → 1 ≤ S (e .shape) → fair ms e ≡ true → Done ≡ formJudged ms e n
+  pub is-fair : 1 ≤ it .size → fair it ≡ true → Done ≡ formJudged it n
   unfolding formJudged
-  is-fair n h q = rw (le-leb 1 (S (e .shape)) h, q)
+  is-fair h q = rw (le-leb 1 (it .size) h, q)
 
-  pub is-stiff : (n : ℕ) → 1 ≤ S (e .shape) → fair ms e ≡ false → Refused (Stiff n) ≡ formJudged ms e n
+  pub is-stiff : 1 ≤ it .size → fair it ≡ false → Refused (Stiff n) ≡ formJudged it n
   unfolding formJudged
-  is-stiff n h q = rw (le-leb 1 (S (e .shape)) h, q)
+  is-stiff h q = rw (le-leb 1 (it .size) h, q)

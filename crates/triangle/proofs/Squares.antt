@@ -1,18 +1,14 @@
 -- The three by three square of a function: its numbers and their sizes.
 use mathlib.Core.Path.{_≡_, refl, sym, ap, _∙_}
-use mathlib.Core.Bool.{cond, _&&_}
 use mathlib.Core.List.{List, [], _∷_}
 use Prim.Native.Nat.{ℕ, zero, suc, _+_, _≤_, _<_}
 use native.Mathlib.Decide.{decLt}
 use native.Mathlib.Omega.{arith}
-use lib.Dec.{eqb}
-use lib.ListN.{getD}
 use lib.IntN.{ℤ, pos, negℤ, natAbs, _+ℤ_}
 use Rattle.whole.specs.Sums.{sum, table}
 use Rattle.whole.proofs.Linear.{zarith, plusL}
-use Rattle.whole.proofs.Sums.{sum-ext}
-use Rattle.paper.specs.Matrices.{spread}
-use Rattle.paper.specs.Triangle.{Triangle, square, pair, conductance}
+use Rattle.paper.specs.Corners.{Body, square}
+use Rattle.paper.specs.Triangle.{pair}
 use Rattle.paper.proofs.Square.{pair-symmetric}
 use Rattle.triangle.specs.Forms.{at, squareOf}
 use Rattle.triangle.specs.Asks.{Small}
@@ -51,11 +47,6 @@ square-symmetric f same i j = go (decLt i 3) (decLt j 3)
     go (yes h) (no q) = square-past f i j (λ x y. q y) ∙ sym (square-past f j i (λ x y. q x))
     go (no q) l = square-past f i j (λ x y. q x) ∙ sym (square-past f j i (λ x y. q y))
 
-pub spread-square : (ns : List ℕ) (f : ℕ → ℕ → ℤ) (i j : ℕ) → spread 3 ns (at (squareOf f)) i j ≡ spread 3 ns f i j
-unfolding spread
-spread-square ns f i j =
-    sum-ext 3 _ _ (λ a h. sum-ext 3 _ _ (λ b l. ap (λ (z : ℤ). cond (eqb (getD ns a 0) (suc i) && eqb (getD ns b 0) (suc j)) z (pos 0)) (square-at f a b h l)))
-
 pub square-ext : (f g : ℕ → ℕ → ℤ) → ((i j : ℕ) → i < 3 → j < 3 → f i j ≡ g i j) → squareOf f ≡ squareOf g
 unfolding squareOf table
 square-ext f g h =
@@ -64,10 +55,10 @@ square-ext f g h =
     ∷ (h 2 0 (omega arith) (omega arith) d ∷ h 2 1 (omega arith) (omega arith) d ∷ h 2 2 (omega arith) (omega arith) d ∷ []) ∷ []
 
 -- three pairs make the conductance: each diagonal is minus the sum of its two neighbours
-pub conductance-square : (e : Triangle) → squareOf (conductance e)
+pub conductance-square : (e : Body) → squareOf (square 3 (pair e))
     ≡ (negℤ (pair e 0 1 +ℤ pair e 0 2) ∷ pair e 0 1 ∷ pair e 0 2 ∷ []) ∷ (pair e 0 1 ∷ negℤ (pair e 0 1 +ℤ pair e 1 2) ∷ pair e 1 2 ∷ [])
     ∷ (pair e 0 2 ∷ pair e 1 2 ∷ negℤ (pair e 0 2 +ℤ pair e 1 2) ∷ []) ∷ []
-unfolding squareOf table conductance square sum
+unfolding squareOf table square sum
 conductance-square e =
     λ d. (negℤ (first p q d) ∷ p ∷ q ∷ []) ∷ (pair-symmetric e 1 0 d ∷ negℤ (middle p r d) ∷ r ∷ [])
     ∷ (pair-symmetric e 2 0 d ∷ pair-symmetric e 2 1 d ∷ negℤ (last q r d) ∷ []) ∷ []

@@ -3,8 +3,9 @@ use mathlib.Core.Path.{_≡_}
 use mathlib.Core.List.{List}
 use Prim.Native.Nat.{ℕ, _≤_, _<_}
 use lib.IntN.{ℤ, natAbs}
-use lib.ListN.{getD}
-use Rattle.paper.specs.Triangle.{Shape, Triangle, S}
+use lib.ListN.{length, getD}
+use Rattle.paper.specs.Corners.{Shape, Body}
+use Rattle.paper.specs.Triangle.{S}
 use Rattle.triangle.specs.Forms.{at}
 
 -- three coordinates
@@ -12,10 +13,11 @@ abbrev pub OnGrid : List ℕ → Type 0
 OnGrid z = (a : ℕ) → a < 3 → getD z a 0 ≤ 4095
 
 pub record Placed (s : Shape) : Type 0 where
+  pub three : length (s .corners) ≡ 3
   pub x : OnGrid (s .xs)
   pub y : OnGrid (s .ys)
 
-pub record Sized (e : Triangle) : Type 0 where
+pub record Sized (e : Body) : Type 0 where
   pub placed : Placed (e .shape)
   pub kx : e .kx ≤ 500000
   pub ky : e .ky ≤ 500000
@@ -23,7 +25,7 @@ pub record Sized (e : Triangle) : Type 0 where
   pub thickness : e .thickness ≤ 4000
 
 -- and s is its S, which is not 0
-pub record Solid (e : Triangle) (s : ℕ) : Type 0 where
+pub record Solid (e : Body) (s : ℕ) : Type 0 where
   pub sized : Sized e
   pub is : s ≡ S (e .shape)
   pub some : 1 ≤ s

@@ -4,16 +4,25 @@ use Prim.Native.Nat.{ℕ}
 use lib.IntN.{ℤ, pos}
 use lib.ListN.{getD}
 use Rattle.whole.specs.Sums.{table}
-use Rattle.paper.specs.Triangle as paper
+use Rattle.paper.specs.Corners as paper
+use Rattle.paper.specs.Triangle.{S, pair, u}
+use Rattle.paper.specs.Elements.{Element}
 use Rattle.paper.specs.declared.Node.{Node}
 use Rattle.triangle.specs.declared.Shape.{Shape}
 use Rattle.triangle.specs.declared.Triangle.{Triangle}
 
-abbrev pub shapeOf : Shape → paper.Shape
-shapeOf s = record { corners = map (λ (n : Node). n .0) (s .corners); xs = s .x; ys = s .y }
+abbrev pub numbers : List Node → List ℕ
+numbers c = map (λ (n : Node). n .0) c
 
-abbrev pub triangleOf : Triangle → paper.Triangle
-triangleOf e = record { shape = shapeOf (e .shape); kx = e .kx; ky = e .ky; capacity = e .capacity; thickness = e .thickness }
+abbrev pub asShape : Shape → paper.Shape
+asShape s = record { corners = numbers (s .corners); xs = s .x; ys = s .y }
+
+abbrev pub asBody : Triangle → paper.Body
+asBody e = record { shape = asShape (e .shape); kx = e .kx; ky = e .ky; capacity = e .capacity; thickness = e .thickness }
+
+-- the element that a body makes, over a step of so many ms
+abbrev pub madeOf : ℕ → paper.Body → Element
+madeOf ms e = record { shape = e .shape; size = S (e .shape); between = pair e; stored = u ms e }
 
 -- the number in row i, column j of a square, and the square of a function
 abbrev pub at : List (List ℤ) → ℕ → ℕ → ℤ

@@ -1,9 +1,8 @@
-// One element: S, its squares, the loads of its corners, and refusals 5 and 6.
+// A triangle: S, conductance, capacity, film, squares over its corners, and refusals 5 and 6.
 use paper::Answer;
 use paper::Element;
 use paper::Node;
 use paper::Refusal;
-use paper::Ticks;
 ghost use mathlib.Core.Path.{_≡_};
 ghost use Prim.Native.Nat.{ℕ, _+_, _*_, _^_, _<_, _≤_};
 ghost use lib.IntN.{ℤ, pos, natAbs, _+ℤ_, _-ℤ_};
@@ -11,9 +10,10 @@ ghost use lib.ListN.{getD};
 ghost use Rattle.whole.specs.Nearest.{nearestN};
 ghost use Rattle.whole.specs.Sums.{table};
 ghost use Rattle.whole.specs.Packed.{cell};
-ghost use Rattle.paper.specs.Ticks.{top};
-ghost use Rattle.paper.specs.Triangle.{b, c, S, mass, pair, conductance, u, v, heatLoad, filmLoad, fair, formJudged};
-ghost use Rattle.triangle.specs.Forms.{shapeOf, triangleOf, at, squareOf};
+ghost use Rattle.paper.specs.Corners.{square, mass};
+ghost use Rattle.paper.specs.Triangle.{b, c, S, pair, u, faceFilm};
+ghost use Rattle.paper.specs.Elements.{fair, formJudged};
+ghost use Rattle.triangle.specs.Forms.{asShape, asBody, madeOf, at, squareOf};
 ghost use Rattle.triangle.specs.Asks.{OnGrid, Placed, Sized, Solid, Step, Small};
 
 // An element's place: its corners and their coordinates.
@@ -49,8 +49,8 @@ fn either_sense(area: i64) -> u64
 }
 
 pub fn twice_area(s: Shape) -> u64
-    requires { ⌜ Placed (shapeOf s) ⌝ }
-    ensures { λ r. ⌜ r ≡ S (shapeOf s) ⌝ }
+    requires { ⌜ Placed (asShape s) ⌝ }
+    ensures { λ r. ⌜ r ≡ S (asShape s) ⌝ }
 {
     let x = s.x;
     let y = s.y;
@@ -59,8 +59,8 @@ pub fn twice_area(s: Shape) -> u64
 
 // b1 = y2 - y3, and so round.
 fn b(s: Shape) -> [i64; 3]
-    requires { ⌜ Placed (shapeOf s) ⌝ }
-    ensures { λ r. ⌜ r ≡ table 3 (b (shapeOf s)) ⌝ }
+    requires { ⌜ Placed (asShape s) ⌝ }
+    ensures { λ r. ⌜ r ≡ table 3 (b (asShape s)) ⌝ }
 {
     let y = s.y;
     [apart(y, 1, 2), apart(y, 2, 0), apart(y, 0, 1)]
@@ -68,8 +68,8 @@ fn b(s: Shape) -> [i64; 3]
 
 // c1 = x3 - x2, and so round.
 fn c(s: Shape) -> [i64; 3]
-    requires { ⌜ Placed (shapeOf s) ⌝ }
-    ensures { λ r. ⌜ r ≡ table 3 (c (shapeOf s)) ⌝ }
+    requires { ⌜ Placed (asShape s) ⌝ }
+    ensures { λ r. ⌜ r ≡ table 3 (c (asShape s)) ⌝ }
 {
     let x = s.x;
     [apart(x, 2, 1), apart(x, 0, 2), apart(x, 1, 0)]
@@ -79,8 +79,8 @@ fn c(s: Shape) -> [i64; 3]
 
 // Of corners i and j, where s is S.
 fn pair(e: Triangle, s: u64, i: usize, j: usize) -> i64
-    requires { ⌜ Solid (triangleOf e) s × (i < 3) × (j < 3) ⌝ }
-    ensures { λ r. ⌜ r ≡ pair (triangleOf e) i j ⌝ }
+    requires { ⌜ Solid (asBody e) s × (i < 3) × (j < 3) ⌝ }
+    ensures { λ r. ⌜ r ≡ pair (asBody e) i j ⌝ }
 {
     let shape = e.shape;
     let b = b(shape);
@@ -95,9 +95,9 @@ fn pair(e: Triangle, s: u64, i: usize, j: usize) -> i64
 }
 
 // A diagonal is minus the sum of its two rounded neighbours.
-fn conductance(e: Triangle, s: u64) -> [[i64; 3]; 3]
-    requires { ⌜ Solid (triangleOf e) s ⌝ }
-    ensures { λ r. ⌜ r ≡ squareOf (conductance (triangleOf e)) ⌝ }
+pub fn conductance(e: Triangle, s: u64) -> [[i64; 3]; 3]
+    requires { ⌜ Solid (asBody e) s ⌝ }
+    ensures { λ r. ⌜ r ≡ squareOf (square 3 (pair (asBody e))) ⌝ }
 {
     let p = pair(e, s, 0, 1);
     let q = pair(e, s, 0, 2);
@@ -119,24 +119,24 @@ fn nearest(a: u64, q: u64) -> u64
 }
 
 // u over a step of so many ms, where s is S.
-fn capacity(e: Triangle, s: u64, ms: u32) -> u64
-    requires { ⌜ Sized (triangleOf e) × (s ≡ S (shapeOf (e .shape))) × Step ms ⌝ }
-    ensures { λ r. ⌜ r ≡ u ms (triangleOf e) ⌝ }
+pub fn capacity(e: Triangle, s: u64, ms: u32) -> u64
+    requires { ⌜ Sized (asBody e) × (s ≡ S (asShape (e .shape))) × Step ms ⌝ }
+    ensures { λ r. ⌜ r ≡ u ms (asBody e) ⌝ }
 {
     let n = e.capacity as u64 * e.thickness as u64 * s;
     nearest(n, 9_600 * ms as u64)
 }
 
-// v
-fn film(film: u32, s: Shape) -> u64
-    requires { ⌜ Placed (shapeOf s) × (film ≤ 100000) ⌝ }
-    ensures { λ r. ⌜ r ≡ v film (shapeOf s) ⌝ }
+// Over its face.
+pub fn film(film: u32, s: Shape) -> u64
+    requires { ⌜ Placed (asShape s) × (film ≤ 100000) ⌝ }
+    ensures { λ r. ⌜ r ≡ faceFilm film (asShape s) ⌝ }
 {
     nearest(film as u64 * twice_area(s), 9_600_000)
 }
 
 // 2w on the diagonal, w off it.
-fn mass(w: u64) -> [[i64; 3]; 3]
+pub fn mass(w: u64) -> [[i64; 3]; 3]
     requires { ⌜ w ≤ 2 ^ 37 ⌝ }
     ensures { λ r. ⌜ r ≡ squareOf (mass w) ⌝ }
 {
@@ -184,71 +184,29 @@ pub fn minus(p: [[i64; 3]; 3], q: [[i64; 3]; 3]) -> [[i64; 3]; 3]
     ]
 }
 
-// ---- what a card adds
-
-// E adds conductance and capacity to A.
-pub fn element_square(e: Triangle, ms: u32) -> [[i64; 3]; 3]
-    requires { ⌜ Sized (triangleOf e) × (1 ≤ S (shapeOf (e .shape))) × Step ms ⌝ }
-    ensures { λ r. ⌜ r ≡ squareOf (λ i j. conductance (triangleOf e) i j +ℤ mass (u ms (triangleOf e)) i j) ⌝ }
-{
-    let s = twice_area(e.shape);
-    plus(conductance(e, s), mass(capacity(e, s, ms)))
-}
-
-// And capacity to P.
-pub fn capacity_square(e: Triangle, ms: u32) -> [[i64; 3]; 3]
-    requires { ⌜ Sized (triangleOf e) × Step ms ⌝ }
-    ensures { λ r. ⌜ r ≡ squareOf (mass (u ms (triangleOf e))) ⌝ }
-{
-    mass(capacity(e, twice_area(e.shape), ms))
-}
-
-// F adds film to A.
-pub fn film_square(mw: u32, s: Shape) -> [[i64; 3]; 3]
-    requires { ⌜ Placed (shapeOf s) × (mw ≤ 100000) ⌝ }
-    ensures { λ r. ⌜ r ≡ squareOf (mass (v mw (shapeOf s))) ⌝ }
-{
-    mass(film(mw, s))
-}
-
-// Loads of a corner: H, in µW, and F.
-pub fn heat_load(heat: u32) -> u64
-    requires { ⌜ heat ≤ 5000000 ⌝ }
-    ensures { λ r. ⌜ r ≡ heatLoad heat ⌝ }
-{
-    Ticks::KELVIN as u64 * heat as u64 / 3
-}
-
-pub fn film_load(mw: u32, ambient: u32, s: Shape) -> u64
-    requires { ⌜ Placed (shapeOf s) × (mw ≤ 100000) × (ambient ≤ top) ⌝ }
-    ensures { λ r. ⌜ r ≡ filmLoad mw ambient (shapeOf s) ⌝ }
-{
-    4 * film(mw, s) * ambient as u64
-}
-
 // ---- refusals 5 and 6
 
 const SOFT: u64 = 4_000_000;
 
 fn fair(e: Triangle, s: u64, ms: u32) -> bool
-    requires { ⌜ Solid (triangleOf e) s × Step ms ⌝ }
-    ensures { λ r. ⌜ r ≡ fair ms (triangleOf e) ⌝ }
+    requires { ⌜ Solid (asBody e) s × Step ms ⌝ }
+    ensures { λ r. ⌜ r ≡ fair (madeOf ms (asBody e)) ⌝ }
 {
     if SOFT < capacity(e, s, ms) {
         return false;
     }
-    if SOFT < whole::size(pair(e, s, 0, 1)) {
+    if SOFT < whole::size(pair(e, s, 1, 0)) {
         return false;
     }
-    if SOFT < whole::size(pair(e, s, 0, 2)) {
+    if SOFT < whole::size(pair(e, s, 2, 0)) {
         return false;
     }
-    whole::size(pair(e, s, 1, 2)) <= SOFT
+    whole::size(pair(e, s, 2, 1)) <= SOFT
 }
 
 pub fn judge(e: Triangle, ms: u32, number: Element) -> Answer
-    requires { ⌜ Sized (triangleOf e) × Step ms ⌝ }
-    ensures { λ r. ⌜ r ≡ formJudged ms (triangleOf e) (number .0) ⌝ }
+    requires { ⌜ Sized (asBody e) × Step ms ⌝ }
+    ensures { λ r. ⌜ r ≡ formJudged (madeOf ms (asBody e)) (number .0) ⌝ }
 {
     let s = twice_area(e.shape);
     if s == 0 {

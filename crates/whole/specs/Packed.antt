@@ -11,6 +11,10 @@ unfoldable pub tri : ℕ → ℕ
 tri zero = 0
 tri (suc i) = tri i + suc i
 
+-- the matrix length: the numbers of n rows
+abbrev pub matrix : ℕ → ℕ
+matrix n = tri n
+
 -- the number at k, 0 past the end
 abbrev pub cell : List ℤ → ℕ → ℤ
 cell xs k = getD xs k (pos 0)

@@ -6,7 +6,7 @@ ghost use Prim.Native.Nat.{ℕ, _+_, _*_, _^_, _<_, _≤_};
 ghost use lib.IntN.{ℤ, pos, natAbs, _+ℤ_, _-ℤ_, _*ℤ_};
 ghost use lib.Signed.{_<ℤ_};
 ghost use Rattle.whole.specs.Nearest.{signed, nearest};
-ghost use Rattle.whole.specs.Packed.{tri, place};
+ghost use Rattle.whole.specs.Packed.{tri, matrix, place};
 
 // The size of x: of the least i64 too.
 pub fn size(x: i64) -> u64
@@ -100,6 +100,14 @@ pub fn start(i: usize) -> usize
     ensures { λ r. ⌜ r ≡ tri i ⌝ }
 {
     i * (i + 1) / 2
+}
+
+// The matrix length: the numbers of n rows.
+pub fn matrix(n: usize) -> usize
+    requires { ⌜ n ≤ 96 ⌝ }
+    ensures { λ r. ⌜ r ≡ matrix n ⌝ }
+{
+    start(n)
 }
 
 // The place of row i, column j + 1, from that of column j: a full row, both sides of the diagonal, with no multiplication.

@@ -92,6 +92,15 @@ impl Groups {
         }
     }
 
+    /// The base with a card of every kind: D, three N, M, E, H, F, T, Z.
+    pub fn one_of_each() -> Groups {
+        let mut groups = Groups::base();
+        groups.heats.push([1, 3]);
+        groups.films.push([1, 480, 19_660_800]);
+        groups.fixed.push([3, 19_000_000]);
+        groups
+    }
+
     pub fn table(&self) -> Vec<u32> {
         let mut table = card(D, &self.d).to_vec();
         self.nodes

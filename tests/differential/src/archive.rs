@@ -1,6 +1,6 @@
 //! Calls of the archive. The only unsafe code here.
 
-use crate::case::{Call, Lent};
+use crate::case::{Call, Case, Lent, Outcome};
 use crate::face::*;
 
 /// A slice with marks before and after it, to see a number written outside of what was lent.
@@ -40,6 +40,18 @@ impl<A: Copy + PartialEq> Fenced<A> {
             std::process::exit(1);
         }
         slice.copy_from_slice(now);
+    }
+}
+
+impl Case {
+    pub fn by_archive(&self) -> Outcome {
+        let mut lent = self.lent.clone();
+        let answer = call(self.call, &mut lent);
+        Outcome { answer, lent }
+    }
+
+    pub fn differs(&self) -> bool {
+        self.by_reference() != self.by_archive()
     }
 }
 

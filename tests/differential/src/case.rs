@@ -1,6 +1,5 @@
-//! One call with all that is lent to it, and what the two programs make of it.
+//! One call with all that is lent to it, and what reference/ makes of it. `tests/kernel` takes this file too.
 
-use crate::archive;
 use reference::Card;
 
 #[derive(Clone, Copy, Debug, PartialEq)]
@@ -73,15 +72,5 @@ impl Case {
             Call::Step => reference::step(table, p, a, factor, temperatures).packed(),
         };
         Outcome { answer, lent }
-    }
-
-    pub fn by_archive(&self) -> Outcome {
-        let mut lent = self.lent.clone();
-        let answer = archive::call(self.call, &mut lent);
-        Outcome { answer, lent }
-    }
-
-    pub fn differs(&self) -> bool {
-        self.by_reference() != self.by_archive()
     }
 }

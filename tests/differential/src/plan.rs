@@ -1,14 +1,15 @@
-//! What is tried: each function is one kind of case.
+//! What is tried: each function is one kind of case. `tests/kernel` takes this file too, for LENT.
 
 use crate::case::{Call, Lent};
 use crate::decks::{bytes_of, nodes_of, triangle, Chance, Groups, D, E, F, H, M, N, T, TOP, Z};
+use crate::limits;
 use crate::trial::Trial;
 use reference::Card;
 
 pub type Part = (&'static str, fn(&mut Trial));
 
-/// Damages come last, so that a fault in the plain work is met as such.
-pub const PARTS: [Part; 12] = [
+/// Decks, own buffers and foreign ones.
+pub const LENT: [Part; 11] = [
     ("decks read and written back", valid_decks),
     ("builds over slices short, exact and long", builds),
     ("the paper's checked decks", checked_decks),
@@ -16,6 +17,17 @@ pub const PARTS: [Part; 12] = [
     ("replacements over foreign buffers", foreign_replacements),
     ("steps on the deck's own buffers", own_steps),
     ("steps on foreign buffers", foreign_steps),
+    ("each buffer one too short", limits::short_buffers),
+    ("pivots too large to settle by", limits::unsettled),
+    ("held nodes a tick or two off", limits::off_the_card),
+    (
+        "each limit of lent numbers, and one past it",
+        limits::lent_numbers,
+    ),
+];
+
+/// Damages come last, so that a fault in the plain work is met as such.
+pub const DAMAGED: [Part; 5] = [
     ("every single byte of a small deck damaged", each_byte),
     ("decks damaged at random", damaged_bytes),
     ("decks cut at every byte", cuts),
@@ -367,7 +379,11 @@ fn replacements(trial: &mut Trial) {
             if trial.chance.one_in(8) {
                 trial.call(&mut lent, Call::Step);
             }
+            if trial.chance.one_in(10) {
+                trial.as_built(&lent);
+            }
         }
+        trial.as_built(&lent);
     }
 }
 

@@ -1,7 +1,7 @@
 //! Runs cases on both programs, counts them, and stops at the first that disagrees.
 
-use crate::case::{Call, Case, Lent};
-use crate::decks::Chance;
+use crate::case::{Call, Case, Lent, MATRICES};
+use crate::decks::{nodes_of, triangle, Chance};
 use crate::show;
 use crate::shrink::shrink;
 use std::process::exit;
@@ -14,6 +14,8 @@ pub struct Trial {
     pub chance: Chance,
     /// Cases by call and by number: 0 is acceptance.
     met: [[u64; 14]; 5],
+    /// Decks after replacements that were compared with a fresh build.
+    fresh: u64,
     began: Instant,
     most: Duration,
 }
@@ -23,6 +25,7 @@ impl Trial {
         Trial {
             chance: Chance::seeded(seed),
             met: [[0; 14]; 5],
+            fresh: 0,
             began: Instant::now(),
             most,
         }
@@ -53,6 +56,33 @@ impl Trial {
         self.met[call.index()][(ours.answer & 255) as usize] += 1;
         *lent = ours.lent;
         ours.answer
+    }
+
+    /// Where the deck builds, P, A and the factor are what the archive makes of it afresh, or the program ends here.
+    pub fn as_built(&mut self, lent: &Lent) {
+        let mut anew = lent.clone();
+        anew.matrices[..3]
+            .iter_mut()
+            .for_each(|matrix| matrix.fill(0));
+        if self.call(&mut anew, Call::Build) != 0 {
+            return;
+        }
+        let n = nodes_of(&lent.table);
+        let apart = |which: usize| {
+            lent.matrices[which][..triangle(n)] != anew.matrices[which][..triangle(n)]
+        };
+        if let Some(which) = (0..3).find(|&which| apart(which)) {
+            println!(
+                "after replacements {} is not a fresh build's, of the table {:?}",
+                MATRICES[which], lent.table
+            );
+            exit(1);
+        }
+        self.fresh += 1;
+    }
+
+    pub fn fresh(&self) -> u64 {
+        self.fresh
     }
 
     pub fn seconds(&self) -> f64 {

@@ -2,19 +2,30 @@
 //!
 //!     kernel SEED DIR
 //!
-//! Writes DIR/plan/commands, DIR/plan/ with the decks that they name, and DIR/expected. With the same seed, always the same.
+//! Writes DIR/plan/commands, DIR/plan/ with the decks and cases that they name, and DIR/expected. With the same seed, always the
+//! same.
 
+#[path = "../../differential/src/case.rs"]
+#[allow(dead_code)]
+mod case;
+#[path = "../../differential/src/plan.rs"]
+#[allow(dead_code)]
+mod cases;
 #[path = "../../../reference/tests/common/mod.rs"]
 mod decks;
+#[path = "../../differential/src/limits.rs"]
+mod limits;
 
 mod model;
 mod plan;
 mod record;
+mod trial;
 mod words;
 
 use record::Record;
 use std::path::Path;
 use std::process::ExitCode;
+use trial::Trial;
 
 fn main() -> ExitCode {
     let words: Vec<String> = std::env::args().skip(1).collect();
@@ -28,7 +39,9 @@ fn main() -> ExitCode {
     };
     let mut record = Record::new(seed);
     plan::all(&mut record);
-    match record.write(Path::new(folder)) {
+    let mut trial = Trial::new(seed);
+    plan::lent(&mut trial);
+    match record.write(trial, Path::new(folder)) {
         Ok(told) => println!("seed {seed}: {told}"),
         Err(error) => {
             eprintln!("kernel: {error}");

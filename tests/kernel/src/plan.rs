@@ -1,7 +1,9 @@
 //! What is tried, part by part.
 
+use crate::cases;
 use crate::decks::{bytes_of, Chance, Groups, D, E, F, H, M, N, T, TOP, Z};
 use crate::record::Record;
+use crate::trial::Trial;
 use reference::{Card, MAX_BYTES};
 
 pub fn all(record: &mut Record) {
@@ -20,6 +22,7 @@ pub fn all(record: &mut Record) {
     lengths(record);
     nonsense(record);
     enough(record);
+    record.traced = small();
 }
 
 fn before_any_deck(record: &mut Record) {
@@ -228,17 +231,8 @@ fn text_of(table: &[u32]) -> Vec<u8> {
     text.into_bytes()
 }
 
-/// The base with a card of every kind: D, three N, M, E, H, F, T, Z.
-fn one_of_each() -> Vec<u32> {
-    let mut groups = Groups::base();
-    groups.heats.push([1, 3]);
-    groups.films.push([1, 480, 19_660_800]);
-    groups.fixed.push([3, 19_000_000]);
-    groups.table()
-}
-
 fn small() -> Vec<u8> {
-    bytes_of(&one_of_each())
+    bytes_of(&Groups::one_of_each().table())
 }
 
 /// Card, field, and the field's range in `one_of_each`.
@@ -266,7 +260,7 @@ const RANGES: [(usize, usize, u32, u32); 17] = [
 fn edges(record: &mut Record) {
     for (card, field, least, most) in RANGES {
         for value in [least.saturating_sub(1), least, most, most + 1] {
-            let mut table = one_of_each();
+            let mut table = Groups::one_of_each().table();
             table[6 * card + field] = value;
             record.deck(&text_of(&table));
         }
@@ -400,4 +394,16 @@ fn enough(record: &Record) {
         .iter()
         .all(|&number| replacements[number] > 0));
     assert!([1, 8, 11].iter().all(|&number| steps[number] > 0));
+}
+
+/// The differential test's cases of own and foreign buffers.
+pub fn lent(trial: &mut Trial) {
+    for (_, part) in cases::LENT {
+        part(trial);
+    }
+    let met = trial.met;
+    assert!(met.iter().all(|met| met[0] >= 5 && met[9] > 0));
+    let [.., replace, step] = met;
+    assert!([7, 8, 10, 13].iter().all(|&number| replace[number] > 0));
+    assert!([8, 10, 11, 12].iter().all(|&number| step[number] > 0));
 }

@@ -2,6 +2,7 @@
 
 use crate::decks::Chance;
 use crate::model::Model;
+use crate::trial::Trial;
 use crate::words;
 use reference::{Answer, Card, Stepped};
 use std::path::Path;
@@ -14,6 +15,8 @@ pub struct Record {
     answer: String,
     commands: Vec<String>,
     decks: Vec<Vec<u8>>,
+    /// The deck that stack traces are taken with.
+    pub traced: Vec<u8>,
     shown: Vec<String>,
     /// Accepted calls, and refused ones by number: decks, replacements, writes of steps.
     pub met: [[u32; 14]; 3],
@@ -31,6 +34,7 @@ impl Record {
             answer: "no answer".to_string(),
             commands: vec![],
             decks: vec![],
+            traced: vec![],
             shown: vec![],
             met: [[0; 14]; 3],
         }
@@ -95,13 +99,17 @@ impl Record {
     }
 
     /// Writes it all, and says how much it is.
-    pub fn write(mut self, folder: &Path) -> io::Result<String> {
+    pub fn write(mut self, trial: Trial, folder: &Path) -> io::Result<String> {
         let plan = folder.join("plan");
         fs::create_dir_all(&plan)?;
         for (number, bytes) in self.decks.iter().enumerate() {
             fs::write(plan.join(number.to_string()), bytes)?;
         }
+        fs::write(plan.join("traced"), &self.traced)?;
         fs::write(plan.join("commands"), self.commands.join("\n") + "\n")?;
+        let files = trial.write(&plan)?;
+        self.shown
+            .extend((1..=files).map(|number| format!("lent {number}: as it should be")));
         self.shown.extend(["taint 0", "end"].map(str::to_string));
         fs::write(folder.join("expected"), self.shown.join("\n") + "\n")?;
         let [decks, replacements, steps] = self.met.map(|met| {
@@ -109,8 +117,9 @@ impl Record {
             format!("{} accepted and {refused} refused", met[0])
         });
         Ok(format!(
-            "{} commands; decks {decks}, replacements {replacements}, steps {steps}",
-            self.commands.len()
+            "{} commands; decks {decks}, replacements {replacements}, steps {steps}; {} cases of lent buffers",
+            self.commands.len(),
+            trial.cases()
         ))
     }
 }

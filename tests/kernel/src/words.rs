@@ -2,29 +2,20 @@
 
 use reference::{Answer, Refusal, Stepped};
 
-/// Each refusal's name, and what its place counts.
-const REFUSALS: [(&str, Option<&str>); 13] = [
-    ("length", None),
-    ("trailer", None),
-    ("form", Some("card")),
-    ("range", Some("card")),
-    ("flat", Some("element")),
-    ("stiff", Some("element")),
-    ("pivot", Some("row")),
-    ("bound", Some("row")),
-    ("short", None),
-    ("foreign", None),
-    ("off scale", Some("node")),
-    ("unsettled", Some("row")),
-    ("replacement", Some("card")),
-];
+/// Where the refusals' words stand.
+const HEADER: &str = include_str!("../../../include/gormulast.h");
 
+/// The words of a refusal, with its place where they have one.
 fn refused(Refusal { number, place }: Refusal) -> String {
-    let (name, counted) = REFUSALS[usize::from(number) - 1];
-    match counted {
-        Some(counted) => format!("refused {number} ({name}) at {counted} {place}"),
-        None => format!("refused {number} ({name})"),
-    }
+    let row = HEADER
+        .lines()
+        .find(|line| line.contains(&format!(", {number}, \"")))
+        .expect("each refusal has a row in the header");
+    let words = row.split('"').nth(1).expect("a row has words");
+    format!(
+        "refused {number}: {}",
+        words.replace("%u", &place.to_string())
+    )
 }
 
 pub fn answered(answer: Answer) -> String {

@@ -1,44 +1,51 @@
 use borrow.Author.Needs.{needs}
 use Rattle.cards.proofs.is_trailer.Statement.{statement}
 use Rattle.cards.proofs.is_trailer.Tie as tie
-use mathlib.Core.Path.{ap, _∙_}
-use borrow.Author.Tests.{eq-eqb, ne-eqb}
-use Rattle.paper.specs.Cards.{fields, inRange}
-use Rattle.paper.specs.Judge.{trailer}
+use mathlib.Core.Path.{_≡_, sym, ap, _∙_}
+use lib.ListN.{getD}
+use Rattle.paper.specs.Kinds.{letterOf}
+use Rattle.paper.specs.Cards.{columnsOf, inRange}
+use Rattle.paper.specs.declared.About.{About}
 use Rattle.paper.specs.declared.Counts.{Counts}
 use Rattle.paper.specs.declared.Kind.the-variants.{Z}
-use Rattle.cards.proofs.Ranges.{bounds-are}
+use Rattle.kinds.proofs.Ranges.{card-range}
+use Rattle.cards.proofs.OneCard.{no-trailer, its-kind, a-trailer}
 
 shared-slice-read-if1 : tie.Need-shared-slice-read-if1
 shared-slice-read-if1 c = search needs
 
+about-requires : tie.Need-about-requires
+about-requires c κs = search needs
+
+returns : tie.Need-returns
+returns c = no-trailer (c .before .before .before .before .before .args .card .now) (λ e. c .if1 .taken (e ∙ sym (ap (λ (a : About). a .letter) (c .before .before .about .ensures))))
+
 counts-of-requires : tie.Need-counts-of-requires
 counts-of-requires c κs = search needs
 
-bounds-of-requires : tie.Need-bounds-of-requires
-bounds-of-requires c κs = search needs
+columns-of-requires : tie.Need-columns-of-requires
+columns-of-requires c κs = search needs
 
 in-range-requires : tie.Need-in-range-requires
 in-range-requires c κs = search needs
 
-returns : tie.Need-returns
-unfolding trailer
-returns c =
-    let card = c .before .before .before .before .before .before .args .card .now in
-    let r = c .in-range .ensures ∙ bounds-are card (c .before .bounds-of .ensures) ∙ ap (λ (z : Counts). inRange (fields z Z) card 5 0) (c .before .before .counts-of .ensures) in
-    r ∙ simp (eq-eqb _ _ (c .before .before .before .if1 .taken))
-
 returns-2 : tie.Need-returns-2
-unfolding trailer
-returns-2 c = simp (ne-eqb _ _ (c .if1 .left))
+returns-2 c =
+    let card = c .before .before .before .before .before .before .before .before .args .card .now in
+    let e : getD card 0 0 ≡ letterOf Z = c .before .before .before .if1 .left ∙ ap (λ (a : About). a .letter) (c .before .before .before .before .before .about .ensures) in
+    c .in-range .ensures
+    ∙ card-range (c .before .before .counts-of .result) card (its-kind card e) (c .before .columns-of .ensures)
+    ∙ ap (λ (z : Counts). inRange (columnsOf z card) card 5 0) (c .before .before .counts-of .ensures)
+    ∙ a-trailer card e
 
 pub is-trailer-spec : {M : Type 1} → statement M
 is-trailer-spec =
     tie.close
     (tie.spec
     shared-slice-read-if1
-    counts-of-requires
-    bounds-of-requires
-    in-range-requires
+    about-requires
     returns
+    counts-of-requires
+    columns-of-requires
+    in-range-requires
     returns-2)

@@ -5,16 +5,18 @@ use mathlib.Core.Path.{_≡_, sym, ap, _∙_}
 use Prim.Native.Nat.{_-_, _≤_}
 use native.Mathlib.Omega.{arith}
 use native.Mathlib.Nat.{sub-zero}
-use Rattle.paper.specs.Cards.{order, kindAt, rowAt}
-use Rattle.paper.specs.Judge.{judgeFrom, judgeCard}
-use Rattle.cards.proofs.Rows.{lent, at-row, letter-at}
+use Rattle.paper.specs.Kinds.{about, kindAt}
+use Rattle.paper.specs.Cards.{rowAt, rank}
+use Rattle.paper.specs.Judge.{judgeFrom}
+use Rattle.paper.specs.declared.About.{About}
 use Rattle.paper.proofs.Judging.{judge-on, judge-here, judge-end}
+use Rattle.cards.proofs.Rows.{lent, letter-at, lent-card}
 
 abbrev Inv-loop : tie.InvT-loop
-Inv-loop z t rows i₀ p₀ key₀ i p key = (i ≤ rows) × (judgeFrom z (rowAt t) rows 0 0 0 ≡ judgeFrom z (rowAt t) (rows - i) i p key)
+Inv-loop counts t rows i₀ group₀ key₀ i group key = (i ≤ rows) × (judgeFrom counts (rowAt t) rows 0 0 0 ≡ judgeFrom counts (rowAt t) (rows - i) i group key)
 
 abbrev μ-loop : tie.MeasureT-loop
-μ-loop z t rows i₀ p₀ key₀ i p key = rows - i
+μ-loop counts t rows i₀ group₀ key₀ i group key = rows - i
 
 loop-holds : tie.Need-loop-holds Inv-loop μ-loop
 loop-holds c = (search needs, rw sub-zero)
@@ -61,21 +63,28 @@ enum-told-2 c = search needs
 returns : tie.Need-returns Inv-loop μ-loop
 returns c =
     let a = c .before .before .before .before .before .before .before .before .before .args in
+    let t = a .t .now in
     let l = c .before .before .before .before .before .before .before .loop in
-    let e = sym (c .before .before .judge-card .ensures ∙ ap (judgeCard (a .z) (l .i) (l .p) (l .key)) (lent (a .t .now) (l .i))) ∙ c .enum-told2 .given .1 in
-    c .enum-told2 .given .1 ∙ judge-here (a .z) (rowAt (a .t .now)) (a .rows) (l .i) (l .p) (l .key) _ (omega arith) e ∙ sym (l .inv .1)
+    let e = sym (c .before .before .judge-card .ensures ∙ lent-card (a .counts) t (l .i) (l .group) (l .key)) ∙ c .enum-told2 .given .1 in
+    c .enum-told2 .given .1 ∙ judge-here (a .counts) (rowAt t) (a .rows) (l .i) (l .group) (l .key) _ (omega arith) e ∙ sym (l .inv .1)
 
-order-of-requires : tie.Need-order-of-requires Inv-loop μ-loop
-order-of-requires c κs = search needs
+about-requires : tie.Need-about-requires Inv-loop μ-loop
+about-requires c κs = search needs
 
-add-key : tie.Need-add-key Inv-loop μ-loop
-add-key c = search needs
+mul-rank : tie.Need-mul-rank Inv-loop μ-loop
+mul-rank c = search needs
 
-mul-key : tie.Need-mul-key Inv-loop μ-loop
-mul-key c = search needs
+sub-rank : tie.Need-sub-rank Inv-loop μ-loop
+sub-rank c = search needs
 
-shared-slice-read-key : tie.Need-shared-slice-read-key Inv-loop μ-loop
-shared-slice-read-key c = search needs
+part-rank-start : tie.Need-part-rank-start Inv-loop μ-loop
+part-rank-start c = search needs
+
+part-rank-end : tie.Need-part-rank-end Inv-loop μ-loop
+part-rank-end c = search needs
+
+rank-requires : tie.Need-rank-requires Inv-loop μ-loop
+rank-requires c κs = search needs
 
 add-i : tie.Need-add-i Inv-loop μ-loop
 add-i c = search needs
@@ -85,20 +94,20 @@ loop-less c = search needs
 
 loop-again : tie.Need-loop-again Inv-loop μ-loop
 loop-again c =
-    let a = c .before .before .before .before .before .before .before .before .before .before .before .args in
-    let l = c .before .before .before .before .before .before .before .before .before .loop in
+    let a = c .before .before .before .before .before .before .before .before .before .before .before .before .args in
     let t = a .t .now in
-    let e = sym (c .before .before .before .before .judge-card .ensures ∙ ap (judgeCard (a .z) (l .i) (l .p) (l .key)) (lent t (l .i))) ∙ c .before .before .enum-told .given .1 in
-    let o = c .before .order-of .ensures ∙ ap order (c .before .before .before .before .before .before .kind .ensures ∙ letter-at t (l .i)) in
-    let k = at-row t (l .i) 1 (omega arith) in
-    let g = judge-on (a .z) (rowAt t) (a .rows) (l .i) (l .p) (l .key) (omega arith) e in
+    let l = c .before .before .before .before .before .before .before .before .before .before .loop in
+    let e = sym (c .before .before .before .before .before .judge-card .ensures ∙ lent-card (a .counts) t (l .i) (l .group) (l .key)) ∙ c .before .before .before .enum-told .given .1 in
+    let o = ap (λ (b : About). b .order) (c .before .before .about .ensures ∙ ap about (c .before .before .before .before .before .before .before .kind .ensures ∙ letter-at t (l .i))) in
+    let k = c .rank .ensures ∙ ap rank (lent t (l .i)) in
+    let g = judge-on (a .counts) (rowAt t) (a .rows) (l .i) (l .group) (l .key) (omega arith) e in
     (omega arith, cc (l .inv .1))
 
 returns-2 : tie.Need-returns-2 Inv-loop μ-loop
 returns-2 c =
     let a = c .before .before .before .args in
     let l = c .before .loop in
-    judge-end (a .z) (rowAt (a .t .now)) (a .rows) (l .i) (l .p) (l .key) (omega arith) ∙ sym (l .inv .1)
+    judge-end (a .counts) (rowAt (a .t .now)) (a .rows) (l .i) (l .group) (l .key) (omega arith) ∙ sym (l .inv .1)
 
 pub judge-cards-spec : {M : Type 1} → statement M
 judge-cards-spec =
@@ -120,10 +129,12 @@ judge-cards-spec =
     enum-told
     enum-told-2
     returns
-    order-of-requires
-    add-key
-    mul-key
-    shared-slice-read-key
+    about-requires
+    mul-rank
+    sub-rank
+    part-rank-start
+    part-rank-end
+    rank-requires
     add-i
     loop-less
     loop-again

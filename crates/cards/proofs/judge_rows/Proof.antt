@@ -8,8 +8,8 @@ use borrow.Author.Tests.{not-true, not-false}
 use Rattle.paper.specs.Cards.{countsOf, rowAt}
 use Rattle.paper.specs.Judge.{trailer, judgeFrom}
 use Rattle.paper.specs.declared.Counts.{Counts}
-use Rattle.cards.proofs.Rows.{lent, at-row}
 use Rattle.paper.proofs.Judging.{rows-trailer, rows-back, rows-cards}
+use Rattle.cards.proofs.Rows.{lent, at-row}
 
 mul-at : tie.Need-mul-at
 mul-at c = search needs
@@ -79,10 +79,12 @@ judge-cards-requires c κs = search needs
 returns-3 : tie.Need-returns-3
 returns-3 c =
     let a = c .before .before .before .before .before .before .before .before .before .args in
-    let row = lent (a .t .now) (a .rows) in
+    let t = a .t .now in
+    let row = lent t (a .rows) in
     let z = sym (c .before .before .before .before .before .before .is-trailer .ensures ∙ ap trailer row) ∙ not-false (c .before .before .before .before .before .before .is-trailer .result) (c .before .before .before .before .before .if1 .left) in
-    c .judge-cards .ensures ∙ ap (λ (z : Counts). judgeFrom z (rowAt (a .t .now)) (a .rows) 0 0 0) (c .before .counts-of .ensures ∙ ap countsOf row)
-    ∙ rows-cards (a .t .now) (a .rows) z (sym (at-row (a .t .now) (a .rows) 1 (omega arith)) ∙ c .before .before .before .if2 .left)
+    c .judge-cards .ensures
+    ∙ ap (λ (z : Counts). judgeFrom z (rowAt t) (a .rows) 0 0 0) (c .before .counts-of .ensures ∙ ap countsOf (row ∙ ap (rowAt t) (c .before .before .before .before .before .before .before .before .before .pre .0)))
+    ∙ rows-cards t (a .rows) z (sym (at-row t (a .rows) 1 (omega arith)) ∙ c .before .before .before .if2 .left)
 
 pub judge-rows-spec : {M : Type 1} → statement M
 judge-rows-spec =

@@ -5,7 +5,7 @@ use Prim.Native.Nat.{_-_}
 use native.Mathlib.Omega.{arith}
 use borrow.Author.Needs.{needs, sfits-of}
 use borrow.Author.Tests.{not-true, not-false}
-use Rattle.correction.proofs.Adding.{AddInv, add-start, add-asks, add-no, add-yes, add-end}
+use Rattle.correction.proofs.Adding.{AddInv, add-start, add-asks, add-no, add-fits, add-yes, add-end}
 
 abbrev Inv-loop : tie.InvT-loop
 Inv-loop t₀ x n i₀ t i = AddInv x n t₀ t i
@@ -46,11 +46,14 @@ same-length c = omega (arith, c .before .before .before .before .before .before 
 returns : tie.Need-returns Inv-loop μ-loop
 returns c = add-no (c .before .before .before .before .before .before .loop .inv) (c .before .before .before .before .before .loop-test .taken) (c .before .before .before .before .before .before .before .pre .2) (c .before .before .warmed .result) (sfits-of (c .before .before .warmed .ok)) (c .before .before .warmed .ensures) (c .before .on-scale .result) (c .before .on-scale .ensures) (not-true _ (c .if1 .taken))
 
-mul-v : tie.Need-mul-v Inv-loop μ-loop
-mul-v c = omega (arith, c .before .before .before .before .before .before .loop .inv .mild .long)
+cast-w : tie.Need-cast-w Inv-loop μ-loop
+cast-w c = add-fits (c .before .before .before .before .before .before .loop .inv) (c .before .before .before .before .before .loop-test .taken) (c .before .before .before .before .before .before .before .pre .2) (c .before .before .warmed .result) (sfits-of (c .before .before .warmed .ok)) (c .before .before .warmed .ensures) (c .before .on-scale .result) (c .before .on-scale .ensures) (not-false _ (c .if1 .left))
 
-slice-set-from-v : tie.Need-slice-set-from-v Inv-loop μ-loop
-slice-set-from-v c = omega (arith, c .before .before .before .before .before .before .loop .inv .mild .long)
+mul-w : tie.Need-mul-w Inv-loop μ-loop
+mul-w c = omega (arith, c .before .before .before .before .before .before .loop .inv .mild .long)
+
+slice-set-from-w : tie.Need-slice-set-from-w Inv-loop μ-loop
+slice-set-from-w c = omega (arith, c .before .before .before .before .before .before .loop .inv .mild .long)
 
 add-i : tie.Need-add-i Inv-loop μ-loop
 add-i c = omega (arith, c .before .before .before .before .before .before .before .pre .0)
@@ -84,8 +87,9 @@ add-spec =
     cast-result
     same-length
     returns
-    mul-v
-    slice-set-from-v
+    cast-w
+    mul-w
+    slice-set-from-w
     add-i
     loop-less
     loop-again

@@ -1,5 +1,6 @@
 -- The invariant: `at` is the place of (k, i), and the sum is that of the rows so far.
 use Rattle.correction.proofs.down.Statement.{statement}
+use Rattle.whole.specs.Sums.{sum as total}
 use Rattle.correction.proofs.down.Tie as tie
 use borrow.Author.Needs.{needs}
 use mathlib.Core.Path.{_≡_, sym, ap, _∙_}
@@ -8,7 +9,6 @@ use native.Mathlib.Omega.{arith}
 use lib.Dec.{lit<}
 use mir.Syntax.{w64}
 use mir.Val.{toZ}
-use Rattle.whole.specs.Sums.{sum as total}
 use Rattle.whole.specs.Packed.{tri}
 use Rattle.whole.proofs.Calc.{fits, again}
 use Rattle.whole.proofs.Packed.{tri-96, tri-next}

@@ -1,5 +1,6 @@
 -- The invariant: the sum is that of the terms so far, each of size at most 2^56.
 use Rattle.correction.proofs.left.Statement.{statement}
+use Rattle.whole.specs.Sums.{sum as total}
 use Rattle.correction.proofs.left.Tie as tie
 use borrow.Author.Needs.{needs}
 use mathlib.Core.Path.{_≡_, refl, ap, _∙_}
@@ -8,7 +9,6 @@ use native.Mathlib.Omega.{arith}
 use lib.Dec.{lit<}
 use mir.Syntax.{w64}
 use mir.Val.{toZ}
-use Rattle.whole.specs.Sums.{sum as total}
 use Rattle.whole.proofs.Calc.{fits, again}
 use Rattle.correction.specs.Asks.{leftTerm}
 use Rattle.correction.proofs.Substitution.{left-asks, left-more}

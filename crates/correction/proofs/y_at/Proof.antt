@@ -14,14 +14,14 @@ shared-slice-copy-out-minus c = search needs
 start-requires : tie.Need-start-requires
 start-requires c κs = omega (arith, c .before .pre .0, c .before .pre .1 .rows .few)
 
-left-requires : tie.Need-left-requires
-left-requires c κs = left-of (c .start .result) (c .start .ensures) (c .before .before .pre .0) (c .before .before .pre .1) (c .before .before .pre .2)
+left-under-requires : tie.Need-left-under-requires
+left-under-requires c κs = (left-of (c .start .result) (c .start .ensures) (c .before .before .pre .0) (c .before .before .pre .1) (c .before .before .pre .2), c .before .before .pre .3)
 
 minus-requires : tie.Need-minus-requires
-minus-requires c κs = y-asks (c .before .start .result) (c .before .start .ensures) (c .before .before .before .pre .0) (c .before .before .before .pre .1) (c .before .before .before .pre .2) (c .left .result) (c .left .ensures)
+minus-requires c κs = y-asks (c .before .start .result) (c .before .start .ensures) (c .before .before .before .pre .0) (c .before .before .before .pre .1) (c .before .before .before .pre .2) (c .left-under .result) (c .left-under .ensures)
 
 returns : tie.Need-returns
-returns c = y-is (c .before .before .start .result) (c .before .before .start .ensures) (c .before .before .before .before .pre .0) (c .before .before .before .before .pre .1) (c .before .before .before .before .pre .2) (c .before .left .result) (c .before .left .ensures) (c .minus .result) (c .minus .ensures)
+returns c = y-is (c .before .before .start .result) (c .before .before .start .ensures) (c .before .before .before .before .pre .0) (c .before .before .before .before .pre .1) (c .before .before .before .before .pre .2) (c .before .left-under .result) (c .before .left-under .ensures) (c .minus .result) (c .minus .ensures)
 
 pub y-at-spec : {M : Type 1} → statement M
 y-at-spec =
@@ -30,6 +30,6 @@ y-at-spec =
     mul-minus
     shared-slice-copy-out-minus
     start-requires
-    left-requires
+    left-under-requires
     minus-requires
     returns)

@@ -2,22 +2,23 @@ use Rattle.deck.proofs.judge_text.Statement.{statement}
 use Rattle.deck.proofs.judge_text.Tie as tie
 use borrow.Author.Needs.{needs}
 use mathlib.Core.Path.{_≡_, sym, ap, _∙_}
-use mathlib.Core.List.{List}
-use Prim.Native.Nat.{ℕ, _-_, _≤_}
+use Prim.Native.Nat.{_-_, _≤_}
 use native.Mathlib.Nat.{sub-zero}
 use native.Mathlib.Omega.{arith}
-use lib.ListN.{length, getD}
-use Rattle.paper.specs.Cards.{order, orderOf}
-use Rattle.paper.specs.Judge.{judgeCard, judgeFrom}
+use lib.ListN.{length}
+use Rattle.paper.specs.Kinds.{about, aboutOf}
+use Rattle.paper.specs.Cards.{orderOf, rank}
+use Rattle.paper.specs.Judge.{judgeFrom}
 use Rattle.paper.specs.Calls.{cardAt}
+use Rattle.paper.specs.declared.About.{About}
 use Rattle.paper.proofs.Judging.{judge-on, judge-here, judge-end}
-use Rattle.deck.proofs.InRows.{lent}
+use Rattle.deck.proofs.InRows.{lent, read-card}
 
 abbrev Inv-loop : tie.InvT-loop
-Inv-loop z s start rows card₀ i₀ p₀ key₀ card i p key = (i ≤ rows) × (length card ≡ 6) × (judgeFrom z (cardAt s start) rows 0 0 0 ≡ judgeFrom z (cardAt s start) (rows - i) i p key)
+Inv-loop counts s start rows card₀ i₀ group₀ key₀ card i group key = (i ≤ rows) × (length card ≡ 6) × (judgeFrom counts (cardAt s start) rows 0 0 0 ≡ judgeFrom counts (cardAt s start) (rows - i) i group key)
 
 abbrev μ-loop : tie.MeasureT-loop
-μ-loop z s start rows card₀ i₀ p₀ key₀ card i p key = rows - i
+μ-loop counts s start rows card₀ i₀ group₀ key₀ card i group key = rows - i
 
 loop-holds : tie.Need-loop-holds Inv-loop μ-loop
 loop-holds c = (search needs, search needs, rw sub-zero)
@@ -69,14 +70,17 @@ returns c =
     let a = c .before .before .before .before .before .before .before .before .before .before .before .before .args in
     let l = c .before .before .before .before .before .before .before .before .before .before .loop in
     let row = c .before .before .before .before .before .before .card-of .ensures ∙ lent (a .s .now) (a .start) (l .i) in
-    let e = sym (c .before .before .judge-card .ensures ∙ ap (judgeCard (a .z) (l .i) (l .p) (l .key)) row) ∙ c .enum-told2 .given .1 in
-    c .enum-told2 .given .1 ∙ judge-here (a .z) (cardAt (a .s .now) (a .start)) (a .rows) (l .i) (l .p) (l .key) _ (omega arith) e ∙ sym (l .inv .2)
+    let e = sym (c .before .before .judge-card .ensures ∙ read-card (a .counts) (a .s .now) (a .start) (l .i) (l .group) (l .key) row) ∙ c .enum-told2 .given .1 in
+    c .enum-told2 .given .1 ∙ judge-here (a .counts) (cardAt (a .s .now) (a .start)) (a .rows) (l .i) (l .group) (l .key) _ (omega arith) e ∙ sym (l .inv .2)
 
-order-of-requires : tie.Need-order-of-requires Inv-loop μ-loop
-order-of-requires c κs = search needs
+about-requires : tie.Need-about-requires Inv-loop μ-loop
+about-requires c κs = search needs
 
-array-read-key : tie.Need-array-read-key Inv-loop μ-loop
-array-read-key c = search needs
+slice-aggregate-rank : tie.Need-slice-aggregate-rank Inv-loop μ-loop
+slice-aggregate-rank c = search needs
+
+rank-requires : tie.Need-rank-requires Inv-loop μ-loop
+rank-requires c κs = search needs
 
 add-i : tie.Need-add-i Inv-loop μ-loop
 add-i c = search needs
@@ -86,20 +90,20 @@ loop-less c = search needs
 
 loop-again : tie.Need-loop-again Inv-loop μ-loop
 loop-again c =
-    let a = c .before .before .before .before .before .before .before .before .before .before .before .before .before .args in
-    let l = c .before .before .before .before .before .before .before .before .before .before .before .loop in
-    let row = c .before .before .before .before .before .before .before .card-of .ensures ∙ lent (a .s .now) (a .start) (l .i) in
-    let e = sym (c .before .before .before .judge-card .ensures ∙ ap (judgeCard (a .z) (l .i) (l .p) (l .key)) row) ∙ c .before .enum-told .given .1 in
-    let o = c .order-of .ensures ∙ ap order (c .before .before .before .before .before .kind .ensures) ∙ ap orderOf row in
-    let k = ap (λ (r : List ℕ). getD r 1 0) row in
-    let g = judge-on (a .z) (cardAt (a .s .now) (a .start)) (a .rows) (l .i) (l .p) (l .key) (omega arith) e in
-    (omega arith, c .before .before .before .before .before .before .before .card-of .kept .1 .0 ∙ l .inv .1, cc (l .inv .2))
+    let a = c .before .before .before .before .before .before .before .before .before .before .before .before .before .before .before .args in
+    let l = c .before .before .before .before .before .before .before .before .before .before .before .before .before .loop in
+    let row = c .before .before .before .before .before .before .before .before .before .card-of .ensures ∙ lent (a .s .now) (a .start) (l .i) in
+    let e = sym (c .before .before .before .before .before .judge-card .ensures ∙ read-card (a .counts) (a .s .now) (a .start) (l .i) (l .group) (l .key) row) ∙ c .before .before .before .enum-told .given .1 in
+    let o = ap (λ (b : About). b .order) (c .before .before .about .ensures ∙ ap about (c .before .before .before .before .before .before .before .kind .ensures)) ∙ ap orderOf row in
+    let k = c .rank .ensures ∙ ap rank row in
+    let g = judge-on (a .counts) (cardAt (a .s .now) (a .start)) (a .rows) (l .i) (l .group) (l .key) (omega arith) e in
+    (omega arith, c .before .before .before .before .before .before .before .before .before .card-of .kept .1 .0 ∙ l .inv .1, cc (l .inv .2))
 
 returns-2 : tie.Need-returns-2 Inv-loop μ-loop
 returns-2 c =
     let a = c .before .before .before .args in
     let l = c .before .loop in
-    judge-end (a .z) (cardAt (a .s .now) (a .start)) (a .rows) (l .i) (l .p) (l .key) (omega arith) ∙ sym (l .inv .2)
+    judge-end (a .counts) (cardAt (a .s .now) (a .start)) (a .rows) (l .i) (l .group) (l .key) (omega arith) ∙ sym (l .inv .2)
 
 pub judge-text-spec : {M : Type 1} → statement M
 judge-text-spec =
@@ -123,8 +127,9 @@ judge-text-spec =
     enum-told
     enum-told-2
     returns
-    order-of-requires
-    array-read-key
+    about-requires
+    slice-aggregate-rank
+    rank-requires
     add-i
     loop-less
     loop-again

@@ -10,6 +10,7 @@ use lib.ListN.{length, getD}
 use Rattle.paper.specs.Cards.{cards, countsOf}
 use Rattle.paper.specs.Judge.{trailer}
 use Rattle.paper.specs.Calls.{lastCard, startOf, readsFrom}
+use Rattle.paper.specs.declared.Counts.{Counts}
 use Rattle.paper.proofs.Reading.{trailer-told, reads-short, reads-long, reads-trailer, reads-back, reads-on}
 
 returns : tie.Need-returns
@@ -47,28 +48,34 @@ returns-4 c =
     let k = ap (λ (r : List ℕ). getD r 1 0) (c .before .before .before .before .last-card .ensures) in
     reads-back (c .before .before .before .before .before .before .before .before .args .s .now) (c .before .before .before .before .before .before .before .before .args .room) (omega arith) (omega arith) (t ∙ not-false (c .before .before .is-trailer .result) (c .before .if3 .left)) (omega arith)
 
+slice-aggregate-counts-of : tie.Need-slice-aggregate-counts-of
+slice-aggregate-counts-of c = search needs
+
+counts-of-requires : tie.Need-counts-of-requires
+counts-of-requires c κs = search needs
+
 reads-from-requires : tie.Need-reads-from-requires
 reads-from-requires c κs =
-    let t = sym (c .before .before .is-trailer .ensures ∙ ap trailer (c .before .before .before .before .last-card .ensures)) in
-    let k = ap (λ (r : List ℕ). getD r 1 0) (c .before .before .before .before .last-card .ensures) in
-    let s = trailer-told (lastCard (c .before .before .before .before .before .before .before .before .args .s .now)) (t ∙ not-false (c .before .before .is-trailer .result) (c .before .if3 .left)) in
+    let t = sym (c .before .before .before .before .is-trailer .ensures ∙ ap trailer (c .before .before .before .before .before .before .last-card .ensures)) in
+    let k = ap (λ (r : List ℕ). getD r 1 0) (c .before .before .before .before .before .before .last-card .ensures) in
+    let s = trailer-told (lastCard (c .before .before .before .before .before .before .before .before .before .before .args .s .now)) (t ∙ not-false (c .before .before .before .before .is-trailer .result) (c .before .before .before .if3 .left)) in
     (omega (arith, s .back), omega (arith, s .back, s .few))
 
 returns-5 : tie.Need-returns-5
 returns-5 c =
-    let b = c .before .before .before .before .before .before .before .before .before .args .s .now in
-    let room = c .before .before .before .before .before .before .before .before .before .args .room in
+    let b = c .before .before .before .before .before .before .before .before .before .before .before .args .s .now in
+    let room = c .before .before .before .before .before .before .before .before .before .before .before .args .room in
     let z = lastCard b in
-    let v = c .before .before .before .before .before .last-card .result in
-    let t = sym (c .before .before .before .is-trailer .ensures ∙ ap trailer (c .before .before .before .before .before .last-card .ensures)) ∙ not-false (c .before .before .before .is-trailer .result) (c .before .before .if3 .left) in
-    let k : getD v 1 0 ≡ getD z 1 0 = ap (λ (r : List ℕ). getD r 1 0) (c .before .before .before .before .before .last-card .ensures) in
+    let v = c .before .before .before .before .before .before .before .last-card .result in
+    let t = sym (c .before .before .before .before .before .is-trailer .ensures ∙ ap trailer (c .before .before .before .before .before .before .before .last-card .ensures)) ∙ not-false (c .before .before .before .before .before .is-trailer .result) (c .before .before .before .before .if3 .left) in
+    let k : getD v 1 0 ≡ getD z 1 0 = ap (λ (r : List ℕ). getD r 1 0) (c .before .before .before .before .before .before .before .last-card .ensures) in
     let s = trailer-told z t in
     let n : getD v 1 0 / 42 ≡ cards (countsOf z) = omega (arith, s .back, k) in
     let st : length b - 42 - getD v 1 0 ≡ startOf b z = omega (arith, k) in
     c .reads-from .ensures
-    ∙ ap (λ (r : List ℕ). readsFrom b room r (length b - 42 - getD v 1 0) (getD v 1 0 / 42)) (c .before .before .before .before .before .last-card .ensures)
-    ∙ ap (λ (j : ℕ). readsFrom b room z j (getD v 1 0 / 42)) st
-    ∙ ap (λ (j : ℕ). readsFrom b room z (startOf b z) j) n
+    ∙ ap (λ (z : Counts). readsFrom b room z (length b - 42 - getD v 1 0) (getD v 1 0 / 42)) (c .before .counts-of .ensures ∙ ap countsOf (c .before .before .before .before .before .before .before .last-card .ensures))
+    ∙ ap (λ (j : ℕ). readsFrom b room (countsOf z) j (getD v 1 0 / 42)) st
+    ∙ ap (λ (j : ℕ). readsFrom b room (countsOf z) (startOf b z) j) n
     ∙ reads-on b room (omega arith) (omega arith) t (omega (arith, k))
 
 pub reads-of-spec : {M : Type 1} → statement M
@@ -85,5 +92,7 @@ reads-of-spec =
     cast-back
     sub-last
     returns-4
+    slice-aggregate-counts-of
+    counts-of-requires
     reads-from-requires
     returns-5)

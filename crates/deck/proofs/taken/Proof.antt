@@ -8,8 +8,8 @@ use native.Mathlib.Omega.{arith}
 use lib.ListN.{length, getD, take, drop, length-drop}
 use lib.Seq.{take-all}
 use Rattle.paper.specs.Cards.{cards, countsOf}
-use Rattle.paper.specs.Calls.{joined, cardAt, lastCard, startOf}
-use Rattle.paper.proofs.Reading.{trailer-told, accepted, table-read, part-read}
+use Rattle.paper.specs.Calls.{joined, cardAt, lastCard, startOf, readStart}
+use Rattle.paper.proofs.Reading.{trailer-told, accepted, table-read, part-read, start-read}
 
 last-card-requires : tie.Need-last-card-requires
 last-card-requires c κs =
@@ -61,6 +61,7 @@ same-length c = search needs
 returns : tie.Need-returns
 returns c =
     let b = c .before .before .before .before .before .before .before .before .args .bytes .now in
+    let p = c .before .before .before .before .before .before .before .before .args .bytes .ptr in
     let t = c .before .before .before .before .before .before .before .before .args .table .now in
     let z = lastCard b in
     let v = c .before .before .before .before .before .last-card .result in
@@ -68,10 +69,14 @@ returns c =
     let k : getD v 1 0 ≡ getD z 1 0 = ap (λ (r : List ℕ). getD r 1 0) (c .before .before .before .before .before .last-card .ensures) in
     let s = trailer-told z (a .trails) in
     let n : getD v 1 0 / 42 + 1 ≡ cards (countsOf z) + 1 = omega (arith, k, s .back) in
-    let st : length b - 42 - getD v 1 0 ≡ startOf b z = omega (arith, k) in (
-      ap (λ (j : ℕ). take (length b - j) (drop j b)) st ∙ take-all (length b - startOf b z) (drop (startOf b z) b) (simp length-drop (omega arith)) ∙ part-read b (length t) (c .before .before .before .before .before .before .before .before .pre),
-      c .before .before .before .rows-to .ensures ∙ ap (λ (j : ℕ). joined (cardAt b j) (getD v 1 0 / 42 + 1) 0 ++ drop ((getD v 1 0 / 42 + 1) * 6) t) st
-          ∙ ap (λ (m : ℕ). joined (cardAt b (startOf b z)) m 0 ++ drop (m * 6) t) n ∙ table-read b t (c .before .before .before .before .before .before .before .before .pre),
+    let st : length b - 42 - getD v 1 0 ≡ startOf b z = omega (arith, k) in
+    let o : (length b - 42 - getD v 1 0) + p .1 ≡ p .1 + readStart b (length t) = omega (arith, st, start-read b (length t) (c .before .before .before .before .before .before .before .before .pre)) in (
+      λ i. (p .0, o i),
+      (
+        ap (λ (j : ℕ). take (length b - j) (drop j b)) st ∙ take-all (length b - startOf b z) (drop (startOf b z) b) (simp length-drop (omega arith)) ∙ part-read b (length t) (c .before .before .before .before .before .before .before .before .pre),
+        c .before .before .before .rows-to .ensures ∙ ap (λ (j : ℕ). joined (cardAt b j) (getD v 1 0 / 42 + 1) 0 ++ drop ((getD v 1 0 / 42 + 1) * 6) t) st
+            ∙ ap (λ (m : ℕ). joined (cardAt b (startOf b z)) m 0 ++ drop (m * 6) t) n ∙ table-read b t (c .before .before .before .before .before .before .before .before .pre),
+      ),
     )
 
 pub taken-spec : {M : Type 1} → statement M

@@ -1,8 +1,11 @@
 use borrow.Author.Needs.{needs}
 use Rattle.deck.proofs.write.Statement.{statement}
 use Rattle.deck.proofs.write.Tie as tie
-use mathlib.Core.Path.{sym, _∙_}
+use mathlib.Core.Path.{sym, ap, _∙_}
 use native.Mathlib.Omega.{arith}
+use Rattle.paper.specs.Calls.{wrote}
+use Rattle.paper.specs.declared.Answer.{Answer}
+use Rattle.paper.specs.declared.Answer.the-variants.{Done}
 use Rattle.paper.proofs.Judged.{top-told}
 use Rattle.deck.proofs.Writing.{write-refused, write-short, write-done}
 
@@ -17,8 +20,8 @@ enum-told-2 c = search needs
 
 returns : tie.Need-returns
 returns c =
-    let r = write-refused (c .before .before .before .before .before .args .table .now) (c .before .before .before .before .before .args .bytes .now) _ (sym (c .before .before .judge .ensures) ∙ c .enum-told2 .given .1) in
-    (c .enum-told2 .given .1 ∙ r .0, r .1)
+    let b = c .before .before .before .before .before .args .bytes .now in
+    ap (λ (a : Answer). wrote a b) (c .enum-told2 .given .1) ∙ write-refused (c .before .before .before .before .before .args .table .now) b _ (sym (c .before .before .judge .ensures) ∙ c .enum-told2 .given .1)
 
 mul-if1 : tie.Need-mul-if1
 mul-if1 c = search needs
@@ -35,9 +38,7 @@ same-length : tie.Need-same-length
 same-length c = search needs
 
 returns-3 : tie.Need-returns-3
-returns-3 c =
-    let r = write-done (c .before .before .before .before .before .before .before .before .before .before .args .table .now) (c .before .before .before .before .before .before .before .before .before .before .args .bytes .now) (sym (c .before .before .before .before .before .before .before .judge .ensures) ∙ c .before .before .before .before .before .enum-told .given .1) (omega arith) in
-    (r .0, c .before .before .cards-to .ensures ∙ r .1)
+returns-3 c = ap (wrote Done) (c .before .before .cards-to .ensures) ∙ write-done (c .before .before .before .before .before .before .before .before .before .before .args .table .now) (c .before .before .before .before .before .before .before .before .before .before .args .bytes .now) (sym (c .before .before .before .before .before .before .before .judge .ensures) ∙ c .before .before .before .before .before .enum-told .given .1) (omega arith)
 
 pub write-spec : {M : Type 1} → statement M
 write-spec =

@@ -1,4 +1,3 @@
--- Z is the last row.
 use borrow.Author.Needs.{needs}
 use Rattle.element.proofs.elements.Statement.{statement}
 use Rattle.element.proofs.elements.Tie as tie
@@ -17,15 +16,9 @@ mul-result c = search needs
 shared-slice-read-result : tie.Need-shared-slice-read-result
 shared-slice-read-result c = search needs
 
-cast-result : tie.Need-cast-result
-cast-result c = omega (arith, c .shared-slice-known .given (length (c .before .args .table .now) - 2))
-
 returns : tie.Need-returns
 unfolding cards.elements cards.field
-returns c =
-    let s = c .before in
-    ap (λ (k : ℕ). getD (s .args .table .now) k 0) (omega (arith, s .pre .whole, s .pre .all))
+returns c = ap (λ (k : ℕ). getD (c .before .args .table .now) k 0) (omega (arith, c .before .pre .whole, c .before .pre .all))
 
 pub elements-spec : {M : Type 1} → statement M
-elements-spec =
-    tie.close (tie.spec sub-result mul-result shared-slice-read-result cast-result returns)
+elements-spec = tie.close (tie.spec sub-result mul-result shared-slice-read-result returns)

@@ -1,21 +1,17 @@
--- The invariant: what is left from element e on is the whole.
-use borrow.Author.Needs.{needs}
-use mathlib.Core.Path.{_≡_}
-use Prim.Native.Nat.{ℕ, _+_, _-_, _≤_}
-use Rattle.paper.specs.Building.{elementsFrom}
 use Rattle.element.proofs.judge_elements.Statement.{statement}
 use Rattle.element.proofs.judge_elements.Tie as tie
-use mathlib.Core.Path.{sym, _∙_, ap}
+use borrow.Author.Needs.{needs}
+use mathlib.Core.Path.{_≡_, sym, _∙_, ap}
 use mathlib.Core.List.{List}
-use Prim.Native.Nat.{suc, zero}
+use Prim.Native.Nat.{ℕ, zero, suc, _+_, _-_, _≤_, _<_}
 use native.Mathlib.Omega.{arith}
 use native.Mathlib.Numerals.{add-one}
+use Rattle.paper.specs.Building.{elementsFrom}
 use Rattle.paper.specs.Refusals.{andThen}
-use Rattle.paper.specs.Triangle.{elementJudged}
+use Rattle.paper.specs.Elements.{elementJudged}
 use Rattle.paper.specs.declared.Answer.{Answer}
 use Rattle.paper.specs.declared.Answer.the-variants.{Done, Refused}
 use Rattle.paper.specs.declared.Refusal.{Refusal}
-use Prim.Native.Nat.{_<_}
 
 abbrev Inv-loop : tie.InvT-loop
 Inv-loop table n e₀ e = (1 ≤ e) × (e ≤ n + 1) × (elementsFrom (n + 1 - e) e table ≡ elementsFrom n 1 table)
@@ -41,14 +37,14 @@ none-left n e t all h q = let z : n + 1 - e ≡ zero = omega arith in rw z at q
 elements-requires : tie.Need-elements-requires Inv-loop μ-loop
 elements-requires c κs = search needs
 
-cast-n : tie.Need-cast-n Inv-loop μ-loop
-cast-n c = omega (arith, c .elements .ensures, c .before .before .pre .someE)
-
 loop-holds : tie.Need-loop-holds Inv-loop μ-loop
 loop-holds c = (omega arith, omega arith, ap (λ (k : ℕ). elementsFrom k 1 (c .before .before .args .table .now)) (omega arith))
 
+element-requires : tie.Need-element-requires Inv-loop μ-loop
+element-requires c κs = omega (arith, c .before .before .elements .ensures, c .before .before .before .before .pre .someE)
+
 judge-element-requires : tie.Need-judge-element-requires Inv-loop μ-loop
-judge-element-requires c κs = (c .before .before .before .before .pre, (omega arith, omega (arith, c .before .before .elements .ensures)))
+judge-element-requires c κs = (c .before .before .before .before .before .pre, (omega (arith, c .element .ensures), omega (arith, c .element .ensures, c .before .before .before .elements .ensures)))
 
 enum-told : tie.Need-enum-told Inv-loop μ-loop
 enum-told c = search needs
@@ -58,21 +54,21 @@ enum-told-2 c = search needs
 
 returns : tie.Need-returns Inv-loop μ-loop
 returns c =
-    let t = c .before .before .before .before .before .before .before .args .table .now in
-    c .before .before .judge-element .ensures
-    ∙ refused (c .before .before .before .before .before .elements .result) (c .before .before .before .before .loop .e) t _ _ (c .before .before .before .loop-test .taken) (sym (c .before .before .judge-element .ensures) ∙ c .enum-told2 .given .1) (c .before .before .before .before .loop .inv .2)
-    ∙ ap (λ (k : ℕ). elementsFrom k 1 t) (c .before .before .before .before .before .elements .ensures)
+    let t = c .before .before .before .before .before .before .before .before .args .table .now in
+    let e = c .before .before .judge-element .ensures ∙ ap (elementJudged t) (c .before .before .before .element .ensures) in
+    e ∙ refused (c .before .before .before .before .before .before .elements .result) (c .before .before .before .before .before .loop .e) t _ _ (c .before .before .before .before .loop-test .taken) (sym e ∙ c .enum-told2 .given .1) (c .before .before .before .before .before .loop .inv .2)
+    ∙ ap (λ (k : ℕ). elementsFrom k 1 t) (c .before .before .before .before .before .before .elements .ensures)
 
 add-e : tie.Need-add-e Inv-loop μ-loop
-add-e c = omega (arith, c .before .before .before .before .before .elements .ensures, c .before .before .before .before .before .before .before .pre .someE)
+add-e c = omega (arith, c .before .before .before .before .before .before .elements .ensures, c .before .before .before .before .before .before .before .before .pre .someE)
 
 loop-less : tie.Need-loop-less Inv-loop μ-loop
 loop-less c = search needs
 
 loop-again : tie.Need-loop-again Inv-loop μ-loop
 loop-again c =
-    let t = c .before .before .before .before .before .before .before .args .table .now in
-    (omega arith, omega arith, passed (c .before .before .before .before .before .elements .result) (c .before .before .before .before .loop .e) t _ (c .before .before .before .loop-test .taken) (sym (c .before .before .judge-element .ensures) ∙ c .enum-told .given .1) (c .before .before .before .before .loop .inv .2))
+    let t = c .before .before .before .before .before .before .before .before .args .table .now in
+    (omega arith, omega arith, passed (c .before .before .before .before .before .before .elements .result) (c .before .before .before .before .before .loop .e) t _ (c .before .before .before .before .loop-test .taken) (ap (elementJudged t) (sym (c .before .before .before .element .ensures)) ∙ sym (c .before .before .judge-element .ensures) ∙ c .enum-told .given .1) (c .before .before .before .before .before .loop .inv .2))
 
 returns-2 : tie.Need-returns-2 Inv-loop μ-loop
 returns-2 c =
@@ -86,8 +82,8 @@ judge-elements-spec =
     Inv-loop
     μ-loop
     elements-requires
-    cast-n
     loop-holds
+    element-requires
     judge-element-requires
     enum-told
     enum-told-2

@@ -2,7 +2,8 @@ use borrow.Author.Needs.{needs}
 use Rattle.gormulast.proofs.gormulast_build.Statement.{statement}
 use Rattle.gormulast.proofs.gormulast_build.Tie as tie
 use mathlib.Core.Path.{ap, _∙_}
-use Rattle.paper.specs.Calls.{packed}
+use Rattle.paper.specs.Refusals.{told, packed}
+use Rattle.paper.specs.Calls.{Exit, gave}
 
 build-requires : tie.Need-build-requires
 build-requires c κs = search needs
@@ -23,7 +24,11 @@ same-length-4 : tie.Need-same-length-4
 same-length-4 c = search needs
 
 returns : tie.Need-returns
-returns c = (c .packed-answer .ensures ∙ ap packed (c .before .before .before .before .before .build .ensures .0), c .before .before .before .before .before .build .ensures .1)
+returns c =
+    let e = c .before .before .before .before .before .build .ensures in
+    let answer = c .packed-answer .ensures ∙ ap (λ (x : Exit). packed (told (x .answer))) e in
+    let rest = ap (λ (x : Exit). x .lent) e in
+    λ i. gave (answer i) (rest i)
 
 pub gormulast-build-spec : {M : Type 1} → statement M
 gormulast-build-spec =

@@ -2,7 +2,8 @@ use borrow.Author.Needs.{needs}
 use Rattle.gormulast.proofs.gormulast_replace.Statement.{statement}
 use Rattle.gormulast.proofs.gormulast_replace.Tie as tie
 use mathlib.Core.Path.{ap, _∙_}
-use Rattle.paper.specs.Calls.{packed}
+use Rattle.paper.specs.Refusals.{told, packed}
+use Rattle.paper.specs.Calls.{Exit, gave}
 
 replace-requires : tie.Need-replace-requires
 replace-requires c κs = search needs
@@ -26,7 +27,11 @@ same-length-5 : tie.Need-same-length-5
 same-length-5 c = search needs
 
 returns : tie.Need-returns
-returns c = (c .packed-answer .ensures ∙ ap packed (c .before .before .before .before .before .before .before .replace .ensures .0), c .before .before .before .before .before .before .before .replace .ensures .1)
+returns c =
+    let e = c .before .before .before .before .before .before .before .replace .ensures in
+    let answer = c .packed-answer .ensures ∙ ap (λ (x : Exit). packed (told (x .answer))) e in
+    let rest = ap (λ (x : Exit). x .lent) e in
+    λ i. gave (answer i) (rest i)
 
 pub gormulast-replace-spec : {M : Type 1} → statement M
 gormulast-replace-spec =

@@ -2,7 +2,8 @@ use borrow.Author.Needs.{needs}
 use Rattle.gormulast.proofs.gormulast_step.Statement.{statement}
 use Rattle.gormulast.proofs.gormulast_step.Tie as tie
 use mathlib.Core.Path.{ap, _∙_}
-use Rattle.paper.specs.Calls.{packedStep}
+use Rattle.paper.specs.Refusals.{toldStep, packed}
+use Rattle.paper.specs.Calls.{StepExit, gave}
 
 step-requires : tie.Need-step-requires
 step-requires c κs = search needs
@@ -14,7 +15,11 @@ same-length : tie.Need-same-length
 same-length c = search needs
 
 returns : tie.Need-returns
-returns c = (c .packed-step .ensures ∙ ap packedStep (c .before .before .step .ensures .0), c .before .before .step .ensures .1)
+returns c =
+    let e = c .before .before .step .ensures in
+    let answer = c .packed-step .ensures ∙ ap (λ (x : StepExit). packed (toldStep (x .answer))) e in
+    let rest = ap (λ (x : StepExit). x .lent) e in
+    λ i. gave (answer i) (rest i)
 
 pub gormulast-step-spec : {M : Type 1} → statement M
 gormulast-step-spec = tie.close (tie.spec step-requires packed-step-requires same-length returns)

@@ -2,7 +2,8 @@ use borrow.Author.Needs.{needs}
 use Rattle.gormulast.proofs.gormulast_write.Statement.{statement}
 use Rattle.gormulast.proofs.gormulast_write.Tie as tie
 use mathlib.Core.Path.{ap, _∙_}
-use Rattle.paper.specs.Calls.{packed}
+use Rattle.paper.specs.Refusals.{told, packed}
+use Rattle.paper.specs.Calls.{Written, gave}
 
 write-requires : tie.Need-write-requires
 write-requires c κs = search needs
@@ -14,7 +15,11 @@ same-length : tie.Need-same-length
 same-length c = search needs
 
 returns : tie.Need-returns
-returns c = (c .packed-answer .ensures ∙ ap packed (c .before .before .before .write .ensures .0), c .before .before .before .write .ensures .1)
+returns c =
+    let e = c .before .before .before .write .ensures in
+    let answer = c .packed-answer .ensures ∙ ap (λ (w : Written). packed (told (w .answer))) e in
+    let bytes = ap (λ (w : Written). w .bytes) e in
+    λ i. gave (answer i) (bytes i)
 
 pub gormulast-write-spec : {M : Type 1} → statement M
 gormulast-write-spec =

@@ -1,63 +1,19 @@
--- The invariant: no row so far is heavy.
+use borrow.Author.Needs.{needs}
 use Rattle.lent.proofs.heavy.Statement.{statement}
 use Rattle.lent.proofs.heavy.Tie as tie
-use borrow.Author.Needs.{needs}
-use mathlib.Core.Path.{_≡_, refl, sym, _∙_}
-use mathlib.Core.Bool.{false, not}
-use Prim.Native.Nat.{_-_, _^_, _≤_}
-use lib.Dec.{leb}
-use native.Mathlib.Omega.{arith}
-use Rattle.whole.specs.Sums.{any}
-use Rattle.whole.proofs.Sums.{any-next}
-use Rattle.paper.specs.Lent.{rowSize, heavy}
-use Rattle.lent.proofs.Turns.{stop, end}
+use Rattle.lent.proofs.Turns.{light-all}
 
-abbrev Inv-loop : tie.InvT-loop
-Inv-loop m n i₀ i = (i ≤ n) × (any i (λ k. not (leb (rowSize n m k) (2 ^ 33))) ≡ false)
+largest-requires : tie.Need-largest-requires
+largest-requires c κs = search needs
 
-abbrev μ-loop : tie.MeasureT-loop
-μ-loop m n i₀ i = n - i
+returns : tie.Need-returns
+returns c = light-all (c .before .before .args .m .now) (c .before .before .args .n) (c .before .largest .result) (c .before .before .pre .few) (c .before .before .pre .room) (c .before .largest .ensures) (c .if1 .taken)
 
-loop-holds : tie.Need-loop-holds Inv-loop μ-loop
-unfolding any
-loop-holds c = (omega arith, refl)
+heavy-rows-requires : tie.Need-heavy-rows-requires
+heavy-rows-requires c κs = search needs
 
-heavy-row-requires : tie.Need-heavy-row-requires Inv-loop μ-loop
-heavy-row-requires c κs = record { rows = c .before .before .pre; here = c .loop-test .taken }
-
-returns : tie.Need-returns Inv-loop μ-loop
-unfolding heavy
-returns c =
-    let s = c .before .before .before .before .args in
-    stop (s .n) (λ k. not (leb (rowSize (s .n) (s .m .now) k) (2 ^ 33))) (c .before .before .before .loop .i) (c .before .heavy-row .result) (c .before .before .loop-test .taken) (c .before .heavy-row .ensures) (c .if1 .taken)
-
-add-i : tie.Need-add-i Inv-loop μ-loop
-add-i c = omega (arith, c .before .before .before .before .pre .few)
-
-loop-less : tie.Need-loop-less Inv-loop μ-loop
-loop-less c = search needs
-
-loop-again : tie.Need-loop-again Inv-loop μ-loop
-loop-again c =
-    let s = c .before .before .before .before .args in
-    (omega arith, any-next (c .before .before .before .loop .i) (λ k. not (leb (rowSize (s .n) (s .m .now) k) (2 ^ 33))) (c .before .before .before .loop .inv .1) (sym (c .before .heavy-row .ensures) ∙ c .if1 .left))
-
-returns-2 : tie.Need-returns-2 Inv-loop μ-loop
-unfolding heavy
-returns-2 c =
-    let s = c .before .before .args in
-    end (s .n) (λ k. not (leb (rowSize (s .n) (s .m .now) k) (2 ^ 33))) (c .before .loop .i) (omega arith) (c .before .loop .inv .1)
+returns-2 : tie.Need-returns-2
+returns-2 c = search needs
 
 pub heavy-spec : {M : Type 1} → statement M
-heavy-spec =
-    tie.close
-    (tie.spec
-    Inv-loop
-    μ-loop
-    loop-holds
-    heavy-row-requires
-    returns
-    add-i
-    loop-less
-    loop-again
-    returns-2)
+heavy-spec = tie.close (tie.spec largest-requires returns heavy-rows-requires returns-2)

@@ -1,42 +1,62 @@
--- Three times a share at a corner.
 use borrow.Author.Needs.{needs}
 use Rattle.loads.proofs.spread.Statement.{statement}
 use Rattle.loads.proofs.spread.Tie as tie
-use Rattle.loads.proofs.Corners.{corner-0, corner-1, corner-2, spread-is}
+use mathlib.Core.Path.{refl}
+use Prim.Native.Nat.{_-_}
+use native.Mathlib.Omega.{arith}
+use Rattle.part.specs.Forms.{cornersOf}
+use Rattle.part.proofs.Leasts.{corner-is}
+use Rattle.loads.proofs.Corners.{SpreadInv, spread-start, spread-long, spread-corner, spread-next, spread-end}
 
-array-copy-out-add : tie.Need-array-copy-out-add
-array-copy-out-add c = search needs
+abbrev Inv-loop : tie.InvT-loop
+Inv-loop r₀ c shares nodes a₀ r a = SpreadInv r₀ r (cornersOf c) shares a
 
-add-requires : tie.Need-add-requires
-add-requires c κs = corner-0 (c .before .before .args .t2) (c .before .before .pre)
+abbrev μ-loop : tie.MeasureT-loop
+μ-loop r₀ c shares nodes a₀ r a = c .count - a
 
-array-copy-out-add-2 : tie.Need-array-copy-out-add-2
-array-copy-out-add-2 c = search needs
+loop-holds : tie.Need-loop-holds Inv-loop μ-loop
+loop-holds c = spread-start (c .before .args .r .now) (cornersOf (c .before .args .c)) (c .before .args .t3)
 
-add-requires-2 : tie.Need-add-requires-2
-add-requires-2 c κs = corner-1 (c .before .before .before .before .before .before .args .t2) (c .before .before .before .before .before .before .pre) (c .before .before .before .add .ensures)
+array-copy-out-add : tie.Need-array-copy-out-add Inv-loop μ-loop
+array-copy-out-add c = omega (arith, c .before .before .before .before .before .pre .0 .few)
 
-array-copy-out-add-3 : tie.Need-array-copy-out-add-3
-array-copy-out-add-3 c = search needs
+mul-add : tie.Need-mul-add Inv-loop μ-loop
+mul-add c = search needs
 
-add-requires-3 : tie.Need-add-requires-3
-add-requires-3 c κs = corner-2 (c .before .before .before .before .before .before .before .before .before .before .args .t2) (c .before .before .before .before .before .before .before .before .before .before .pre) (c .before .before .before .before .before .before .before .add .ensures) (c .before .before .before .add2 .ensures)
+array-read-add : tie.Need-array-read-add Inv-loop μ-loop
+array-read-add c = search needs
 
-same-length : tie.Need-same-length
-same-length c = search needs
+add-requires : tie.Need-add-requires Inv-loop μ-loop
+add-requires c κs = spread-corner (c .before .before .before .before .before .before .pre .1) (c .before .before .before .before .loop .inv) (omega (arith, c .before .before .before .before .before .before .pre .0 .full)) _ (corner-is (c .before .before .before .before .before .before .args .c) (c .before .before .before .before .loop .a) (c .before .before .if1 .taken)) _ refl
 
-returns : tie.Need-returns
-returns c = spread-is (c .before .before .before .before .before .before .before .before .before .before .before .before .args .t2) (c .before .before .before .before .before .before .before .before .before .before .before .before .pre) (c .before .before .before .before .before .before .before .before .before .add .ensures) (c .before .before .before .before .before .add2 .ensures) (c .before .add3 .ensures)
+add-a : tie.Need-add-a Inv-loop μ-loop
+add-a c = omega (arith, c .before .before .before .before .before .before .before .before .pre .0 .few)
+
+loop-less : tie.Need-loop-less Inv-loop μ-loop
+loop-less c = omega arith
+
+loop-again : tie.Need-loop-again Inv-loop μ-loop
+loop-again c = spread-next (c .before .before .before .before .before .before .before .before .pre .1) (c .before .before .before .before .before .before .loop .inv) (omega (arith, c .before .before .before .before .before .before .before .before .pre .0 .full)) _ (corner-is (c .before .before .before .before .before .before .before .before .args .c) (c .before .before .before .before .before .before .loop .a) (c .before .before .before .before .if1 .taken)) _ refl (c .before .add .ensures)
+
+same-length : tie.Need-same-length Inv-loop μ-loop
+same-length c = spread-long (c .before .before .before .before .pre .1) (c .before .before .loop .inv)
+
+returns : tie.Need-returns Inv-loop μ-loop
+returns c = spread-end (c .before .before .before .before .pre .1) (c .before .before .loop .inv) (omega (arith, c .before .before .before .before .pre .0 .full))
 
 pub spread-spec : {M : Type 1} → statement M
 spread-spec =
     tie.close
     (tie.spec
+    Inv-loop
+    μ-loop
+    loop-holds
     array-copy-out-add
+    mul-add
+    array-read-add
     add-requires
-    array-copy-out-add-2
-    add-requires-2
-    array-copy-out-add-3
-    add-requires-3
+    add-a
+    loop-less
+    loop-again
     same-length
     returns)

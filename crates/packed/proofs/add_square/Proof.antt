@@ -1,40 +1,47 @@
--- Six places written are the whole triangle with what the square spreads.
-use borrow.Author.Needs.{needs}
 use Rattle.packed.proofs.add_square.Statement.{statement}
 use Rattle.packed.proofs.add_square.Tie as tie
-use mathlib.Core.Path.{_≡_, ap, sym, subst, _∙_}
-use mathlib.Core.List.{List}
-use Prim.Native.Nat.{ℕ, _+_, _^_}
+use borrow.Author.Needs.{needs}
+use Prim.Native.Nat.{_-_}
 use native.Mathlib.Omega.{arith}
-use lib.IntN.{ℤ}
-use lib.ListN.{length}
-use Rattle.paper.proofs.Places.{addSquare, length-square}
-use Rattle.triangle.specs.Forms.{at}
-use Rattle.packed.specs.Forms.{numbers}
-use Rattle.packed.specs.Asks.{Bounded, Adds, Takes}
-use Rattle.packed.proofs.Adding.{two-size, six}
+use Rattle.packed.proofs.Adding.{Square, square-start, square-long, square-asks, square-next, square-end}
 
-third : {xs ys : List ℤ} (ns : List ℕ) (q : List (List ℤ)) → Takes xs ns q → ys ≡ addSquare 2 xs ns (at q) → Adds (2 ^ 55) ys ns q
-third {xs} ns q h e = record {
-  n = h .adds .n;
-  few = h .adds .few;
-  long = ap length e ∙ length-square 2 xs ns (at q) ∙ h .adds .long;
-  corners = h .adds .corners;
-  small = record { each = λ k. omega (arith, subst (Bounded (2 ^ 52 + 2 ^ 52 + 2 ^ 52 + 2 ^ 52)) (sym e) (two-size (2 ^ 52) xs ns q (h .adds .small) (h .adds .square)) .each k) };
-  square = h .adds .square;
-}
+abbrev Inv-loop : tie.InvT-loop
+Inv-loop xs₀ q n nodes a₀ xs a = Square n xs₀ nodes q xs a
 
-add-two-requires : tie.Need-add-two-requires
-add-two-requires c κs = search needs
+abbrev μ-loop : tie.MeasureT-loop
+μ-loop xs₀ q n nodes a₀ xs a = n - a
 
-add-third-requires : tie.Need-add-third-requires
-add-third-requires c κs = third (numbers (c .before .before .before .before .args .c)) (c .before .before .before .before .args .q) (c .before .before .before .before .pre) (c .before .before .add-two .ensures)
+loop-holds : tie.Need-loop-holds Inv-loop μ-loop
+loop-holds c = square-start (c .before .args .c .count) (c .before .args .xs .now) (c .before .args .c .nodes) (c .before .args .q)
 
-same-length : tie.Need-same-length
-same-length c = search needs
+add-row-requires : tie.Need-add-row-requires Inv-loop μ-loop
+add-row-requires c κs = square-asks (c .before .before .before .before .pre) (c .before .before .loop .inv) (c .before .loop-test .taken)
 
-returns : tie.Need-returns
-returns c = six (numbers (c .before .before .before .before .before .before .args .c)) (c .before .before .before .before .before .before .args .q) (c .before .before .before .before .before .before .pre) (c .before .before .before .before .add-two .ensures) (c .before .add-third .ensures)
+add-a : tie.Need-add-a Inv-loop μ-loop
+add-a c = omega (arith, c .before .before .before .before .before .before .pre .most)
+
+loop-less : tie.Need-loop-less Inv-loop μ-loop
+loop-less c = omega arith
+
+loop-again : tie.Need-loop-again Inv-loop μ-loop
+loop-again c = square-next (c .before .before .before .before .before .before .pre) (c .before .before .before .before .loop .inv) (c .before .before .before .loop-test .taken) (c .before .add-row .ensures)
+
+same-length : tie.Need-same-length Inv-loop μ-loop
+same-length c = square-long (c .before .before .before .pre) (c .before .loop .inv)
+
+returns : tie.Need-returns Inv-loop μ-loop
+returns c = square-end (c .before .before .before .pre) (c .before .loop .inv) (omega arith)
 
 pub add-square-spec : {M : Type 1} → statement M
-add-square-spec = tie.close (tie.spec add-two-requires add-third-requires same-length returns)
+add-square-spec =
+    tie.close
+    (tie.spec
+    Inv-loop
+    μ-loop
+    loop-holds
+    add-row-requires
+    add-a
+    loop-less
+    loop-again
+    same-length
+    returns)

@@ -1,49 +1,47 @@
--- By the letter; a card that is neither adds nothing.
 use borrow.Author.Needs.{needs}
 use Rattle.packed.proofs.add_to_a.Statement.{statement}
 use Rattle.packed.proofs.add_to_a.Tie as tie
-use mathlib.Core.Path.{_∙_}
-use Rattle.paper.specs.Cards.{nodes}
-use Rattle.paper.specs.Matrices.{addsA}
-use Rattle.paper.proofs.Adds.{other-adds-A}
-use Rattle.packed.proofs.Squares.{unchanged}
+use Rattle.packed.proofs.Turn.{stays-A, turn-card, turn-solid, turn-a-takes, turn-a-gives}
 
 field-requires : tie.Need-field-requires
 field-requires c κs = search needs
 
-add-element-requires : tie.Need-add-element-requires
-add-element-requires c κs = search needs
+stirs-requires : tie.Need-stirs-requires
+stirs-requires c κs = search needs
+
+returns : tie.Need-returns
+returns c = stays-A (c .before .before .before .before .args .table .now) (c .before .before .before .before .args .row) (c .before .before .field .ensures) (c .before .stirs .ensures) (c .if1 .taken) (c .before .before .before .before .args .xs .now) (c .before .before .before .before .pre)
+
+card-at-requires : tie.Need-card-at-requires
+card-at-requires c κs = search needs
+
+corners-of-requires : tie.Need-corners-of-requires
+corners-of-requires c κs = turn-card (c .before .before .before .before .before .args .table .now) (c .before .before .before .before .before .args .row) (c .before .before .before .field .ensures) (c .before .before .stirs .ensures) (c .before .if1 .left) (c .before .before .before .before .before .args .xs .now) (c .before .before .before .before .before .pre) (c .card-at .ensures)
+
+square-a-requires : tie.Need-square-a-requires
+square-a-requires c κs = turn-solid (c .before .before .before .before .before .before .before .args .table .now) (c .before .before .before .before .before .before .before .args .row) (c .before .before .before .before .before .field .ensures) (c .before .before .before .before .stirs .ensures) (c .before .before .before .if1 .left) (c .before .before .before .before .before .before .before .args .xs .now) (c .before .before .before .before .before .before .before .pre) (c .before .before .card-at .ensures)
+
+add-square-requires : tie.Need-add-square-requires
+add-square-requires c κs =
+    turn-a-takes (c .before .before .before .before .before .before .before .before .args .table .now) (c .before .before .before .before .before .before .before .before .args .row) (c .before .before .before .before .before .before .field .ensures) (c .before .before .before .before .before .stirs .ensures) (c .before .before .before .before .if1 .left) (c .before .before .before .before .before .before .before .before .args .xs .now) (c .before .before .before .before .before .before .before .before .pre) (c .before .before .before .card-at .ensures) (c .before .before .corners-of .result) (c .before .before .corners-of .ensures .0) (c .before .before .corners-of .ensures .1) (c .square-a .result) (c .square-a .ensures)
 
 same-length : tie.Need-same-length
 same-length c = search needs
 
-returns : tie.Need-returns
-returns c = search needs
-
-add-film-requires : tie.Need-add-film-requires
-add-film-requires c κs = search needs
-
-same-length-2 : tie.Need-same-length-2
-same-length-2 c = search needs
-
 returns-2 : tie.Need-returns-2
-returns-2 c = search needs
-
-returns-3 : tie.Need-returns-3
-returns-3 c =
-    let t = c .before .before .before .before .args .table .now in
-    unchanged (nodes t) (c .before .before .before .before .args .xs .now) (addsA t (c .before .before .before .before .args .row)) (c .before .before .before .before .pre .long)
-    (λ i j. other-adds-A t (c .before .before .before .before .args .row) i j (λ e. c .before .if1 .left (c .before .before .field .ensures ∙ e)) (λ e. c .if2 .left (c .before .before .field .ensures ∙ e)))
+returns-2 c =
+    turn-a-gives (c .before .before .before .before .before .before .before .before .before .before .args .table .now) (c .before .before .before .before .before .before .before .before .before .before .args .row) (c .before .before .before .before .before .before .before .before .field .ensures) (c .before .before .before .before .before .before .before .stirs .ensures) (c .before .before .before .before .before .before .if1 .left) (c .before .before .before .before .before .before .before .before .before .before .args .xs .now) (c .before .before .before .before .before .before .before .before .before .before .pre) (c .before .before .before .before .before .card-at .ensures) (c .before .before .before .before .corners-of .result) (c .before .before .before .before .corners-of .ensures .0) (c .before .before .before .before .corners-of .ensures .1) (c .before .before .square-a .result) (c .before .before .square-a .ensures) (c .before .add-square .ensures)
 
 pub add-to-a-spec : {M : Type 1} → statement M
 add-to-a-spec =
     tie.close
     (tie.spec
     field-requires
-    add-element-requires
-    same-length
+    stirs-requires
     returns
-    add-film-requires
-    same-length-2
-    returns-2
-    returns-3)
+    card-at-requires
+    corners-of-requires
+    square-a-requires
+    add-square-requires
+    same-length
+    returns-2)

@@ -8,12 +8,13 @@ use native.Mathlib.Omega.{arith}
 use lib.ListN.{length}
 use Rattle.whole.proofs.Packed.{length-lower}
 use Rattle.paper.specs.Cards.{rows, nodes}
+use Rattle.paper.specs.Parts.{partAt}
 use Rattle.paper.specs.Matrices.{addsA, A}
 use Rattle.paper.proofs.Weights.{part-A}
 use Rattle.packed.proofs.Assembling.{partly, walk-none, walk-more, walk-card}
 
 abbrev Inv-loop : tie.InvT-loop
-Inv-loop table xs₀ row₀ xs row = (row ≤ rows table) × (xs ≡ partly (nodes table) (addsA table) row)
+Inv-loop table xs₀ row₀ xs row = (row ≤ rows table) × (xs ≡ partly (nodes table) (λ r. addsA (partAt table r)) row)
 
 abbrev μ-loop : tie.MeasureT-loop
 μ-loop table xs₀ row₀ xs row = rows table - row
@@ -24,7 +25,7 @@ fill-requires c κs = search needs
 loop-holds : tie.Need-loop-holds Inv-loop μ-loop
 loop-holds c =
     let t = c .before .before .before .before .args .table .now in
-    (omega arith, walk-none (nodes t) (addsA t) (c .before .before .before .before .args .xs .now) (c .before .fill .last .0) (c .before .before .before .before .pre .1) (c .before .fill .ensures))
+    (omega arith, walk-none (nodes t) (λ r. addsA (partAt t r)) (c .before .before .before .before .args .xs .now) (c .before .fill .last .0) (c .before .before .before .before .pre .1) (c .before .fill .ensures))
 
 mul-loop : tie.Need-mul-loop Inv-loop μ-loop
 mul-loop c = omega (arith, c .loop .inv .0, c .before .before .before .before .before .pre .0 .deck .few)
@@ -32,7 +33,7 @@ mul-loop c = omega (arith, c .loop .inv .0, c .before .before .before .before .b
 add-to-a-requires : tie.Need-add-to-a-requires Inv-loop μ-loop
 add-to-a-requires c κs =
     let t = c .before .before .before .before .before .before .before .args .table .now in
-    walk-card t (addsA t) (c .before .before .loop .row) (c .before .before .loop .xs) (c .before .before .before .before .before .before .before .pre .0) (omega (arith, c .before .before .before .before .before .before .before .pre .0 .deck .whole)) (c .before .before .loop .inv .1) (λ i j. part-A t (c .before .before .before .before .before .before .before .pre .0 .deck) (c .before .before .before .before .before .before .before .pre .0 .passed) (c .before .before .loop .row) i j (c .before .before .loop .inv .0))
+    walk-card t (λ r. addsA (partAt t r)) (c .before .before .loop .row) (c .before .before .loop .xs) (c .before .before .before .before .before .before .before .pre .0) (omega (arith, c .before .before .before .before .before .before .before .pre .0 .deck .whole)) (c .before .before .loop .inv .1) (λ i j. part-A t (c .before .before .before .before .before .before .before .pre .0 .deck) (c .before .before .before .before .before .before .before .pre .0 .passed) (c .before .before .loop .row) i j (c .before .before .loop .inv .0))
 
 add-row : tie.Need-add-row Inv-loop μ-loop
 add-row c = omega (arith, c .before .before .before .before .loop .inv .0, c .before .before .before .before .before .before .before .before .before .pre .0 .deck .few)
@@ -43,7 +44,7 @@ loop-less c = omega (arith, c .before .before .before .before .before .before .b
 loop-again : tie.Need-loop-again Inv-loop μ-loop
 loop-again c =
     let t = c .before .before .before .before .before .before .before .before .before .args .table .now in
-    (omega (arith, c .before .before .before .before .before .before .before .before .before .pre .0 .deck .whole), walk-more (nodes t) (c .before .before .before .before .loop .row) (addsA t) (c .before .before .before .before .loop .xs) (c .before .add-to-a .last .1 .1 .0) (c .before .before .before .before .loop .inv .1) (c .before .add-to-a .ensures))
+    (omega (arith, c .before .before .before .before .before .before .before .before .before .pre .0 .deck .whole), walk-more (nodes t) (c .before .before .before .before .loop .row) (λ r. addsA (partAt t r)) (c .before .before .before .before .loop .xs) (c .before .add-to-a .last .1 .1 .0) (c .before .before .before .before .loop .inv .1) (c .before .add-to-a .ensures))
 
 same-length : tie.Need-same-length Inv-loop μ-loop
 same-length c = ap length (c .before .loop .inv .1) ∙ length-lower _ _ ∙ sym (c .before .before .before .before .before .before .pre .1)
@@ -52,7 +53,7 @@ returns : tie.Need-returns Inv-loop μ-loop
 unfolding A
 returns c =
     let t = c .before .before .before .before .before .before .args .table .now in
-    c .before .loop .inv .1 ∙ ap (partly (nodes t) (addsA t)) (omega (arith, c .before .loop .inv .0, c .before .before .before .before .before .before .pre .0 .deck .whole))
+    c .before .loop .inv .1 ∙ ap (partly (nodes t) (λ r. addsA (partAt t r))) (omega (arith, c .before .loop .inv .0, c .before .before .before .before .before .before .pre .0 .deck .whole))
 
 pub assemble-a-spec : {M : Type 1} → statement M
 assemble-a-spec =

@@ -1,47 +1,58 @@
--- A T card's node; any other card fixes none.
 use borrow.Author.Needs.{needs}
 use Rattle.packed.proofs.clear_card.Statement.{statement}
 use Rattle.packed.proofs.clear_card.Tie as tie
-use mathlib.Core.Path.{sym, ap, _∙_}
+use mathlib.Core.Path.{_≡_, sym, ap, _∙_}
 use mathlib.Core.Bool.{Bool, _&&_}
-use Prim.Native.Nat.{suc}
+use mathlib.Core.List.{List}
+use Prim.Native.Nat.{ℕ, suc, _<_}
 use native.Mathlib.Omega.{arith}
 use borrow.Author.Tests.{ne-eqb}
 use lib.Dec.{eqb}
-use Rattle.whole.specs.Packed.{entry, lower}
-use Rattle.paper.specs.Cards.{field, letter, nodes}
+use Rattle.whole.specs.Packed.{entry, lower, tri}
+use Rattle.paper.specs.Kinds.{about, letterOf}
+use Rattle.paper.specs.Cards.{field, letter, nodes, rows}
 use Rattle.paper.specs.Matrices.{cleared}
+use Rattle.paper.specs.declared.Kind.the-variants.{T}
+use Rattle.paper.specs.declared.About.{About}
+use Rattle.paper.proofs.Decks.{Deck, In}
+use Rattle.paper.proofs.Letters.{kind-of}
+use Rattle.paper.proofs.Spans.{names-T}
 use Rattle.packed.proofs.Clearing.{clear-other, clear-T}
-use Rattle.whole.specs.Packed.{tri}
+
+-- the letter read is T's
+is-T : {l : ℕ} {a : About} (t : List ℕ) (row : ℕ) → l ≡ field t row 0 → a ≡ about T → l ≡ a .letter → letter t row ≡ letterOf T
+is-T t row e f q = sym e ∙ q ∙ ap (λ (a : About). a .letter) f
+
+node-of : (t : List ℕ) (row : ℕ) → Deck t → row < rows t → letter t row ≡ letterOf T → In 1 (nodes t) (field t row 1)
+node-of t row d h e = names-T t d row h (kind-of (letter t row) T e)
 
 field-requires : tie.Need-field-requires
 field-requires c κs = search needs
 
+about-requires : tie.Need-about-requires
+about-requires c κs = search needs
+
 returns : tie.Need-returns
 returns c =
-    let t = c .before .before .before .args .table .now in
-    let row = c .before .before .before .args .row in
-    clear-other (nodes t) t row (c .before .before .before .args .xs .now) (c .before .before .before .pre .long) (λ k. ap (λ (b : Bool). b && eqb (field t row 1) (suc k)) (ne-eqb (letter t row) 84 (λ e. c .if1 .taken (c .before .field .ensures ∙ e))))
+    let t = c .before .before .before .before .before .args .table .now in
+    clear-other (nodes t) t (c .before .before .before .before .before .args .row) (c .before .before .before .before .before .args .xs .now) (c .before .before .before .before .before .pre .long) (λ k. ap (λ (b : Bool). b && eqb (field t (c .before .before .before .before .before .args .row) 1) (suc k)) (ne-eqb (letter t (c .before .before .before .before .before .args .row)) (letterOf T) (λ e. c .if1 .taken (c .before .before .before .field .ensures ∙ e ∙ sym (ap (λ (a : About). a .letter) (c .before .before .about .ensures))))))
 
 field-requires-2 : tie.Need-field-requires-2
 field-requires-2 c κs = search needs
 
-cast-t7 : tie.Need-cast-t7
-cast-t7 c =
-    let isT = sym (c .before .before .field .ensures) ∙ c .before .if1 .left in
-    omega (arith, c .field2 .ensures, c .before .before .before .before .pre .deck .ofT (c .before .before .before .before .args .row) (c .before .before .before .before .pre .inside) isT, c .before .before .before .before .pre .deck .someN)
+node-requires : tie.Need-node-requires
+node-requires c κs = omega (arith, c .field2 .ensures, node-of (c .before .before .before .before .before .before .args .table .now) (c .before .before .before .before .before .before .args .row) (c .before .before .before .before .before .before .pre .deck) (c .before .before .before .before .before .before .pre .inside) (is-T (c .before .before .before .before .before .before .args .table .now) (c .before .before .before .before .before .before .args .row) (c .before .before .before .before .field .ensures) (c .before .before .before .about .ensures) (c .before .if1 .left)), c .before .before .before .before .before .before .pre .deck .someN)
 
 nodes-requires : tie.Need-nodes-requires
 nodes-requires c κs = search needs
 
 clear-node-requires : tie.Need-clear-node-requires
 clear-node-requires c κs =
-    let isT = sym (c .before .before .before .before .field .ensures) ∙ c .before .before .before .if1 .left in
-    let among = c .before .before .before .before .before .before .pre .deck .ofT (c .before .before .before .before .before .before .args .row) (c .before .before .before .before .before .before .pre .inside) isT in
+    let among = node-of (c .before .before .before .before .before .before .before .before .before .args .table .now) (c .before .before .before .before .before .before .before .before .before .args .row) (c .before .before .before .before .before .before .before .before .before .pre .deck) (c .before .before .before .before .before .before .before .before .before .pre .inside) (is-T (c .before .before .before .before .before .before .before .before .before .args .table .now) (c .before .before .before .before .before .before .before .before .before .args .row) (c .before .before .before .before .before .before .before .field .ensures) (c .before .before .before .before .before .before .about .ensures) (c .before .before .before .before .if1 .left)) in
     record {
-      few = omega (arith, c .nodes .ensures, c .before .before .before .before .before .before .pre .deck .someN);
-      long = c .before .before .before .before .before .before .pre .long ∙ ap tri (sym (c .nodes .ensures));
-      among = (omega (arith, c .before .before .field2 .ensures, among), omega (arith, c .before .before .field2 .ensures, c .nodes .ensures, among));
+      few = omega (arith, c .nodes .ensures, c .before .before .before .before .before .before .before .before .before .pre .deck .someN);
+      long = c .before .before .before .before .before .before .before .before .before .pre .long ∙ ap tri (sym (c .nodes .ensures));
+      among = (omega (arith, c .before .before .node .ensures, c .before .before .before .field2 .ensures, among), omega (arith, c .before .before .node .ensures, c .before .before .before .field2 .ensures, c .nodes .ensures, among));
     }
 
 same-length : tie.Need-same-length
@@ -49,20 +60,20 @@ same-length c = search needs
 
 returns-2 : tie.Need-returns-2
 returns-2 c =
-    let t = c .before .before .before .before .before .before .before .before .args .table .now in
-    let isT = sym (c .before .before .before .before .before .before .field .ensures) ∙ c .before .before .before .before .before .if1 .left in
+    let t = c .before .before .before .before .before .before .before .before .before .before .before .args .table .now in
     c .before .clear-node .ensures
-    ∙ (λ d. lower (c .before .before .nodes .ensures d) (cleared (λ k. eqb (c .before .before .before .before .field2 .ensures d) (suc k)) (entry (c .before .before .before .before .before .before .before .before .args .xs .now))))
-    ∙ clear-T (nodes t) t (c .before .before .before .before .before .before .before .before .args .row) (c .before .before .before .before .before .before .before .before .args .xs .now) isT
+    ∙ (λ d. lower (c .before .before .nodes .ensures d) (cleared (λ k. eqb ((c .before .before .before .before .node .ensures ∙ c .before .before .before .before .before .field2 .ensures) d) (suc k)) (entry (c .before .before .before .before .before .before .before .before .before .before .before .args .xs .now))))
+    ∙ clear-T (nodes t) t (c .before .before .before .before .before .before .before .before .before .before .before .args .row) (c .before .before .before .before .before .before .before .before .before .before .before .args .xs .now) (is-T t (c .before .before .before .before .before .before .before .before .before .before .before .args .row) (c .before .before .before .before .before .before .before .before .before .field .ensures) (c .before .before .before .before .before .before .before .before .about .ensures) (c .before .before .before .before .before .before .if1 .left))
 
 pub clear-card-spec : {M : Type 1} → statement M
 clear-card-spec =
     tie.close
     (tie.spec
     field-requires
+    about-requires
     returns
     field-requires-2
-    cast-t7
+    node-requires
     nodes-requires
     clear-node-requires
     same-length

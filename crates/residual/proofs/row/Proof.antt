@@ -1,5 +1,6 @@
 -- The invariant: the rows of the columns so far have their terms, and row i's own sum has the same columns.
 use Rattle.residual.proofs.row.Statement.{statement}
+use Rattle.whole.specs.Sums.{sum as total}
 use Rattle.residual.proofs.row.Tie as tie
 use borrow.Author.Needs.{needs}
 use mathlib.Core.Path.{_≡_, sym, _∙_}
@@ -8,7 +9,6 @@ use native.Mathlib.Omega.{arith}
 use lib.IntN.{_+ℤ_}
 use mir.Syntax.{w64}
 use mir.Val.{toZ}
-use Rattle.whole.specs.Sums.{sum as total}
 use Rattle.whole.specs.Packed.{cell}
 use Rattle.whole.proofs.Sums.{filled, filled-none}
 use Rattle.residual.specs.Asks.{mixed}

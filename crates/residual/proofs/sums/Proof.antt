@@ -4,7 +4,7 @@ use Rattle.residual.proofs.sums.Tie as tie
 use borrow.Author.Needs.{needs}
 use Prim.Native.Nat.{_-_}
 use native.Mathlib.Omega.{arith}
-use Rattle.paper.specs.Step.{board}
+use Rattle.residual.specs.Asks.{board}
 use Rattle.residual.proofs.Pass.{SumsInv, sums-start, sums-row, after-long, sums-next, sums-end}
 
 abbrev Inv-loop : tie.InvT-loop

@@ -1,9 +1,8 @@
--- The deck's own refusals come first.
-use borrow.Author.Needs.{needs}
 use Rattle.step.proofs.step.Statement.{statement}
 use Rattle.step.proofs.step.Tie as tie
+use borrow.Author.Needs.{needs}
 use mathlib.Core.Path.{sym, _∙_}
-use Rattle.step.proofs.Refusing.{deck-returns}
+use Rattle.step.proofs.Refusing.{deck-refused}
 
 judge-requires : tie.Need-judge-requires
 judge-requires c κs = search needs
@@ -12,22 +11,19 @@ enum-known-verdict : tie.Need-enum-known-verdict
 enum-known-verdict c = search needs
 
 returns : tie.Need-returns
-returns c =
-    let s = c .before .before .before .before .before .args in
-    let x = deck-returns (s .table .now) (s .p .now) (s .a .now) (s .factor .now) (s .temperatures .now) _ (sym (c .before .before .before .judge .ensures) ∙ c .before .verdict .given .1) in
-    (x .answer-is, x .left-is)
+returns c = let s = c .before .before .before .before .before .args in deck-refused (s .table .now) (s .p .now) (s .a .now) (s .factor .now) (s .temperatures .now) _ (sym (c .before .before .before .judge .ensures) ∙ c .before .verdict .given .1)
 
 enum-told : tie.Need-enum-told
 enum-told c = search needs
 
-past-9-requires : tie.Need-past-9-requires
-past-9-requires c κs = sym (c .before .before .before .judge .ensures) ∙ c .before .enum-told .given .1
+judged-step-requires : tie.Need-judged-step-requires
+judged-step-requires c κs = sym (c .before .before .before .judge .ensures) ∙ c .before .enum-told .given .1
 
 same-length : tie.Need-same-length
 same-length c = search needs
 
 returns-2 : tie.Need-returns-2
-returns-2 c = (c .before .past-9 .ensures .answer-is, c .before .past-9 .ensures .left-is)
+returns-2 c = c .before .judged-step .ensures
 
 pub step-spec : {M : Type 1} → statement M
 step-spec =
@@ -37,6 +33,6 @@ step-spec =
     enum-known-verdict
     returns
     enum-told
-    past-9-requires
+    judged-step-requires
     same-length
     returns-2)

@@ -5,7 +5,7 @@ use Rattle.step.proofs.work.Tie as tie
 use mathlib.Core.Path.{refl}
 use lib.IntN.{pos}
 use lib.ListN.{replicate}
-use Rattle.step.proofs.Ends.{part-long}
+use Rattle.step.proofs.Arrays.{part-long}
 
 sub-prepared : tie.Need-sub-prepared
 sub-prepared c = search needs

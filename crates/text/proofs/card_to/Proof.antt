@@ -4,7 +4,10 @@ use Rattle.text.proofs.card_to.Tie as tie
 use mathlib.Core.Path.{ap, _∙_}
 use native.Mathlib.Omega.{arith}
 use lib.ListN.{length-set}
-use Rattle.paper.specs.Cards.{used, letterOf}
+use Rattle.paper.specs.Kinds.{about}
+use Rattle.paper.specs.Cards.{used}
+use Rattle.paper.specs.declared.About.{About}
+use Rattle.kinds.proofs.Sections.{small}
 use Rattle.text.proofs.PrintCard.{text-card}
 
 shared-slice-read-kind : tie.Need-shared-slice-read-kind
@@ -13,8 +16,11 @@ shared-slice-read-kind c = search needs
 kind-requires : tie.Need-kind-requires
 kind-requires c κs = search needs
 
-letter-of-requires : tie.Need-letter-of-requires
-letter-of-requires c κs = search needs
+about-requires : tie.Need-about-requires
+about-requires c κs = search needs
+
+cast-out : tie.Need-cast-out
+cast-out c = omega (arith, ap (λ (b : About). b .letter) (c .before .about .ensures), small (c .before .before .kind .result) .letter)
 
 slice-write-out : tie.Need-slice-write-out
 slice-write-out c = search needs
@@ -26,17 +32,20 @@ fields-to-requires : tie.Need-fields-to-requires
 fields-to-requires c κs = search needs
 
 slice-write-out-2 : tie.Need-slice-write-out-2
-slice-write-out-2 c = omega (arith, c .before .before .fields-to .kept .1 .1 .0, length-set (c .before .before .before .before .before .before .before .before .before .before .args .out .now) 0 (c .before .before .before .before .before .letter-of .result))
+slice-write-out-2 c = omega (arith, c .before .before .fields-to .kept .1 .1 .0, length-set (c .before .before .before .before .before .before .before .before .before .before .before .args .out .now) 0 (c .before .before .before .before .before .before .about .result .letter))
 
 same-length : tie.Need-same-length
-same-length c = simp length-set (c .before .before .fields-to .kept .1 .1 .0 ∙ length-set (c .before .before .before .before .before .before .before .before .before .before .args .out .now) 0 (c .before .before .before .before .before .letter-of .result))
+same-length c = simp length-set (c .before .before .fields-to .kept .1 .1 .0 ∙ length-set (c .before .before .before .before .before .before .before .before .before .before .before .args .out .now) 0 (c .before .before .before .before .before .before .about .result .letter))
 
 returns : tie.Need-returns
 returns c =
-    let o = c .before .before .before .before .before .before .before .before .before .before .args .out .now in
-    text-card (c .before .before .before .before .before .before .before .before .before .before .args .card .now) o (c .before .before .fields-to .last .1 .1 .0) (c .before .before .before .before .before .letter-of .result) (c .before .before .before .before .used-of .result) (c .before .before .before .before .before .before .before .before .before .before .pre .1)
-    (c .before .before .fields-to .kept .1 .1 .0 ∙ length-set o 0 (c .before .before .before .before .before .letter-of .result) ∙ c .before .before .before .before .before .before .before .before .before .before .pre .1)
-    (c .before .before .before .before .before .letter-of .ensures ∙ ap letterOf (c .before .before .before .before .before .before .kind .ensures)) (c .before .before .before .before .used-of .ensures .0 ∙ ap used (c .before .before .before .before .before .before .kind .ensures)) (c .before .before .fields-to .ensures)
+    let o = c .before .before .before .before .before .before .before .before .before .before .before .args .out .now in
+    let l = c .before .before .before .before .before .before .about .result .letter in
+    let kind = c .before .before .before .before .before .before .before .kind .ensures in
+    text-card (c .before .before .before .before .before .before .before .before .before .before .before .args .card .now) o (c .before .before .fields-to .last .1 .1 .0) l (c .before .before .before .before .used-of .result) (c .before .before .before .before .before .before .before .before .before .before .before .pre .1) (c .before .before .fields-to .kept .1 .1 .0 ∙ length-set o 0 l ∙ c .before .before .before .before .before .before .before .before .before .before .before .pre .1)
+    (ap (λ (b : About). b .letter) (c .before .before .before .before .before .before .about .ensures ∙ ap about kind))
+    (c .before .before .before .before .used-of .ensures .0 ∙ ap used kind)
+    (c .before .before .fields-to .ensures)
 
 pub card-to-spec : {M : Type 1} → statement M
 card-to-spec =
@@ -44,7 +53,8 @@ card-to-spec =
     (tie.spec
     shared-slice-read-kind
     kind-requires
-    letter-of-requires
+    about-requires
+    cast-out
     slice-write-out
     used-of-requires
     fields-to-requires

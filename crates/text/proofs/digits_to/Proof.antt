@@ -5,11 +5,11 @@ use mathlib.Core.Path.{_≡_, refl, sym, ap, _∙_}
 use Prim.Native.Nat.{ℕ, _-_, _≤_}
 use native.Mathlib.Omega.{arith}
 use lib.ListN.{length, take, drop, replicate, length-set}
-use Rattle.paper.specs.Text.{columns}
-use Rattle.text.proofs.PrintField.{blanks-kept, columns-end, columns-on}
+use Rattle.paper.specs.Text.{spaced}
+use Rattle.text.proofs.PrintField.{blanks-kept, spaced-end, spaced-on}
 
 abbrev Inv-loop : tie.InvT-loop
-Inv-loop w n out₀ v₀ j₀ out v j = (length out ≡ length out₀) × (j ≤ length out₀) × (take j out ≡ replicate j 32) × (columns j v (drop j out) ≡ columns w n (drop w out₀))
+Inv-loop w n out₀ v₀ j₀ out v j = (length out ≡ length out₀) × (j ≤ length out₀) × (take j out ≡ replicate j 32) × (spaced j v (drop j out) ≡ spaced w n (drop w out₀))
 
 abbrev μ-loop : tie.MeasureT-loop
 μ-loop w n out₀ v₀ j₀ out v j = j
@@ -23,7 +23,7 @@ same-length c = search needs
 returns : tie.Need-returns Inv-loop μ-loop
 returns c =
     let l = c .before .before .loop in
-    columns-end (l .out) (l .j) (l .inv .2) ∙ sym (ap (λ (v : ℕ). columns (l .j) v (drop (l .j) (l .out))) (c .if1 .taken)) ∙ l .inv .3
+    spaced-end (l .out) (l .j) (l .inv .2) ∙ sym (ap (λ (v : ℕ). spaced (l .j) v (drop (l .j) (l .out))) (c .if1 .taken)) ∙ l .inv .3
 
 sub-j : tie.Need-sub-j Inv-loop μ-loop
 sub-j c = search needs
@@ -43,17 +43,17 @@ loop-less c = search needs
 loop-again : tie.Need-loop-again Inv-loop μ-loop
 loop-again c =
     let l = c .before .before .loop in
-    (simp length-set (l .inv .0), omega arith, blanks-kept (l .out) (l .j) _ (l .inv .2), sym (columns-on (l .out) (l .j) (l .v) (omega arith) (omega arith) (c .if1 .left)) ∙ l .inv .3)
+    (simp length-set (l .inv .0), omega arith, blanks-kept (l .out) (l .j) _ (l .inv .2), sym (spaced-on (l .out) (l .j) (l .v) (omega arith) (omega arith) (c .if1 .left)) ∙ l .inv .3)
 
 same-length-2 : tie.Need-same-length-2 Inv-loop μ-loop
 same-length-2 c = search needs
 
 returns-2 : tie.Need-returns-2 Inv-loop μ-loop
-unfolding columns
+unfolding spaced
 returns-2 c =
     let l = c .before .loop in
     let e : l .j ≡ 0 = omega arith in
-    sym (ap (λ (j : ℕ). columns j (l .v) (drop j (l .out))) e) ∙ l .inv .3
+    sym (ap (λ (j : ℕ). spaced j (l .v) (drop j (l .out))) e) ∙ l .inv .3
 
 pub digits-to-spec : {M : Type 1} → statement M
 digits-to-spec =

@@ -10,19 +10,20 @@ use Prim.Native.Nat.{ℕ, _^_, _<_}
 use lib.IntN.{ℤ}
 use lib.Signed.{mag}
 use Rattle.whole.proofs.Calc.{Is, rd, of, res, fits, again}
+use Rattle.paper.specs.Corners.{Body}
 use Rattle.paper.specs.Triangle as paper
 use Rattle.triangle.specs.Asks.{Solid}
-use Rattle.triangle.specs.Forms.{triangleOf}
+use Rattle.triangle.specs.Forms.{asBody}
 use Rattle.triangle.proofs.Sizes.{pair-size}
 use Rattle.triangle.proofs.Squares.{conductance-square}
 use Rattle.triangle.proofs.Machine.{two-is, diagonal-is}
 
 -- what `pair` gives
-got-pair : {z : ℤ} (e : paper.Triangle) (s i j : ℕ) → Solid e s → i < 3 → j < 3 → mag z < 2 ^ 63 → z ≡ paper.pair e i j → Is (rd z) (paper.pair e i j) (2 ^ 45)
+got-pair : {z : ℤ} (e : Body) (s i j : ℕ) → Solid e s → i < 3 → j < 3 → mag z < 2 ^ 63 → z ≡ paper.pair e i j → Is (rd z) (paper.pair e i j) (2 ^ 45)
 got-pair e s i j h k l m q = res m q (of (pair-size e i j (h .sized) (omega (arith, h .is, h .some)) k l))
 
-abbrev it : tie.After-pair3 → paper.Triangle
-it c = triangleOf (c .before .before .before .args .e)
+abbrev it : tie.After-pair3 → Body
+it c = asBody (c .before .before .before .args .e)
 
 module _ (c : tie.After-pair3) where
   p : Is (rd (c .before .before .pair .result)) (paper.pair (it c) 0 1) (2 ^ 45)

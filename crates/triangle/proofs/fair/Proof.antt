@@ -6,14 +6,14 @@ use mathlib.Core.Path.{_∙_, ap}
 use Prim.Native.Nat.{ℕ}
 use native.Mathlib.Omega.{arith}
 use lib.Dec.{leb}
-use Rattle.triangle.specs.Forms.{triangleOf}
-use Rattle.triangle.proofs.Refused.{size-of-call, stiff-u, stiff-01, stiff-02, last-12}
+use Rattle.triangle.specs.Forms.{asBody, madeOf}
+use Rattle.triangle.proofs.Refused.{size-of-call, stiff-u, stiff-10, stiff-20, last-21}
 
 capacity-requires : tie.Need-capacity-requires
 capacity-requires c κs = search needs
 
 returns : tie.Need-returns
-returns c = stiff-u (c .before .before .args .ms) (triangleOf (c .before .before .args .e)) (omega (arith, c .before .capacity .ensures, c .if1 .taken))
+returns c = stiff-u (madeOf (c .before .before .args .ms) (asBody (c .before .before .args .e))) (c .before .before .pre .0 .sized .placed .three) (omega (arith, c .before .capacity .ensures, c .if1 .taken))
 
 pair-requires : tie.Need-pair-requires
 pair-requires c κs = search needs
@@ -24,7 +24,7 @@ size-requires c κs = search needs
 returns-2 : tie.Need-returns-2
 returns-2 c =
     let p = size-of-call (c .before .size .ensures) (c .before .before .pair .ok) (c .before .before .pair .ensures) in
-    stiff-01 (c .before .before .before .before .before .args .ms) (triangleOf (c .before .before .before .before .before .args .e)) (omega (arith, c .before .before .before .before .capacity .ensures, c .before .before .before .if1 .left)) (omega (arith, p, c .if2 .taken))
+    stiff-10 (madeOf (c .before .before .before .before .before .args .ms) (asBody (c .before .before .before .before .before .args .e))) (c .before .before .before .before .before .pre .0 .sized .placed .three) (omega (arith, c .before .before .before .before .capacity .ensures, c .before .before .before .if1 .left)) (omega (arith, p, c .if2 .taken))
 
 pair-requires-2 : tie.Need-pair-requires-2
 pair-requires-2 c κs = search needs
@@ -36,7 +36,7 @@ returns-3 : tie.Need-returns-3
 returns-3 c =
     let p = size-of-call (c .before .before .before .before .size .ensures) (c .before .before .before .before .before .pair .ok) (c .before .before .before .before .before .pair .ensures) in
     let q = size-of-call (c .before .size2 .ensures) (c .before .before .pair2 .ok) (c .before .before .pair2 .ensures) in
-    stiff-02 (c .before .before .before .before .before .before .before .before .args .ms) (triangleOf (c .before .before .before .before .before .before .before .before .args .e)) (omega (arith, c .before .before .before .before .before .before .before .capacity .ensures, c .before .before .before .before .before .before .if1 .left)) (omega (arith, p, c .before .before .before .if2 .left)) (omega (arith, q, c .if3 .taken))
+    stiff-20 (madeOf (c .before .before .before .before .before .before .before .before .args .ms) (asBody (c .before .before .before .before .before .before .before .before .args .e))) (c .before .before .before .before .before .before .before .before .pre .0 .sized .placed .three) (omega (arith, c .before .before .before .before .before .before .before .capacity .ensures, c .before .before .before .before .before .before .if1 .left)) (omega (arith, p, c .before .before .before .if2 .left)) (omega (arith, q, c .if3 .taken))
 
 pair-requires-3 : tie.Need-pair-requires-3
 pair-requires-3 c κs = search needs
@@ -49,7 +49,7 @@ returns-4 c =
     let p = size-of-call (c .before .before .before .before .before .before .size .ensures) (c .before .before .before .before .before .before .before .pair .ok) (c .before .before .before .before .before .before .before .pair .ensures) in
     let q = size-of-call (c .before .before .before .size2 .ensures) (c .before .before .before .before .pair2 .ok) (c .before .before .before .before .pair2 .ensures) in
     ap (λ (n : ℕ). leb n 4000000) (size-of-call (c .size3 .ensures) (c .before .pair3 .ok) (c .before .pair3 .ensures))
-    ∙ last-12 (c .before .before .before .before .before .before .before .before .before .before .args .ms) (triangleOf (c .before .before .before .before .before .before .before .before .before .before .args .e)) (omega (arith, c .before .before .before .before .before .before .before .before .before .capacity .ensures, c .before .before .before .before .before .before .before .before .if1 .left)) (omega (arith, p, c .before .before .before .before .before .if2 .left)) (omega (arith, q, c .before .before .if3 .left))
+    ∙ last-21 (madeOf (c .before .before .before .before .before .before .before .before .before .before .args .ms) (asBody (c .before .before .before .before .before .before .before .before .before .before .args .e))) (c .before .before .before .before .before .before .before .before .before .before .pre .0 .sized .placed .three) (omega (arith, c .before .before .before .before .before .before .before .before .before .capacity .ensures, c .before .before .before .before .before .before .before .before .if1 .left)) (omega (arith, p, c .before .before .before .before .before .if2 .left)) (omega (arith, q, c .before .before .if3 .left))
 
 pub fair-spec : {M : Type 1} → statement M
 fair-spec =

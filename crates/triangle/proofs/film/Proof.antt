@@ -7,7 +7,7 @@ use Prim.Native.Nat.{ℕ, _*_, _≤_}
 use native.Mathlib.Omega.{arith}
 use native.Mathlib.Nat.{mul-le-mul}
 use Rattle.whole.specs.Nearest.{nearestN}
-use Rattle.paper.specs.Triangle.{v}
+use Rattle.paper.specs.Triangle.{faceFilm}
 use Rattle.triangle.proofs.Sizes.{S-small}
 
 big : (c : tie.After-twice-area) → c .before .args .film * c .twice-area .result ≤ 100000 * 33538050
@@ -23,7 +23,7 @@ nearest-requires : tie.Need-nearest-requires
 nearest-requires c κs = (omega (arith, big c), omega arith, omega arith)
 
 returns : tie.Need-returns
-unfolding v
+unfolding faceFilm
 returns c = c .nearest .ensures ∙ ap (λ (z : ℕ). nearestN (c .before .before .args .film * z) 9600000) (c .before .twice-area .ensures)
 
 pub film-spec : {M : Type 1} → statement M

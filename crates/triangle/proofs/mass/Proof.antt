@@ -11,7 +11,7 @@ use Prim.Native.Nat.{_*_}
 use lib.IntN.{pos}
 use mir.Val.{toZ}
 use Rattle.whole.specs.Sums.{table}
-use Rattle.paper.specs.Triangle.{mass}
+use Rattle.paper.specs.Corners.{mass}
 use Rattle.triangle.specs.Forms.{squareOf}
 
 mul-d : tie.Need-mul-d

@@ -6,6 +6,7 @@ use mathlib.Core.Path.{ap, _∙_}
 use lib.Dec.{lit<}
 use lib.IntN.{natAbs}
 use Rattle.whole.proofs.Calc.{fits, again}
+use Rattle.paper.specs.Corners.{area}
 use Rattle.paper.specs.Triangle.{S}
 use Rattle.triangle.proofs.Machine.{side, product-is, area-is}
 
@@ -46,7 +47,7 @@ either-sense-requires : tie.Need-either-sense-requires
 either-sense-requires c κs = search needs
 
 returns : tie.Need-returns
-unfolding S
+unfolding S area
 returns c =
     let q = c .before in
     let p = q .before .before .before in

@@ -1,0 +1,107 @@
+-- A card's own tests, step by step as the code makes them, and what the judge says of it.
+use mathlib.Core.Path.{_≡_, sym, ap, _∙_}
+use mathlib.Core.Bool.{true, false}
+use mathlib.Core.List.{List}
+use Prim.Native.Nat.{ℕ, suc, _+_, _≤_, _<_}
+use native.Mathlib.Numerals.{add-one}
+use native.Mathlib.Omega.{arith}
+use borrow.Author.Tests.{eq-eqb, ne-eqb, lt-ltb, le-ltb, le-leb, lt-leb}
+use lib.Dec.{leb, ltb}
+use lib.ListN.{getD}
+use Rattle.paper.specs.Kinds.{about, aboutOf, letterOf, kindAt}
+use Rattle.paper.specs.Cards.{before, columnsOf, inRange, rank, countsOf}
+use Rattle.paper.specs.Judge.{stands, rises, clean, formed, ranged, judgeCard, trailer}
+use Rattle.paper.specs.declared.Answer.the-variants.{Done, Refused}
+use Rattle.paper.specs.declared.Refusal.the-variants.{Form, Range}
+use Rattle.paper.specs.declared.About.{About}
+use Rattle.paper.specs.declared.Counts.{Counts}
+use Rattle.paper.specs.declared.Kind.the-variants.{Z}
+use Rattle.paper.proofs.Letters.{kind-of}
+use Rattle.paper.proofs.Judging.{formed-on, formed-not, ranged-on, ranged-not, form-refused, range-refused, card-done}
+use Rattle.kinds.specs.Laid.{starts}
+use Rattle.kinds.proofs.Sections.{starts-are}
+
+-- where it stands
+module _ (z : Counts) (i p : ℕ) (a : About) (small : a .section ≤ 6) {s : List ℕ} (e : s ≡ starts z) where
+  start : (k : ℕ) → k < 8 → getD s k 0 ≡ before z k
+  start k h = ap (λ (s : List ℕ). getD s k 0) e ∙ starts-are z k h
+
+  pub stands-early : i < getD s (a .section) 0 → false ≡ stands z i p a
+  unfolding stands
+  stands-early h =
+      let l : i < before z (a .section) = omega (arith, start (a .section) (omega arith)) in
+      simp (lt-leb (before z (a .section)) i l)
+
+  module _ (h : getD s (a .section) 0 ≤ i) where
+    begun : leb (before z (a .section)) i ≡ true
+    begun = let l : before z (a .section) ≤ i = omega (arith, start (a .section) (omega arith)) in le-leb (before z (a .section)) i l
+
+    next : getD s (a .section + 1) 0 ≡ before z (suc (a .section))
+    next = start (a .section + 1) (omega arith) ∙ ap (before z) (add-one (a .section))
+
+    pub stands-late : getD s (a .section + 1) 0 ≤ i → false ≡ stands z i p a
+    unfolding stands
+    stands-late g =
+        let l : before z (suc (a .section)) ≤ i = omega (arith, next) in
+        simp (begun, le-ltb i (before z (suc (a .section))) l)
+
+    pub stands-in : i < getD s (a .section + 1) 0 → leb p (a .order) ≡ stands z i p a
+    unfolding stands
+    stands-in g =
+        let l : i < before z (suc (a .section)) = omega (arith, next) in
+        simp (begun, lt-ltb i (before z (suc (a .section))) l)
+
+-- whether its key rises
+module _ (p key : ℕ) (a : About) (card : List ℕ) where
+  pub rises-free : a .keys ≡ 0 → true ≡ rises p key a card
+  unfolding rises
+  rises-free e = simp (eq-eqb (a .keys) 0 e)
+
+  module _ (n : a .keys ≡ 0 → ⊥) where
+    pub rises-first : (p ≡ a .order → ⊥) → true ≡ rises p key a card
+    unfolding rises
+    rises-first m = simp (ne-eqb (a .keys) 0 n, ne-eqb p (a .order) m)
+
+    pub rises-next : p ≡ a .order → ltb key (rank card) ≡ rises p key a card
+    unfolding rises
+    rises-next e = simp (ne-eqb (a .keys) 0 n, eq-eqb p (a .order) e)
+
+-- what the judge says of it
+module _ (z : Counts) (card : List ℕ) (i p key : ℕ) where
+  abbrev row : ℕ → List ℕ
+  row j = card
+
+  pub misplaced : stands z i p (aboutOf card) ≡ false → Refused (Form (i + 1)) ≡ judgeCard z row i p key
+  misplaced h = form-refused z row i p key (sym (formed-not z row i p key h))
+
+  module _ (h : stands z i p (aboutOf card) ≡ true) where
+    pub unclean : clean card ≡ false → Refused (Form (i + 1)) ≡ judgeCard z row i p key
+    unclean q = form-refused z row i p key (sym (formed-on z row i p key h) ∙ q)
+
+    module _ (q : clean card ≡ true) where
+      made : formed z row i p ≡ true
+      made = sym (formed-on z row i p key h) ∙ q
+
+      pub out-of-range : inRange (columnsOf z card) card 5 0 ≡ false → Refused (Range (i + 1)) ≡ judgeCard z row i p key
+      out-of-range g = range-refused z row i p key made (sym (ranged-not z row i p key g))
+
+      module _ (g : inRange (columnsOf z card) card 5 0 ≡ true) where
+        pub unrisen : rises p key (aboutOf card) card ≡ false → Refused (Range (i + 1)) ≡ judgeCard z row i p key
+        unrisen r = range-refused z row i p key made (sym (ranged-on z row i p key g) ∙ r)
+
+        pub in-order : rises p key (aboutOf card) card ≡ true → Done ≡ judgeCard z row i p key
+        in-order r = card-done z row i p key made (sym (ranged-on z row i p key g) ∙ r)
+
+-- a Z card
+module _ (card : List ℕ) where
+  pub no-trailer : (getD card 0 0 ≡ letterOf Z → ⊥) → false ≡ trailer card
+  unfolding trailer
+  no-trailer e = simp (ne-eqb (getD card 0 0) (letterOf Z) e)
+
+  module _ (e : getD card 0 0 ≡ letterOf Z) where
+    pub its-kind : Z ≡ kindAt card
+    its-kind = sym (kind-of (getD card 0 0) Z e)
+
+    pub a-trailer : inRange (columnsOf (countsOf card) card) card 5 0 ≡ trailer card
+    unfolding trailer
+    a-trailer = simp (eq-eqb (getD card 0 0) (letterOf Z) e)

@@ -1,0 +1,222 @@
+-- A card that stirs, replaced: the places of P and A written, and the factor from its least corner's row on.
+use mathlib.Core.Path.{_≡_, refl, sym, ap, subst, _∙_}
+use mathlib.Core.Bool.{Bool, true, false, cond, _||_}
+use mathlib.Core.List.{List, [], _∷_, _++_}
+use Prim.Native.Nat.{ℕ, zero, suc, _+_, _-_, _*_, _^_, _≤_, _<_, min}
+use native.Mathlib.Omega.{arith}
+use lib.IntN.{ℤ, natAbs, _+ℤ_, _-ℤ_}
+use lib.ListN.{length, getD, take, drop}
+use lib.Seq.{length-take-le}
+use Rattle.whole.specs.Sums.{sumN}
+use Rattle.whole.specs.Packed.{tri, matrix, cell, entry, lower}
+use Rattle.whole.proofs.Signs.{natAbs-plus, natAbs-minus}
+use Rattle.whole.proofs.Sums.{sumN-one}
+use Rattle.whole.proofs.Tests.{never}
+use Rattle.whole.proofs.Packed.{lower-eta, lower-within}
+use Rattle.paper.specs.Refusals.{Outcome, done, then, after}
+use Rattle.paper.specs.Kinds.{about, kindOf, kindAt}
+use Rattle.paper.specs.Cards.{rowAt, field, rows, nodes, elements, elementRow, put}
+use Rattle.paper.specs.Corners.{mass, spread}
+use Rattle.paper.specs.Elements.{elementOf, elementAt, elementJudged}
+use Rattle.paper.specs.Parts.{Part, namedRow, partOf, partFor, partAt, least, leastRow}
+use Rattle.paper.specs.Matrices.{addsP, addsA, fixed, cleared}
+use Rattle.paper.specs.Factor.{rowsFrom}
+use Rattle.paper.specs.Building.{Slices}
+use Rattle.paper.specs.Replacing.{formOf, moved, firstRow, redone, replaced, stirs}
+use Rattle.paper.specs.declared.Answer.{Answer}
+use Rattle.paper.specs.declared.Answer.the-variants.{Done}
+use Rattle.paper.specs.declared.Kind.{Kind}
+use Rattle.paper.specs.declared.Kind.the-variants.{D, N, M, E, H, F, T, Z, Other}
+use Rattle.paper.proofs.Decks.{In, Deck, kindIn}
+use Rattle.paper.proofs.Tables.{row-field}
+use Rattle.paper.proofs.Spans.{Inside, part-corners, names-F}
+use Rattle.paper.proofs.Sizes.{Distinct, spread-row}
+use Rattle.paper.proofs.Square.{Sound, part-sound}
+use Rattle.paper.proofs.Least.{least-in, least-each, least-most}
+use Rattle.paper.proofs.Elements.{Formed, sound-one, distinct}
+use Rattle.paper.proofs.Changed.{part-here, corners-here, fixed-same, form-load, kind-here}
+use Rattle.paper.proofs.Places.{addSquare, squareP, squareA, moved-P, moved-A}
+use Rattle.triangle.specs.Forms.{numbers, at, squareOf}
+use Rattle.triangle.proofs.Sizes.{mass-size}
+use Rattle.part.specs.Forms.{cornersOf, doesBy, does}
+use Rattle.part.specs.Asks.{Card, Solid, Full}
+use Rattle.part.specs.declared.Corners.{Corners}
+use Rattle.part.proofs.Parts.{count-three, stored-size, film-size, conductance-small}
+use Rattle.packed.specs.Asks.{Bounded, Takes}
+use Rattle.packed.proofs.Squares.{takes, gives}
+use Rattle.change.specs.Asks.{Changes, Renews}
+use Rattle.change.proofs.Forming.{old-card, solid-new, solid-old, some-new, same-kind, stirs-new}
+use Rattle.change.proofs.Moving.{moved-size, stored-size-moved}
+
+-- ---- sizes of what a part adds
+
+few-sum : (n B : ℕ) (f : ℕ → ℕ) → n ≤ 3 → ((b : ℕ) → b < n → f b ≤ B) → sumN n f ≤ 3 * B
+unfolding sumN
+few-sum zero B f l h = omega arith
+few-sum (suc zero) B f l h = omega (arith, h 0 (omega arith))
+few-sum (suc (suc zero)) B f l h = omega (arith, h 0 (omega arith), h 1 (omega arith))
+few-sum (suc (suc (suc zero))) B f l h = omega (arith, h 0 (omega arith), h 1 (omega arith), h 2 (omega arith))
+few-sum (suc (suc (suc (suc n)))) B f l h = absurd (omega arith)
+
+size-A : (t card : List ℕ) → Card t card → Solid t card → (a b : ℕ) → a < 3 → b < 3 → natAbs (squareA (partFor t card) a b) ≤ 2 ^ 47 + 2 ^ 40
+size-A t card h s a b la lb =
+    let x = partFor t card in
+    omega (
+      arith,
+      natAbs-plus (x .conductance a b +ℤ mass (x .capacity) a b) (mass (x .film) a b),
+      natAbs-plus (x .conductance a b) (mass (x .capacity) a b),
+      conductance-small t card h s a b la lb,
+      mass-size (x .capacity) a b,
+      mass-size (x .film) a b,
+      stored-size t card h,
+      film-size t card h,
+    )
+
+adds-size : (t card : List ℕ) → Card t card → Solid t card → Distinct (partFor t card .corners) → length (partFor t card .corners) ≤ 3 → (i j : ℕ) → natAbs (addsA (partFor t card) i j) ≤ 3 * (2 ^ 47 + 2 ^ 40)
+unfolding addsA
+adds-size t card h s d few i j =
+    let x = partFor t card in
+    omega (
+      arith,
+      sumN-one (λ j. natAbs (spread (x .corners) (squareA x) i j)) j (suc j) (omega arith),
+      spread-row (x .corners) (squareA x) (3 * (2 ^ 47 + 2 ^ 40)) (suc j) i d (λ a l. few-sum (length (x .corners)) (2 ^ 47 + 2 ^ 40) (λ b. natAbs (squareA x a b)) few (λ b k. size-A t card h s a b (omega arith) (omega arith))),
+    )
+
+three : (t card : List ℕ) → 1 ≤ length (elementOf t card .shape .corners)
+three t card = omega (arith, count-three t card)
+
+least-some : (ns : List ℕ) (m n : ℕ) → Inside n ns → 1 ≤ m → 1 ≤ least ns m
+unfolding least
+least-some [] m n i h = h
+least-some (k ∷ ns) m n (i, is) h = least-some ns (min k m) n is (omega (arith, i))
+
+head-some : (ns : List ℕ) (n : ℕ) → Inside n ns → 1 ≤ getD ns 0 1
+head-some [] n i = omega arith
+head-some (k ∷ ns) n (i, is) = i .0
+
+positive : (ns : List ℕ) (n : ℕ) → Inside n ns → 1 ≤ least ns (getD ns 0 1)
+positive ns n i = least-some ns (getD ns 0 1) n i (head-some ns n i)
+
+-- the card in a row, as its six numbers
+pub part-row : (t : List ℕ) (row : ℕ) → partAt t row ≡ partFor t (rowAt t row)
+part-row t row = ap (λ (l : ℕ). partOf t (rowAt t row) (kindOf l)) (sym (row-field t row 0 (omega arith)))
+
+module _ (t : List ℕ) (row : ℕ) (new : List ℕ) (h : Renews t row new) where
+  abbrev t′ : List ℕ
+  t′ = put t row new
+
+  x′-is : partAt t′ row ≡ partFor t new
+  x′-is = part-here t row new (h .changes .deck) (h .changes .change) (h .changes .deck′)
+
+  -- ---- corners
+  pub same-corners : partFor t new .corners ≡ partAt t row .corners
+  same-corners = ap (λ (x : Part). x .corners) (sym x′-is) ∙ corners-here t row new (h .changes .deck) (h .changes .change)
+
+  pub new-inside : Inside (nodes t) (partFor t new .corners)
+  new-inside = subst (Inside (nodes t)) (sym same-corners) (part-corners t (h .changes .deck) row (h .changes .change .inside))
+
+  named-some : kindIn t row ≡ F → 1 ≤ elementAt t (namedRow t new) .size
+  unfolding elementJudged about
+  named-some e =
+      let key : getD new 1 0 ≡ field t row 1 = h .changes .change .kept 1 (omega (arith, h .changes .change .some)) in
+      let f = form-load t row new (h .changes .deck) (h .changes .change) (rw e) (names-F t (h .changes .deck) row (h .changes .change .inside) e) in
+      subst (λ (k : ℕ). 1 ≤ elementAt t (elementRow t k) .size) (sym key) (sound-one (elementAt t (elementRow t (field t row 1))) (field t row 1) (sym f ∙ h .form) .some)
+
+  distinct-by : (kind : Kind) → kindAt new ≡ kind → partOf t new kind .stirs ≡ true → Distinct (partOf t new kind .corners)
+  unfolding partOf
+  distinct-by D e q = never q
+  distinct-by N e q = never q
+  distinct-by M e q = never q
+  distinct-by E e q = distinct t new (some-new t row new h e)
+  distinct-by H e q = never q
+  distinct-by F e q = distinct t (rowAt t (namedRow t new)) (named-some (same-kind t row new (h .changes) ∙ e))
+  distinct-by T e q = never q
+  distinct-by Z e q = never q
+  distinct-by Other e q = never q
+
+  pub new-distinct : Distinct (partFor t new .corners)
+  new-distinct = distinct-by (kindAt new) refl (stirs-new t row new (h .changes) ∙ h .stir)
+
+  old-distinct : Distinct (partAt t row .corners)
+  old-distinct = subst Distinct same-corners new-distinct
+
+  -- ---- a slice with the square added
+  module _ (c : Corners) (full : Full c) (e : cornersOf c ≡ partFor t new .corners) where
+    few : length (partFor t new .corners) ≤ 3
+    few = omega (arith, full .few, full .full, ap length e)
+
+    -- the least row
+    pub some-corners : (1 ≤ c .count) × (1 ≤ least (cornersOf c) (getD (cornersOf c) 0 1))
+    some-corners = (counted (partFor t new .corners) e (any-by (kindAt new) refl (stirs-new t row new (h .changes) ∙ h .stir)), rw e (positive (partFor t new .corners) (nodes t) new-inside))
+      where
+        counted : (ns : List ℕ) → cornersOf c ≡ ns → 1 ≤ length ns → 1 ≤ c .count
+        counted ns z l = omega (arith, full .full, ap length z)
+
+        any-by : (kind : Kind) → kindAt new ≡ kind → partOf t new kind .stirs ≡ true → 1 ≤ length (partOf t new kind .corners)
+        any-by D z q = unfold partOf in never q
+        any-by N z q = unfold partOf in never q
+        any-by M z q = unfold partOf in never q
+        any-by E z q = unfold partOf in three t new
+        any-by H z q = unfold partOf in never q
+        any-by F z q = unfold partOf in three t (rowAt t (namedRow t new))
+        any-by T z q = unfold partOf in never q
+        any-by Z z q = unfold partOf in never q
+        any-by Other z q = unfold partOf in never q
+
+    pub least-is : least (cornersOf c) (getD (cornersOf c) 0 1) - 1 ≡ firstRow t row new
+    least-is = ap (λ (ns : List ℕ). least ns (getD ns 0 1) - 1) (e ∙ ap (λ (x : Part). x .corners) (sym x′-is))
+
+    pub least-low : firstRow t row new ≤ nodes t
+    least-low = rw (sym least-is) (rw e (least-in (nodes t) (partFor t new .corners) new-inside))
+
+    at-old : cornersOf c ≡ partAt t row .corners
+    at-old = e ∙ same-corners
+
+    module _ (xs : List ℤ) (long : length xs ≡ matrix (nodes t)) (small : (i j : ℕ) → i < nodes t → j ≤ i → natAbs (entry xs i j) ≤ 2 ^ 33) where
+      small-slice : Bounded (2 ^ 52) xs
+      small-slice = record { each = λ p. subst (λ (z : List ℤ). natAbs (cell z p) ≤ 2 ^ 52) (sym (lower-eta (nodes t) xs long)) (lower-within (nodes t) (2 ^ 52) (entry xs) (λ i j l m. omega (arith, small i j l m)) p) }
+
+      module _ (q : List (List ℤ)) (s : q ≡ squareOf (λ i j. squareA (partFor t new) i j -ℤ squareA (partFor t (rowAt t row)) i j)) where
+        pub takes-A : Takes (c .count) xs (numbers (c .nodes)) q
+        takes-A = takes c full (partFor t new .corners) e q _ s (nodes t) xs (h .changes .deck .someN .1) long small-slice new-inside (λ i j a b. omega (arith, moved-size t row new h i j a b))
+
+        pub added-A-is : addSquare (c .count) xs (numbers (c .nodes)) (at q) ≡ moved (nodes t) xs (addsA (partAt t′ row)) (addsA (partAt t row))
+        added-A-is =
+            gives c full (partAt t row .corners) at-old q (λ i j. squareA (partAt t′ row) i j -ℤ squareA (partAt t row) i j) (s ∙ (λ d. squareOf (λ i j. squareA (sym x′-is d) i j -ℤ squareA (sym (part-row t row) d) i j))) xs
+            ∙ sym (moved-A (nodes t) (partAt t row) xs (part-corners t (h .changes .deck) row (h .changes .change .inside)) old-distinct (part-sound t row) long (partAt t′ row) (corners-here t row new (h .changes .deck) (h .changes .change)) (part-sound t′ row))
+
+        pub small-added : Bounded (2 ^ 50) (addSquare (c .count) xs (numbers (c .nodes)) (at q))
+        small-added = subst (Bounded (2 ^ 50)) (sym added-A-is) (record { each = λ p. unfold moved in lower-within (nodes t) (2 ^ 50) (λ i j. entry xs i j +ℤ (addsA (partAt t′ row) i j -ℤ addsA (partAt t row) i j)) each p })
+          where
+            each : (i j : ℕ) → i < nodes t → j ≤ i → natAbs (entry xs i j +ℤ (addsA (partAt t′ row) i j -ℤ addsA (partAt t row) i j)) ≤ 2 ^ 50
+            each i j l m = omega (
+              arith,
+              natAbs-plus (entry xs i j) (addsA (partAt t′ row) i j -ℤ addsA (partAt t row) i j),
+              natAbs-minus (addsA (partAt t′ row) i j) (addsA (partAt t row) i j),
+              small i j l m,
+              ap (λ (x : Part). natAbs (addsA x i j)) x′-is,
+              ap (λ (x : Part). natAbs (addsA x i j)) (part-row t row),
+              adds-size t new (h .changes .card) (solid-new t row new h) new-distinct few i j,
+              adds-size t (rowAt t row) (old-card t row new (h .changes)) (solid-old t row new h) (subst (λ (x : Part). Distinct (x .corners)) (part-row t row) old-distinct)
+                  (subst (λ (x : Part). length (x .corners) ≤ 3) (part-row t row) (subst (λ (ns : List ℕ). length ns ≤ 3) same-corners few)) i j,
+            )
+
+      module _ (u : List (List ℤ)) (s : u ≡ squareOf (λ i j. squareP (partFor t new) i j -ℤ squareP (partFor t (rowAt t row)) i j)) where
+        pub takes-P : Takes (c .count) xs (numbers (c .nodes)) u
+        takes-P = takes c full (partFor t new .corners) e u _ s (nodes t) xs (h .changes .deck .someN .1) long small-slice new-inside (λ i j a b. omega (arith, stored-size-moved t row new (h .changes) i j))
+
+        pub added-P-is : addSquare (c .count) xs (numbers (c .nodes)) (at u) ≡ moved (nodes t) xs (addsP (partAt t′ row)) (addsP (partAt t row))
+        added-P-is =
+            gives c full (partAt t row .corners) at-old u (λ i j. squareP (partAt t′ row) i j -ℤ squareP (partAt t row) i j) (s ∙ (λ d. squareOf (λ i j. squareP (sym x′-is d) i j -ℤ squareP (sym (part-row t row) d) i j))) xs
+            ∙ sym (moved-P (nodes t) (partAt t row) xs (part-corners t (h .changes .deck) row (h .changes .change .inside)) old-distinct (part-sound t row) long (partAt t′ row) (corners-here t row new (h .changes .deck) (h .changes .change)) (part-sound t′ row))
+
+  -- ---- THEOREM. The replacement as the code makes it: P and A with their squares, the factor from the first row on.
+  pub redone-is : (s : Slices) (m : ℕ) (p a : List ℤ) → m ≡ firstRow t row new → tri m ≤ length (s .factor) → p ≡ moved (nodes t) (s .p) (addsP (partAt t′ row)) (addsP (partAt t row))
+      → a ≡ moved (nodes t) (s .a) (addsA (partAt t′ row)) (addsA (partAt t row))
+      → replaced t s row new ≡ then (rowsFrom (nodes t - m) m (take (tri m) (s .factor) ++ drop (length (take (tri m) (s .factor))) (lower (nodes t) (cleared (fixed t) (entry a))))) (λ f. done (record { p = p; a = a; factor = f }))
+  unfolding replaced redone
+  redone-is s m p a em room ep ea =
+      ap (λ (b : Bool). cond b (redone t s row new) (done s)) (h .stir)
+      ∙ ap (λ (x : Answer). after x (then (rowsFrom (nodes t - firstRow t row new) (firstRow t row new) (take (tri (firstRow t row new)) (s .factor) ++ drop (tri (firstRow t row new)) (lower (nodes t) (cleared (fixed t′) (entry (moved (nodes t) (s .a) (addsA (partAt t′ row)) (addsA (partAt t row)))))))) (λ f. done (record { p = moved (nodes t) (s .p) (addsP (partAt t′ row)) (addsP (partAt t row)); a = moved (nodes t) (s .a) (addsA (partAt t′ row)) (addsA (partAt t row)); factor = f })))) (h .form)
+      ∙ (λ d. then (rowsFrom (nodes t - sym em d) (sym em d) (take (tri (sym em d)) (s .factor) ++ drop (tri (sym em d)) (lower (nodes t) (cleared (λ k. fixed-same t row new (h .changes .deck) (h .changes .change) k d) (entry (sym ea d)))))) (λ f. done (record { p = sym ep d; a = sym ea d; factor = f })))
+      ∙ (λ d. then (rowsFrom (nodes t - m) m (take (tri m) (s .factor) ++ drop (sym (length-take-le (tri m) (s .factor) room) d) (lower (nodes t) (cleared (fixed t) (entry a))))) (λ f. done (record { p = p; a = a; factor = f })))

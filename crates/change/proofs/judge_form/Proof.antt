@@ -1,0 +1,54 @@
+use borrow.Author.Needs.{needs}
+use Rattle.change.proofs.judge_form.Statement.{statement}
+use Rattle.change.proofs.judge_form.Tie as tie
+use mathlib.Core.Path.{_≡_, sym, ap, subst, _∙_}
+use Prim.Native.Nat.{ℕ}
+use Rattle.paper.specs.Cards.{elements}
+use Rattle.paper.proofs.Decks.{In}
+use Rattle.change.proofs.Forming.{element-card, own-row, judged-own, named, few-named, judged-named, judged-none}
+
+array-read-by-letter : tie.Need-array-read-by-letter
+array-read-by-letter c = search needs
+
+by-letter-requires : tie.Need-by-letter-requires
+by-letter-requires c κs = search needs
+
+element-in-requires : tie.Need-element-in-requires
+element-in-requires c κs = own-row (c .before .before .before .args .table .now) (c .before .before .before .args .row) (c .before .before .before .args .t3) (c .before .before .before .pre) (c .before .by-letter .result) (c .before .by-letter .ensures) (c .if1 .taken)
+
+judge-card-requires : tie.Need-judge-card-requires
+judge-card-requires c κs = element-card (c .before .before .before .before .args .table .now) (c .before .before .before .before .args .row) (c .before .before .before .before .args .t3) (c .before .before .before .before .pre) (c .before .before .by-letter .result) (c .before .before .by-letter .ensures) (c .before .if1 .taken)
+
+returns : tie.Need-returns
+returns c = judged-own (c .before .before .before .before .before .args .table .now) (c .before .before .before .before .before .args .row) (c .before .before .before .before .before .args .t3) (c .before .before .before .before .before .pre) (c .before .before .before .by-letter .result) (c .before .before .before .by-letter .ensures) (c .before .before .if1 .taken) (c .judge-card .ensures) (c .before .element-in .ensures)
+
+array-read-element : tie.Need-array-read-element
+array-read-element c = search needs
+
+element-requires : tie.Need-element-requires
+element-requires c κs = few-named (c .before .before .before .before .args .table .now) (c .before .before .before .before .args .row) (c .before .before .before .before .args .t3) (c .before .before .before .before .pre) (c .before .before .by-letter .result) (c .before .before .by-letter .ensures) (c .before .if1 .left) (c .if2 .taken)
+
+judge-element-requires : tie.Need-judge-element-requires
+judge-element-requires c κs =
+    (c .before .before .before .before .before .pre .deck, subst (In 1 (elements (c .before .before .before .before .before .args .table .now))) (sym (c .element .ensures)) (named (c .before .before .before .before .before .args .table .now) (c .before .before .before .before .before .args .row) (c .before .before .before .before .before .args .t3) (c .before .before .before .before .before .pre) (c .before .before .before .by-letter .result) (c .before .before .before .by-letter .ensures) (c .before .before .if1 .left) (c .before .if2 .taken)))
+
+returns-2 : tie.Need-returns-2
+returns-2 c = judged-named (c .before .before .before .before .before .before .args .table .now) (c .before .before .before .before .before .before .args .row) (c .before .before .before .before .before .before .args .t3) (c .before .before .before .before .before .before .pre) (c .before .before .before .before .by-letter .result) (c .before .before .before .before .by-letter .ensures) (c .before .before .before .if1 .left) (c .before .before .if2 .taken) (c .judge-element .ensures) (c .before .element .ensures)
+
+returns-3 : tie.Need-returns-3
+returns-3 c = judged-none (c .before .before .before .before .args .table .now) (c .before .before .before .before .args .row) (c .before .before .before .before .args .t3) (c .before .before .before .before .pre) (c .before .before .by-letter .result) (c .before .before .by-letter .ensures) (c .before .if1 .left) (c .if2 .left)
+
+pub judge-form-spec : {M : Type 1} → statement M
+judge-form-spec =
+    tie.close
+    (tie.spec
+    array-read-by-letter
+    by-letter-requires
+    element-in-requires
+    judge-card-requires
+    returns
+    array-read-element
+    element-requires
+    judge-element-requires
+    returns-2
+    returns-3)

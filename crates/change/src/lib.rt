@@ -1,0 +1,85 @@
+// What a replacement changes: the form of its element, judged first, squares over its corners, new minus old, and the card.
+use paper::Answer;
+use paper::Element;
+use part::Corners;
+ghost use mathlib.Core.Path.{_≡_};
+ghost use mathlib.Core.Bool.{cond};
+ghost use Prim.Native.Nat.{_+_, _-_, _*_, _<_, _≤_};
+ghost use lib.IntN.{_-ℤ_};
+ghost use lib.ListN.{length};
+ghost use Rattle.paper.specs.Cards.{rowAt, rows, nodes, materials, elements, put};
+ghost use Rattle.paper.specs.Parts.{partFor};
+ghost use Rattle.paper.specs.Replacing.{stirs, formOf};
+ghost use Rattle.paper.specs.declared.Answer.the-variants.{Done};
+ghost use Rattle.paper.proofs.Decks.{Deck};
+ghost use Rattle.paper.proofs.Places.{squareP, squareA, addSquare};
+ghost use Rattle.triangle.specs.Forms.{numbers, at, squareOf};
+ghost use Rattle.packed.specs.Asks.{Takes};
+ghost use Rattle.change.specs.Asks.{InBodies, Changes, Renews};
+
+// The element whose card stands in a row.
+fn element_in(table: &[u32], row: usize) -> Element
+    requires { ⌜ Deck (now table) × InBodies (now table) row ⌝ }
+    ensures { λ r. ⌜ r .0 ≡ row - (nodes (now (table .entry)) + materials (now (table .entry))) ⌝ }
+{
+    let first = element::element_row(table, element::element(1));
+    element::element((row + 1 - first) as u32)
+}
+
+// Refusals 5 and 6 of the element that a new card makes or is of, before anything is written.
+pub fn judge_form(table: &[u32], row: usize, new: [u32; 6]) -> Answer
+    requires { ⌜ Changes (now table) row new ⌝ }
+    ensures { λ r. ⌜ r ≡ cond (stirs (now (table .entry)) row) (formOf (put (now (table .entry)) row new) row) Done ⌝ }
+{
+    let it = part::by_letter(new[0]);
+    if it.conducts {
+        return element::judge_card(table, new, element_in(table, row));
+    }
+    if it.films {
+        return element::judge_element(table, element::element(new[1]));
+    }
+    Answer::Done
+}
+
+// ---- squares
+
+// To A.
+pub fn square(table: &[u32], row: usize, new: [u32; 6]) -> [[i64; 3]; 3]
+    requires { ⌜ Renews (now table) row new ⌝ }
+    ensures { λ r. ⌜ r ≡ squareOf (λ i j. squareA (partFor (now (table .entry)) new) i j -ℤ squareA (partFor (now (table .entry)) (rowAt (now (table .entry)) row)) i j) ⌝ }
+{
+    let old = element::card_at(table, row);
+    triangle::minus(part::square_a(table, new), part::square_a(table, old))
+}
+
+// To P: none where nothing is stored.
+pub fn stored(table: &[u32], row: usize, new: [u32; 6]) -> [[i64; 3]; 3]
+    requires { ⌜ Changes (now table) row new ⌝ }
+    ensures { λ r. ⌜ r ≡ squareOf (λ i j. squareP (partFor (now (table .entry)) new) i j -ℤ squareP (partFor (now (table .entry)) (rowAt (now (table .entry)) row)) i j) ⌝ }
+{
+    let old = element::card_at(table, row);
+    let is = triangle::mass(part::stored(table, new));
+    triangle::minus(is, triangle::mass(part::stored(table, old)))
+}
+
+// ---- writing
+
+// P and A, at the same corners.
+pub fn matrices(p: &mut [i64], a: &mut [i64], c: Corners, u: [[i64; 3]; 3], q: [[i64; 3]; 3])
+    requires { ⌜ Takes (c .count) (now p) (numbers (c .nodes)) u × Takes (c .count) (now a) (numbers (c .nodes)) q ⌝ }
+    ensures { λ _. ⌜ now (p .exit) ≡ addSquare (c .count) (now (p .entry)) (numbers (c .nodes)) (at u) ⌝ }
+    ensures { λ _. ⌜ now (a .exit) ≡ addSquare (c .count) (now (a .entry)) (numbers (c .nodes)) (at q) ⌝ }
+{
+    packed::add_square(p, c, u);
+    packed::add_square(a, c, q);
+}
+
+// The card in its row.
+pub fn put(table: &mut [u32], row: usize, card: [u32; 6])
+    requires { ⌜ row * 6 + 6 ≤ length (now table) ⌝ }
+    ensures { λ _. ⌜ now (table .exit) ≡ put (now (table .entry)) row card ⌝ }
+{
+    let at = row * 6;
+    let end = at + 6;
+    kinds::row_to(card, &mut table[at..end]);
+}

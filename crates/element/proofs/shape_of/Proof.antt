@@ -1,0 +1,91 @@
+use borrow.Author.Needs.{needs}
+use Rattle.element.proofs.shape_of.Statement.{statement}
+use Rattle.element.proofs.shape_of.Tie as tie
+use mathlib.Core.Path.{_≡_, _∙_, ap}
+use mathlib.Core.List.{List, [], _∷_}
+use Prim.Native.Nat.{ℕ}
+use Rattle.paper.specs.Cards as cards
+use Rattle.paper.specs.Corners.{shapeOf}
+use Rattle.paper.specs.Elements.{bodyOf, elementOf}
+
+field-at : {v r : ℕ} (t : List ℕ) (n k : ℕ) → r ≡ cards.field t v k → v ≡ n → r ≡ cards.field t n k
+field-at t n k p q = p ∙ ap (λ (z : ℕ). cards.field t z k) q
+
+array-read-node : tie.Need-array-read-node
+array-read-node c = search needs
+
+node-requires : tie.Need-node-requires
+node-requires c κs = search needs
+
+array-read-node-2 : tie.Need-array-read-node-2
+array-read-node-2 c = search needs
+
+node-requires-2 : tie.Need-node-requires-2
+node-requires-2 c κs = search needs
+
+array-read-node-3 : tie.Need-array-read-node-3
+array-read-node-3 c = search needs
+
+node-requires-3 : tie.Need-node-requires-3
+node-requires-3 c κs = search needs
+
+node-row-requires : tie.Need-node-row-requires
+node-row-requires c κs = search needs
+
+node-row-requires-2 : tie.Need-node-row-requires-2
+node-row-requires-2 c κs = search needs
+
+node-row-requires-3 : tie.Need-node-row-requires-3
+node-row-requires-3 c κs = search needs
+
+field-requires : tie.Need-field-requires
+field-requires c κs = search needs
+
+field-requires-2 : tie.Need-field-requires-2
+field-requires-2 c κs = search needs
+
+field-requires-3 : tie.Need-field-requires-3
+field-requires-3 c κs = search needs
+
+field-requires-4 : tie.Need-field-requires-4
+field-requires-4 c κs = search needs
+
+field-requires-5 : tie.Need-field-requires-5
+field-requires-5 c κs = search needs
+
+field-requires-6 : tie.Need-field-requires-6
+field-requires-6 c κs = search needs
+
+returns : tie.Need-returns
+unfolding elementOf bodyOf shapeOf
+returns c =
+    let t = c .before .before .before .before .before .before .before .before .before .before .before .before .before .args .table .now in
+    let a = c .before .before .before .before .before .before .before .before .node-row .ensures ∙ c .before .before .before .before .before .before .before .before .before .before .before .node .ensures in
+    let b = c .before .before .before .before .before .before .before .node-row2 .ensures ∙ c .before .before .before .before .before .before .before .before .before .before .node2 .ensures in
+    let e = c .before .before .before .before .before .before .node-row3 .ensures ∙ c .before .before .before .before .before .before .before .before .before .node3 .ensures in
+    λ d. record {
+      corners = c .before .before .before .before .before .before .before .before .before .before .before .node .ensures d ∷ c .before .before .before .before .before .before .before .before .before .before .node2 .ensures d ∷ c .before .before .before .before .before .before .before .before .before .node3 .ensures d ∷ [];
+      xs = field-at t _ 1 (c .before .before .before .before .before .field .ensures) a d ∷ field-at t _ 1 (c .before .before .before .before .field2 .ensures) b d ∷ field-at t _ 1 (c .before .before .before .field3 .ensures) e d ∷ [];
+      ys = field-at t _ 2 (c .before .before .field4 .ensures) a d ∷ field-at t _ 2 (c .before .field5 .ensures) b d ∷ field-at t _ 2 (c .field6 .ensures) e d ∷ [];
+    }
+
+pub shape-of-spec : {M : Type 1} → statement M
+shape-of-spec =
+    tie.close
+    (tie.spec
+    array-read-node
+    node-requires
+    array-read-node-2
+    node-requires-2
+    array-read-node-3
+    node-requires-3
+    node-row-requires
+    node-row-requires-2
+    node-row-requires-3
+    field-requires
+    field-requires-2
+    field-requires-3
+    field-requires-4
+    field-requires-5
+    field-requires-6
+    returns)

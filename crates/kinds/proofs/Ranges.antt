@@ -1,0 +1,105 @@
+-- Each kind's columns as the code lays them out, and a card's tests over them.
+use mathlib.Core.Path.{_≡_, refl, sym, ap, _∙_}
+use mathlib.Core.Bool.{true, false}
+use mathlib.Core.List.{List, [], _∷_}
+use Prim.Native.Nat.{ℕ, suc, _+_, _-_, _*_, _≤_, _<_}
+use native.Mathlib.Numerals.{add-one}
+use native.Mathlib.Omega.{arith}
+use borrow.Author.Tests.{le-leb, lt-leb}
+use lib.ListN.{length, getD}
+use Rattle.paper.specs.Kinds.{ends, kindAt}
+use Rattle.paper.specs.Cards.{Column, before, columns, columnsOf, used, zeros, inRange}
+use Rattle.paper.specs.Judge.{clean}
+use Rattle.paper.proofs.Judging.{clean-start}
+use Rattle.paper.specs.declared.Counts.{Counts}
+use Rattle.paper.specs.declared.Kind.{Kind}
+use Rattle.paper.specs.declared.Kind.the-variants.{D, N, M, E, H, F, T, Z, Other}
+use Rattle.kinds.specs.Laid.{starts, columnsAs, laid, inBounds}
+use Rattle.kinds.specs.declared.Columns.{Columns}
+use Rattle.kinds.proofs.Sections.{starts-are}
+
+module _ (z : Counts) where
+  pub laid-as : {k k′ : Kind} → k ≡ k′ → laid (columns z k′) ≡ laid (columns z k)
+  laid-as e = ap (λ (k : Kind). laid (columns z k)) (sym e)
+
+  pub laid-Z : {s : List ℕ} → s ≡ starts z
+      → columnsAs 5 (42 * getD s 5 0 ∷ 3 ∷ 1 ∷ 1 ∷ 0 ∷ []) (42 * getD s 5 0 ∷ 96 ∷ 8 ∷ 160 ∷ 416 ∷ []) ≡ laid (columns z Z)
+  unfolding laid columns
+  laid-Z e =
+      let b = ap (λ (s : List ℕ). getD s 5 0) e ∙ starts-are z ends (omega arith) in
+      ap (λ (b : ℕ). columnsAs 5 (42 * b ∷ 3 ∷ 1 ∷ 1 ∷ 0 ∷ []) (42 * b ∷ 96 ∷ 8 ∷ 160 ∷ 416 ∷ [])) b
+
+pub laid-used : (b : Columns) (cs : List Column) → b ≡ laid cs → b .used ≡ length cs
+unfolding laid
+laid-used b cs e = ap (λ (b : Columns). b .used) e
+
+-- THEOREM. The counts do not tell how many fields a kind uses, and there are at most five.
+pub used-any : (z : Counts) (k : Kind) → length (columns z k) ≡ used k
+unfolding columns used
+used-any z D = refl
+used-any z N = refl
+used-any z M = refl
+used-any z E = refl
+used-any z H = refl
+used-any z F = refl
+used-any z T = refl
+used-any z Z = refl
+used-any z Other = refl
+
+pub used-few : (k : Kind) → used k ≤ 5
+unfolding columns used
+used-few D = omega arith
+used-few N = omega arith
+used-few M = omega arith
+used-few E = omega arith
+used-few H = omega arith
+used-few F = omega arith
+used-few T = omega arith
+used-few Z = omega arith
+used-few Other = omega arith
+
+-- the test of ranges over the two arrays, field by field
+module _ (ls ms card : List ℕ) where
+  pub bounds-on : (k : ℕ) → k < 5 → getD ls k 0 ≤ getD card (k + 1) 0 → getD card (k + 1) 0 ≤ getD ms k 0
+      → inBounds ls ms card (5 - k) k ≡ inBounds ls ms card (5 - (k + 1)) (k + 1)
+  unfolding inBounds
+  bounds-on k l a b =
+      let m : 5 - k ≡ suc (5 - (k + 1)) = omega arith in
+      rw (m, ← add-one k) (simp (le-leb _ _ a, le-leb _ _ b))
+
+  pub bounds-low : (k : ℕ) → k < 5 → getD card (k + 1) 0 < getD ls k 0 → false ≡ inBounds ls ms card (5 - k) k
+  unfolding inBounds
+  bounds-low k l a =
+      let m : 5 - k ≡ suc (5 - (k + 1)) = omega arith in
+      rw (m, ← add-one k) (simp (lt-leb _ _ a))
+
+  pub bounds-high : (k : ℕ) → k < 5 → getD ls k 0 ≤ getD card (k + 1) 0 → getD ms k 0 < getD card (k + 1) 0 → false ≡ inBounds ls ms card (5 - k) k
+  unfolding inBounds
+  bounds-high k l a b =
+      let m : 5 - k ≡ suc (5 - (k + 1)) = omega arith in
+      rw (m, ← add-one k) (simp (le-leb _ _ a, lt-leb _ _ b))
+
+  pub bounds-end : (k : ℕ) → 5 ≤ k → true ≡ inBounds ls ms card (5 - k) k
+  unfolding inBounds
+  bounds-end k l =
+      let m : 5 - k ≡ 0 = omega arith in
+      rw m
+
+same-bounds : (cs : List Column) (card : List ℕ) → inBounds (laid cs .least) (laid cs .most) card 5 0 ≡ inRange cs card 5 0
+unfolding inBounds inRange laid
+same-bounds cs card = refl
+
+-- a card of kind k: what its columns, as the code lays them out, say of it
+module _ (z : Counts) {k : Kind} (card : List ℕ) (e : k ≡ kindAt card) {b : Columns} (l : b ≡ laid (columns z k)) where
+  pub card-range : inBounds (b .least) (b .most) card 5 0 ≡ inRange (columnsOf z card) card 5 0
+  card-range =
+      ap (λ (b : Columns). inBounds (b .least) (b .most) card 5 0) l ∙ same-bounds (columns z k) card ∙ ap (λ (k : Kind). inRange (columns z k) card 5 0) e
+
+  laid-few : b .used ≡ used k
+  laid-few = laid-used b (columns z k) l ∙ used-any z k
+
+  pub few : b .used ≤ 5
+  few = omega (arith, laid-few, used-few k)
+
+  pub card-clean : zeros card (6 - (1 + b .used)) (1 + b .used) ≡ clean card
+  card-clean = sym (clean-start card (b .used) (laid-few ∙ ap used e) few)

@@ -1,0 +1,52 @@
+use borrow.Author.Needs.{needs}
+use Rattle.kinds.proofs.columns_of.Statement.{statement}
+use Rattle.kinds.proofs.columns_of.Tie as tie
+use mathlib.Core.Path.{ap, _∙_}
+use mathlib.Core.List.{List}
+use Prim.Native.Nat.{ℕ}
+use native.Mathlib.Omega.{arith}
+use lib.ListN.{getD}
+use Rattle.paper.specs.Cards.{columns}
+use Rattle.kinds.specs.Laid.{laid}
+use Rattle.kinds.proofs.Ranges.{laid-as, laid-Z}
+
+-- three lines a kind
+pub columns-of-spec : {M : Type 1} → statement M
+unfolding laid columns
+columns-of-spec =
+    tie.close
+    (tie.spec
+    (λ c. search needs)
+    (λ c. search needs)
+    (λ c. search needs)
+    (λ c. search needs)
+    (λ c κs. search needs)
+    (λ c. search needs)
+    (λ c. omega (arith, ap (λ (s : List ℕ). getD s 5 0) (c .starts-of .ensures)))
+    (λ c. search needs)
+    (λ c κs. search needs)
+    (λ c. search needs)
+    (λ c κs. search needs)
+    (λ c. search needs)
+    (λ c κs. search needs)
+    (λ c. search needs)
+    (λ c κs. search needs)
+    (λ c. search needs)
+    (λ c κs. search needs)
+    (λ c. search needs)
+    (λ c κs. search needs)
+    (λ c. search needs)
+    (λ c κs. search needs)
+    (λ c. search needs)
+    (λ c κs. search needs)
+    (λ c. search needs)
+    (λ c κs. search needs)
+    (λ c. c .laid-out .ensures ∙ laid-as _ (c .before .enum-told .given .1))
+    (λ c. c .laid-out2 .ensures ∙ laid-as _ (c .before .enum-told2 .given .1))
+    (λ c. c .laid-out3 .ensures ∙ laid-as _ (c .before .enum-told3 .given .1))
+    (λ c. c .laid-out4 .ensures ∙ laid-as _ (c .before .enum-told4 .given .1))
+    (λ c. c .laid-out5 .ensures ∙ laid-as _ (c .before .enum-told5 .given .1))
+    (λ c. c .laid-out6 .ensures ∙ laid-as _ (c .before .enum-told6 .given .1))
+    (λ c. c .laid-out7 .ensures ∙ laid-as _ (c .before .enum-told7 .given .1))
+    (λ c. c .laid-out8 .ensures ∙ laid-Z _ (c .before .before .before .starts-of .ensures) ∙ laid-as _ (c .before .enum-told8 .given .1))
+    (λ c. c .laid-out9 .ensures ∙ laid-as _ (c .before .enum-told9 .given .1)))

@@ -1,0 +1,226 @@
+// The tables of kinds and of columns as code has them, and a card's numbers. A new kind is a line in each of three functions.
+use paper::About;
+use paper::Counts;
+use paper::Kind;
+use paper::Ticks;
+ghost use mathlib.Core.Path.{_≡_};
+ghost use Prim.Native.Nat.{_+_, _-_, _≤_};
+ghost use lib.ListN.{length};
+ghost use Rattle.paper.specs.Kinds as kinds;
+ghost use Rattle.paper.specs.Cards as cards;
+ghost use Rattle.kinds.specs.Laid.{starts, columnsAs, laid, inBounds};
+
+// ---- kinds
+
+// Each kind's letter.
+const D: u32 = 68;
+
+const N: u32 = 78;
+
+const M: u32 = 77;
+
+const E: u32 = 69;
+
+const H: u32 = 72;
+
+const F: u32 = 70;
+
+const T: u32 = 84;
+
+const Z: u32 = 90;
+
+// The sections of the elements, of the loads and of Z.
+const BODIES: usize = 3;
+
+const LOADS: usize = 4;
+
+const ENDS: usize = 5;
+
+pub fn kind(letter: u32) -> Kind
+    ensures { λ r. ⌜ r ≡ kinds.kindOf letter ⌝ }
+{
+    match letter {
+        D => Kind::D,
+        N => Kind::N,
+        M => Kind::M,
+        E => Kind::E,
+        H => Kind::H,
+        F => Kind::F,
+        T => Kind::T,
+        Z => Kind::Z,
+        _ => Kind::Other,
+    }
+}
+
+fn line(letter: u32, order: u32, section: usize, keeps: usize, keys: u32) -> About
+    ensures { λ r. ⌜ r ≡ kinds.line letter order section keeps keys ⌝ }
+{
+    About {
+        letter: letter,
+        order: order,
+        section: section,
+        keeps: keeps,
+        keys: keys,
+    }
+}
+
+// Letter, order, section, keeps, keys.
+pub fn about(k: Kind) -> About
+    ensures { λ r. ⌜ r ≡ kinds.about k ⌝ }
+{
+    match k {
+        Kind::D => line(D, 0, 0, 0, 0),
+        Kind::N => line(N, 1, 1, 0, 0),
+        Kind::M => line(M, 2, 2, 0, 0),
+        Kind::E => line(E, 3, BODIES, 3, 0),
+        Kind::H => line(H, 4, LOADS, 1, 1),
+        Kind::F => line(F, 5, LOADS, 1, 1),
+        Kind::T => line(T, 6, LOADS, 1, 1),
+        Kind::Z => line(Z, 7, ENDS, 0, 0),
+        Kind::Other => line(0, 8, 6, 0, 0),
+    }
+}
+
+// ---- sections
+
+// The cards before each section.
+pub fn starts_of(counts: Counts) -> [usize; 8]
+    ensures { λ r. ⌜ r ≡ starts counts ⌝ }
+{
+    let n = 1 + counts.nodes as usize;
+    let m = n + counts.materials as usize;
+    let e = m + counts.elements as usize;
+    let l = e + counts.loads as usize;
+    [0, 1, n, m, e, l, l + 1, l + 1]
+}
+
+// ---- columns
+
+// The fields used; of each of the five the least and the greatest value, of an unused one 0. Of any counts these fit 64 bits.
+pub struct Columns {
+    pub used: usize,
+    pub least: [u64; 5],
+    pub most: [u64; 5],
+}
+
+fn laid_out(used: usize, least: [u64; 5], most: [u64; 5]) -> Columns
+    ensures { λ r. ⌜ r ≡ columnsAs used least most ⌝ }
+{
+    Columns {
+        used: used,
+        least: least,
+        most: most,
+    }
+}
+
+pub fn columns_of(counts: Counts, k: Kind) -> Columns
+    ensures { λ r. ⌜ r ≡ laid (cards.columns counts k) ⌝ }
+{
+    let top = Ticks::TOP as u64;
+    let n = counts.nodes as u64;
+    let m = counts.materials as u64;
+    let e = counts.elements as u64;
+    let b = 42 * starts_of(counts)[ENDS] as u64;
+    match k {
+        Kind::D => laid_out(3, [1, 0, 1, 0, 0], [60_000, top, 100_000, 0, 0]),
+        Kind::N => laid_out(2, [0, 0, 0, 0, 0], [4_095, 4_095, 0, 0, 0]),
+        Kind::M => laid_out(3, [1, 1, 1, 0, 0], [500_000, 500_000, 5_000, 0, 0]),
+        Kind::E => laid_out(5, [1, 1, 1, 1, 1], [n, n, n, m, 4_000]),
+        Kind::H => laid_out(2, [1, 1, 0, 0, 0], [e, 5_000_000, 0, 0, 0]),
+        Kind::F => laid_out(3, [1, 1, 0, 0, 0], [e, 100_000, top, 0, 0]),
+        Kind::T => laid_out(2, [1, 0, 0, 0, 0], [n, top, 0, 0, 0]),
+        Kind::Z => laid_out(5, [b, 3, 1, 1, 0], [b, 96, 8, 160, 416]),
+        Kind::Other => laid_out(0, [0, 0, 0, 0, 0], [0, 0, 0, 0, 0]),
+    }
+}
+
+// The fields that a kind uses.
+pub fn used_of(k: Kind) -> usize
+    ensures { λ r. ⌜ (r ≡ cards.used k) × (r ≤ 5) ⌝ }
+{
+    let none = Counts {
+        nodes: 0,
+        materials: 0,
+        elements: 0,
+        loads: 0,
+    };
+    columns_of(none, k).used
+}
+
+// ---- a card's numbers
+
+// What Z counts.
+pub fn counts_of(card: &[u32]) -> Counts
+    requires { ⌜ length (now card) ≡ 6 ⌝ }
+    ensures { λ r. ⌜ r ≡ cards.countsOf (now (card .entry)) ⌝ }
+{
+    Counts {
+        nodes: card[2],
+        materials: card[3],
+        elements: card[4],
+        loads: card[5],
+    }
+}
+
+// Whether the fields after those used are 0.
+pub fn is_clean(used: usize, card: &[u32]) -> bool
+    requires { ⌜ (used ≤ 5) × (length (now card) ≡ 6) ⌝ }
+    ensures { λ r. ⌜ r ≡ cards.zeros (now (card .entry)) (6 - (1 + used)) (1 + used) ⌝ }
+{
+    let mut k = 1 + used;
+    while k < 6 {
+        if card[k] != 0 {
+            return false;
+        }
+        k += 1;
+    }
+    true
+}
+
+// Whether a card's five fields lie within their columns.
+pub fn in_range(columns: Columns, card: &[u32]) -> bool
+    requires { ⌜ length (now card) ≡ 6 ⌝ }
+    ensures { λ r. ⌜ r ≡ inBounds (columns .least) (columns .most) (now (card .entry)) 5 0 ⌝ }
+{
+    let least = columns.least;
+    let most = columns.most;
+    let mut k = 0;
+    while k < 5 {
+        let v = card[k + 1] as u64;
+        if v < least[k] {
+            return false;
+        }
+        if most[k] < v {
+            return false;
+        }
+        k += 1;
+    }
+    true
+}
+
+// Whether the first n numbers of two cards are the same.
+pub fn agree(x: &[u32], y: &[u32], n: usize) -> bool
+    requires { ⌜ (length (now x) ≡ 6) × (length (now y) ≡ 6) × (n ≤ 6) ⌝ }
+    ensures { λ r. ⌜ r ≡ cards.agree (now (x .entry)) (now (y .entry)) n ⌝ }
+{
+    let mut k = n;
+    while 0 < k {
+        if x[k - 1] != y[k - 1] {
+            return false;
+        }
+        k -= 1;
+    }
+    true
+}
+
+// A card's six numbers into a row of a table.
+pub fn row_to(card: [u32; 6], out: &mut [u32])
+    requires { ⌜ length (now out) ≡ 6 ⌝ }
+    ensures { λ r. ⌜ now (out .exit) ≡ card ⌝ }
+{
+    let mut k = 0;
+    while k < 6 {
+        out[k] = card[k];
+        k += 1;
+    }
+}

@@ -1,0 +1,58 @@
+-- An element as its card gives it, and refusals 5 and 6.
+use mathlib.Core.Bool.{Bool, not, cond, _&&_}
+use mathlib.Core.List.{List, [], _∷_}
+use Prim.Native.Nat.{ℕ}
+use lib.Dec.{leb}
+use lib.IntN.{ℤ, natAbs}
+use lib.ListN.{length, getD}
+use Rattle.whole.specs.Sums.{any}
+use Rattle.paper.specs.Cards.{rowAt, field, materialRow, elementRow, stepOf}
+use Rattle.paper.specs.Corners.{Shape, Body, shapeOf}
+use Rattle.paper.specs.Triangle.{S, pair, u}
+use Rattle.paper.specs.declared.Answer.{Answer}
+use Rattle.paper.specs.declared.Answer.the-variants.{Done, Refused}
+use Rattle.paper.specs.declared.Refusal.the-variants.{Flat, Stiff}
+
+-- its corners, and all that is made of them: S, each pair's conductance, u
+pub record Element : Type 0 where
+  pub shape : Shape
+  pub size : ℕ
+  pub between : ℕ → ℕ → ℤ
+  pub stored : ℕ
+
+-- of a card's six numbers, in a deck that has its nodes and its material
+unfoldable pub bodyOf : List ℕ → List ℕ → Body
+bodyOf t card =
+    let m = materialRow t (getD card 4 0) in
+    record {
+      shape = shapeOf t (getD card 1 0 ∷ getD card 2 0 ∷ getD card 3 0 ∷ []);
+      kx = field t m 1;
+      ky = field t m 2;
+      capacity = field t m 3;
+      thickness = getD card 5 0;
+    }
+
+unfoldable pub elementOf : List ℕ → List ℕ → Element
+elementOf t card =
+    let e = bodyOf t card in
+    record { shape = e .shape; size = S (e .shape); between = pair e; stored = u (stepOf t) e }
+
+-- the card in a row
+abbrev pub elementAt : List ℕ → ℕ → Element
+elementAt t row = elementOf t (rowAt t row)
+
+-- ---- refusals of element number e
+
+abbrev pub soft : ℕ → Bool
+soft n = leb n 4000000
+
+-- u, and each pair's conductance
+unfoldable pub fair : Element → Bool
+fair it = soft (it .stored) && not (any (length (it .shape .corners)) (λ i. any i (λ j. not (soft (natAbs (it .between i j))))))
+
+unfoldable pub formJudged : Element → ℕ → Answer
+formJudged it e =
+    cond (leb 1 (it .size)) (cond (fair it) Done (Refused (Stiff e))) (Refused (Flat e))
+
+unfoldable pub elementJudged : List ℕ → ℕ → Answer
+elementJudged t e = formJudged (elementAt t (elementRow t e)) e

@@ -1,0 +1,215 @@
+-- What each kind does is what paper's parts say, and its card's fields are in their ranges.
+use mathlib.Core.Path.{_≡_, refl, sym, ap, subst, _∙_}
+use mathlib.Core.Bool.{Bool, true, false, cond, _||_}
+use mathlib.Core.List.{List, [], _∷_}
+use Prim.Native.Nat.{ℕ, zero, suc, _+_, _*_, _-_, _^_, _≤_, _<_, min}
+use native.Mathlib.Omega.{arith}
+use lib.Dec.{eqb}
+use lib.IntN.{ℤ, pos, natAbs, _+ℤ_}
+use lib.ListN.{length, getD, take, drop}
+use Rattle.whole.specs.Sums.{sum, table}
+use Rattle.whole.proofs.Signs.{natAbs-plus}
+use Rattle.whole.proofs.Tests.{never}
+use Rattle.paper.specs.Kinds.{kindAt, kindOf}
+use Rattle.paper.specs.Cards.{Column, _⋯_, within, columns, countsAt, field, rowAt, rows, letter, nodes, materials, elements, stepOf}
+use Rattle.paper.specs.Corners.{Shape, square, mass, shapeOf}
+use Rattle.paper.specs.Triangle.{S, pair, u, faceFilm}
+use Rattle.paper.specs.Elements.{Element, bodyOf, elementOf}
+use Rattle.paper.specs.Parts.{Part, nowhere, nothing, bulk, filmed, loaded, namedRow, heatShare, partOf, partFor, least}
+use Rattle.paper.specs.declared.Kind.{Kind}
+use Rattle.paper.specs.declared.Kind.the-variants.{D, N, M, E, H, F, T, Z, Other}
+use Rattle.paper.proofs.Decks.{In, Deck, kindIn}
+use Rattle.paper.proofs.Tables.{row-field}
+use Rattle.paper.proofs.Spans.{Inside, nodes-are, materials-are, elements-are, in-told}
+use Rattle.paper.proofs.Places.{squareA}
+use Rattle.triangle.specs.Forms.{at, squareOf, madeOf}
+use Rattle.triangle.specs.Asks.{Small, Sized, Placed, Step}
+use Rattle.triangle.proofs.Sizes.{S-small, u-size, film-small, mass-size, conductance-size}
+use Rattle.triangle.proofs.Squares.{small-square, square-at, square-ext}
+use Rattle.element.specs.Asks.{ElementCard}
+use Rattle.element.proofs.Ranges.{card-of, placed-of, sized-of, step-of, made-is}
+use Rattle.part.specs.Forms.{doesBy, does, baseOf, line}
+use Rattle.part.specs.Asks.{Card, Solid}
+use Rattle.part.specs.declared.Does.{Does}
+
+-- ---- a part as what its kind does
+
+pub record As (t card : List ℕ) (it : Does) (x : Part) : Type 0 where
+  pub corners : x .corners ≡ cond (eqb (it .corners) 0) [] (elementOf t (cond (it .named) (rowAt t (namedRow t card)) card) .shape .corners)
+  pub stirs : x .stirs ≡ it .conducts || it .films
+  pub conductance : (a b : ℕ) → x .conductance a b ≡ cond (it .conducts) (square 3 (elementOf t card .between) a b) (pos 0)
+  pub capacity : x .capacity ≡ cond (it .conducts) (elementOf t card .stored) 0
+  pub film : x .film ≡ cond (it .films) (faceFilm (getD card 2 0) (elementOf t (cond (it .named) (rowAt t (namedRow t card)) card) .shape)) 0
+  pub load : (a : ℕ) → x .load a ≡ cond (it .heats) (heatShare 3 (getD card 2 0)) (pos (4 * x .film * getD card 3 0))
+
+no-load : (card : List ℕ) → pos 0 ≡ pos (4 * 0 * getD card 3 0)
+no-load card = ap pos (omega arith)
+
+idle : (t card : List ℕ) → As t card (line 0 false false false false) nothing
+idle t card = record { corners = refl; stirs = refl; conductance = λ a b. refl; capacity = refl; film = refl; load = λ a. no-load card }
+
+pub as-kind : (t card : List ℕ) (kind : Kind) → As t card (doesBy kind) (partOf t card kind)
+unfolding partOf doesBy elementOf bodyOf shapeOf
+as-kind t card D = idle t card
+as-kind t card N = idle t card
+as-kind t card M = idle t card
+as-kind t card E = record { corners = refl; stirs = refl; conductance = λ a b. refl; capacity = refl; film = refl; load = λ a. no-load card }
+as-kind t card H = record { corners = refl; stirs = refl; conductance = λ a b. refl; capacity = refl; film = refl; load = λ a. refl }
+as-kind t card F = record { corners = refl; stirs = refl; conductance = λ a b. refl; capacity = refl; film = refl; load = λ a. refl }
+as-kind t card T = idle t card
+as-kind t card Z = idle t card
+as-kind t card Other = idle t card
+
+-- THEOREM. Every card's part is what its kind does.
+pub as-part : (t card : List ℕ) → As t card (does card) (partFor t card)
+as-part t card = as-kind t card (kindAt card)
+
+-- three corners
+pub three : (t card : List ℕ) → take 3 (elementOf t card .shape .corners) ≡ elementOf t card .shape .corners
+unfolding elementOf bodyOf shapeOf
+three t card = refl
+
+pub count-three : (t card : List ℕ) → length (elementOf t card .shape .corners) ≡ 3
+unfolding elementOf bodyOf shapeOf
+count-three t card = refl
+
+-- a kind that has corners has three
+pub three-if-any : (kind : Kind) → (doesBy kind .corners ≡ 0 → ⊥) → doesBy kind .corners ≡ 3
+unfolding doesBy
+three-if-any D q = absurd (q refl)
+three-if-any N q = absurd (q refl)
+three-if-any M q = absurd (q refl)
+three-if-any E q = refl
+three-if-any H q = refl
+three-if-any F q = refl
+three-if-any T q = absurd (q refl)
+three-if-any Z q = absurd (q refl)
+three-if-any Other q = absurd (q refl)
+
+-- ---- ranges, by kind
+
+module _ (t card : List ℕ) (h : Card t card) where
+  at-kind : (k : ℕ) (kind : Kind) → kindAt card ≡ kind → k < 5 → let c = getD (columns (countsAt t) kind) k (0 ⋯ 0) in In (c .least) (c .most) (getD card (suc k) 0)
+  at-kind k kind e l =
+      in-told (getD (columns (countsAt t) kind) k (0 ⋯ 0)) (getD card (suc k) 0)
+      (subst (λ (q : Kind). within (getD (columns (countsAt t) q) k (0 ⋯ 0)) (getD card (suc k) 0) ≡ true) e (h .fits k l))
+
+  own-E : kindAt card ≡ E → ElementCard t card
+  unfolding columns
+  own-E e = record {
+    deck = h .deck;
+    corners = rw (← nodes-are t) (at-kind 0 E e (omega arith), (at-kind 1 E e (omega arith), (at-kind 2 E e (omega arith), tt)));
+    material = rw (← materials-are t) (at-kind 3 E e (omega arith));
+    thickness = at-kind 4 E e (omega arith) .1;
+  }
+
+  -- what conducts is an element
+  conducts-by : (kind : Kind) → kindAt card ≡ kind → doesBy kind .conducts ≡ true → ElementCard t card
+  unfolding doesBy
+  conducts-by D e q = never q
+  conducts-by N e q = never q
+  conducts-by M e q = never q
+  conducts-by E e q = own-E e
+  conducts-by H e q = never q
+  conducts-by F e q = never q
+  conducts-by T e q = never q
+  conducts-by Z e q = never q
+  conducts-by Other e q = never q
+
+  pub conducting : does card .conducts ≡ true → ElementCard t card
+  conducting = conducts-by (kindAt card) refl
+
+  -- what names an element names one of the deck
+  names-by : (kind : Kind) → kindAt card ≡ kind → doesBy kind .named ≡ true → In 1 (elements t) (getD card 1 0)
+  unfolding doesBy columns
+  names-by D e q = never q
+  names-by N e q = never q
+  names-by M e q = never q
+  names-by E e q = never q
+  names-by H e q = rw (← elements-are t) (at-kind 0 H e (omega arith))
+  names-by F e q = rw (← elements-are t) (at-kind 0 F e (omega arith))
+  names-by T e q = never q
+  names-by Z e q = never q
+  names-by Other e q = never q
+
+  pub naming : does card .named ≡ true → In 1 (elements t) (getD card 1 0)
+  naming = names-by (kindAt card) refl
+
+  -- the base of a card that has corners is an element
+  base-by : (kind : Kind) → kindAt card ≡ kind → (doesBy kind .corners ≡ 0 → ⊥) → ElementCard t (cond (doesBy kind .named) (rowAt t (namedRow t card)) card)
+  unfolding doesBy
+  base-by D e q = absurd (q refl)
+  base-by N e q = absurd (q refl)
+  base-by M e q = absurd (q refl)
+  base-by E e q = own-E e
+  base-by H e q = card-of t (getD card 1 0) (h .deck) (names-by H e refl)
+  base-by F e q = card-of t (getD card 1 0) (h .deck) (names-by F e refl)
+  base-by T e q = absurd (q refl)
+  base-by Z e q = absurd (q refl)
+  base-by Other e q = absurd (q refl)
+
+  pub based : (does card .corners ≡ 0 → ⊥) → ElementCard t (baseOf t card)
+  based = base-by (kindAt card) refl
+
+  films-by : (kind : Kind) → kindAt card ≡ kind → doesBy kind .films ≡ true → ElementCard t (cond (doesBy kind .named) (rowAt t (namedRow t card)) card) × (getD card 2 0 ≤ 100000)
+  unfolding doesBy columns
+  films-by D e q = never q
+  films-by N e q = never q
+  films-by M e q = never q
+  films-by E e q = never q
+  films-by H e q = never q
+  films-by F e q = (base-by F e (λ z. omega arith), at-kind 1 F e (omega arith) .1)
+  films-by T e q = never q
+  films-by Z e q = never q
+  films-by Other e q = never q
+
+  pub filming : does card .films ≡ true → ElementCard t (baseOf t card) × (getD card 2 0 ≤ 100000)
+  filming = films-by (kindAt card) refl
+
+-- ---- the card in a row, and a new one
+
+pub card-at : (t : List ℕ) (row : ℕ) → Deck t → suc row < rows t → Card t (rowAt t row)
+card-at t row d h = record {
+  deck = d;
+  fits = λ k l. subst (λ (v : ℕ). within (getD (columns (countsAt t) (kindOf v)) k (0 ⋯ 0)) (getD (rowAt t row) (suc k) 0) ≡ true) (sym (row-field t row 0 (omega arith)))
+      (subst (λ (v : ℕ). within (getD (columns (countsAt t) (kindIn t row)) k (0 ⋯ 0)) v ≡ true) (sym (row-field t row (suc k) (omega arith))) (d .span row k h l));
+}
+
+-- ---- sizes of squares
+
+module _ (t card : List ℕ) (h : Card t card) where
+  pub stored-size : partFor t card .capacity ≤ 2 ^ 37
+  stored-size = rw (as-part t card .capacity) (go (does card .conducts) refl)
+    where
+      go : (b : Bool) → does card .conducts ≡ b → cond b (elementOf t card .stored) 0 ≤ 2 ^ 37
+      go true e = let c = conducting t card h e in unfold elementOf in u-size (stepOf t) (bodyOf t card) (sized-of t card c) (step-of t (h .deck))
+      go false e = omega arith
+
+  pub film-size : partFor t card .film ≤ 349500
+  film-size = rw (as-part t card .film) (go (does card .films) refl)
+    where
+      go : (b : Bool) → does card .films ≡ b → cond b (faceFilm (getD card 2 0) (elementOf t (baseOf t card) .shape)) 0 ≤ 349500
+      go true e = let (c, l) = filming t card h e in unfold elementOf in film-small (getD card 2 0) (bodyOf t (baseOf t card) .shape) l (placed-of t (baseOf t card) c)
+      go false e = omega arith
+
+  pub conductance-small : Solid t card → (a b : ℕ) → a < 3 → b < 3 → natAbs (partFor t card .conductance a b) ≤ 2 ^ 47
+  conductance-small s a b la lb = rw (as-part t card .conductance a b) (go (does card .conducts) refl)
+    where
+      go : (q : Bool) → does card .conducts ≡ q → natAbs (cond q (square 3 (elementOf t card .between) a b) (pos 0)) ≤ 2 ^ 47
+      go true e = unfold elementOf in conductance-size (bodyOf t card) a b (sized-of t card (conducting t card h e)) (s .some e) la lb
+      go false e = omega arith
+
+  -- THEOREM. A card's square in A is small.
+  pub square-small : Solid t card → (a b : ℕ) → a < 3 → b < 3 → natAbs (squareA (partFor t card) a b) ≤ 2 ^ 48
+  square-small s a b la lb =
+      let x = partFor t card in
+      omega (
+        arith,
+        natAbs-plus (x .conductance a b +ℤ mass (x .capacity) a b) (mass (x .film) a b),
+        natAbs-plus (x .conductance a b) (mass (x .capacity) a b),
+        conductance-small s a b la lb,
+        mass-size (x .capacity) a b,
+        mass-size (x .film) a b,
+        stored-size,
+        film-size,
+      )

@@ -1,0 +1,230 @@
+// What a card adds to the model, of its six numbers. A new kind of card is a line in `by_kind`, and the code of its own part.
+use paper::Kind;
+use paper::Node;
+use paper::Ticks;
+ghost use mathlib.Core.Path.{_≡_};
+ghost use mathlib.Core.List.{List};
+ghost use Prim.Native.Nat.{ℕ, _*_, _-_, _/_, _^_, _≤_, _<_, min};
+ghost use lib.IntN.{pos};
+ghost use lib.ListN.{getD};
+ghost use Rattle.paper.specs.Ticks.{kelvin};
+ghost use Rattle.paper.specs.Kinds.{kindOf};
+ghost use Rattle.paper.specs.Parts.{partOf, partFor, least, leastRow};
+ghost use Rattle.paper.proofs.Places.{squareA};
+ghost use Rattle.triangle.specs.Forms.{asShape, squareOf};
+ghost use Rattle.part.specs.Forms.{cornersOf, line, doesBy, baseOf};
+ghost use Rattle.part.specs.Asks.{Card, Solid, Full};
+
+// The corners of a card's part: the first so many of these.
+pub struct Corners {
+    pub count: usize,
+    pub nodes: [Node; 3],
+}
+
+// How many corners a kind has, whether they are those of the element that it names, and what it does over them.
+pub struct Does {
+    pub corners: usize,
+    pub named: bool,
+    pub conducts: bool,
+    pub films: bool,
+    pub heats: bool,
+}
+
+// ---- by kind
+
+fn line(corners: usize, named: bool, conducts: bool, films: bool, heats: bool) -> Does
+    ensures { λ r. ⌜ r ≡ line corners named conducts films heats ⌝ }
+{
+    Does {
+        corners: corners,
+        named: named,
+        conducts: conducts,
+        films: films,
+        heats: heats,
+    }
+}
+
+// Corners, named, conducts, films, heats.
+fn by_kind(k: Kind) -> Does
+    ensures { λ r. ⌜ r ≡ doesBy k ⌝ }
+{
+    match k {
+        Kind::D => line(0, false, false, false, false),
+        Kind::N => line(0, false, false, false, false),
+        Kind::M => line(0, false, false, false, false),
+        Kind::E => line(3, false, true, false, false),
+        Kind::H => line(3, true, false, false, true),
+        Kind::F => line(3, true, false, true, false),
+        Kind::T => line(0, false, false, false, false),
+        Kind::Z => line(0, false, false, false, false),
+        Kind::Other => line(0, false, false, false, false),
+    }
+}
+
+// What a card of this letter does.
+pub fn by_letter(letter: u32) -> Does
+    ensures { λ r. ⌜ r ≡ doesBy (kindOf letter) ⌝ }
+{
+    by_kind(kinds::kind(letter))
+}
+
+// Whether it has a square in the matrices.
+pub fn stirs(letter: u32) -> bool
+    ensures { λ r. ⌜ ((t card : List ℕ) → r ≡ partOf t card (kindOf letter) .stirs) ⌝ }
+{
+    let it = by_letter(letter);
+    it.conducts || it.films
+}
+
+// ---- corners
+
+// The card of the element over whose corners a card lies: its own, or the one that it names.
+fn base(table: &[u32], card: [u32; 6]) -> [u32; 6]
+    requires { ⌜ Card (now table) card ⌝ }
+    ensures { λ r. ⌜ r ≡ baseOf (now (table .entry)) card ⌝ }
+{
+    let it = by_letter(card[0]);
+    if it.named {
+        return element::element_card(table, element::element(card[1]));
+    }
+    card
+}
+
+fn nowhere() -> Corners
+    ensures { λ r. ⌜ r .count ≡ 0 ⌝ }
+{
+    let none = element::node(0);
+    Corners {
+        count: 0,
+        nodes: [none, none, none],
+    }
+}
+
+pub fn corners_of(table: &[u32], card: [u32; 6]) -> Corners
+    requires { ⌜ Card (now table) card ⌝ }
+    ensures { λ r. ⌜ Full r × (cornersOf r ≡ partFor (now (table .entry)) card .corners) ⌝ }
+{
+    let it = by_letter(card[0]);
+    if it.corners == 0 {
+        return nowhere();
+    }
+    let shape = element::shape_of(table, base(table, card));
+    let nodes = shape.corners;
+    Corners {
+        count: it.corners,
+        nodes: nodes,
+    }
+}
+
+fn less(a: usize, b: usize) -> usize
+    ensures { λ r. ⌜ r ≡ min a b ⌝ }
+{
+    if a < b { a } else { b }
+}
+
+// The least corner's row.
+pub fn least_row(c: Corners) -> usize
+    requires { ⌜ Full c × (1 ≤ c .count) × (1 ≤ least (cornersOf c) (getD (cornersOf c) 0 1)) ⌝ }
+    ensures { λ r. ⌜ r ≡ least (cornersOf c) (getD (cornersOf c) 0 1) - 1 ⌝ }
+{
+    let nodes = c.nodes;
+    let mut m = element::node_row(nodes[0]);
+    let mut k = 0;
+    while k < c.count {
+        m = less(element::node_row(nodes[k]), m);
+        k += 1;
+    }
+    m - 1
+}
+
+// ---- what it stores, conducts and films
+
+// Its capacity, which is all of it that P has.
+pub fn stored(table: &[u32], card: [u32; 6]) -> u64
+    requires { ⌜ Card (now table) card ⌝ }
+    ensures { λ r. ⌜ (r ≡ partFor (now (table .entry)) card .capacity) × (r ≤ 2 ^ 37) ⌝ }
+{
+    let it = by_letter(card[0]);
+    if !it.conducts {
+        return 0;
+    }
+    let e = element::triangle_of(table, card);
+    triangle::capacity(
+        e,
+        triangle::twice_area(e.shape),
+        element::field(table, 0, 1),
+    )
+}
+
+fn film(table: &[u32], card: [u32; 6]) -> u64
+    requires { ⌜ Card (now table) card ⌝ }
+    ensures { λ r. ⌜ (r ≡ partFor (now (table .entry)) card .film) × (r ≤ 349500) ⌝ }
+{
+    let it = by_letter(card[0]);
+    if !it.films {
+        return 0;
+    }
+    triangle::film(card[2], element::shape_of(table, base(table, card)))
+}
+
+fn conductance(table: &[u32], card: [u32; 6]) -> [[i64; 3]; 3]
+    requires { ⌜ Card (now table) card × Solid (now table) card ⌝ }
+    ensures { λ r. ⌜ r ≡ squareOf (partFor (now (table .entry)) card .conductance) ⌝ }
+{
+    let it = by_letter(card[0]);
+    if !it.conducts {
+        return [[0, 0, 0], [0, 0, 0], [0, 0, 0]];
+    }
+    let e = element::triangle_of(table, card);
+    triangle::conductance(e, triangle::twice_area(e.shape))
+}
+
+// Its square in A: all three.
+pub fn square_a(table: &[u32], card: [u32; 6]) -> [[i64; 3]; 3]
+    requires { ⌜ Card (now table) card × Solid (now table) card ⌝ }
+    ensures { λ r. ⌜ r ≡ squareOf (squareA (partFor (now (table .entry)) card)) ⌝ }
+{
+    let within = triangle::plus(
+        conductance(table, card),
+        triangle::mass(stored(table, card)),
+    );
+    triangle::plus(within, triangle::mass(film(table, card)))
+}
+
+// ---- loads
+
+// A third of the heat, rounded down.
+fn heat_load(heat: u32) -> u64
+    ensures { λ r. ⌜ r ≡ kelvin * heat / 3 ⌝ }
+{
+    Ticks::KELVIN as u64 * heat as u64 / 3
+}
+
+// A corner's row of the film, which sums to 4 of it, times the ambient.
+fn film_load(film: u64, ambient: Ticks) -> u64
+    requires { ⌜ film ≤ 349500 ⌝ }
+    ensures { λ r. ⌜ r ≡ 4 * film * ambient .0 ⌝ }
+{
+    4 * film * ambient.0 as u64
+}
+
+// What one corner gets.
+fn load(table: &[u32], card: [u32; 6]) -> u64
+    requires { ⌜ Card (now table) card ⌝ }
+    ensures { λ r. ⌜ ((a : ℕ) → pos r ≡ partFor (now (table .entry)) card .load a) ⌝ }
+{
+    let it = by_letter(card[0]);
+    if it.heats {
+        return heat_load(card[2]);
+    }
+    film_load(film(table, card), Ticks(card[3]))
+}
+
+// The share of each corner.
+pub fn shares(table: &[u32], card: [u32; 6]) -> [u64; 3]
+    requires { ⌜ Card (now table) card ⌝ }
+    ensures { λ r. ⌜ ((a : ℕ) → a < 3 → pos (getD r a 0) ≡ partFor (now (table .entry)) card .load a) ⌝ }
+{
+    let v = load(table, card);
+    [v, v, v]
+}

@@ -1,0 +1,72 @@
+-- A refusal leaves the old temperatures as they were.
+use borrow.Author.Needs.{needs}
+use Rattle.settle.proofs.finish.Statement.{statement}
+use Rattle.settle.proofs.finish.Tie as tie
+use mathlib.Core.Path.{sym, subst, _∙_}
+use mathlib.Core.List.{List}
+use Prim.Native.Nat.{ℕ}
+use lib.IntN.{ℤ}
+use Rattle.lent.specs.Rows.{Mild}
+use Rattle.settle.proofs.Boards.{again}
+use Rattle.settle.proofs.Ends.{exits-refused, exits-settled, from-old}
+
+narrow-requires : tie.Need-narrow-requires
+narrow-requires c κs = subst (λ (m : ℕ). Mild (c .before .before .before .args .old .now) m) (sym (c .before .before .before .pre .2)) (c .before .before .before .pre .0 .u-mild)
+
+attempts-requires : tie.Need-attempts-requires
+attempts-requires c κs = (again (c .before .before .before .before .before .before .before .before .pre .0) (subst (λ (x : List ℤ). Mild x (c .before .before .before .before .before .before .before .before .args .n)) (sym (c .before .before .before .before .narrow .ensures)) (c .before .before .before .before .before .before .before .before .pre .0 .u-mild)) (c .before .before .before .before .before .before .before .before .pre .0 .r-long), c .before .before .before .before .before .before .before .before .pre .1)
+
+enum-known-e : tie.Need-enum-known-e
+enum-known-e c = search needs
+
+enum-told : tie.Need-enum-told
+enum-told c = search needs
+
+same-length : tie.Need-same-length
+same-length c = search needs
+
+same-length-2 : tie.Need-same-length-2
+same-length-2 c = search needs
+
+same-length-3 : tie.Need-same-length-3
+same-length-3 c = search needs
+
+returns : tie.Need-returns
+returns c =
+    let s = c .before .before .before .before .before .before .before .before .before .before .before .before .before .args in
+    exits-refused (c .before .before .before .before .attempts .result) (c .before .before .before .before .attempts .last .1 .1 .1 .1 .1 .1 .0) (c .before .before .before .before .attempts .ensures ∙ from-old (s .table .now) (s .p .now) (s .a .now) (s .l .now) (s .old .now) (c .before .before .before .before .before .before .before .before .before .narrow .last .1 .0) (c .before .before .before .before .before .before .before .before .before .narrow .ensures)) _ (c .enum-told .given .1)
+
+widen-requires : tie.Need-widen-requires
+widen-requires c κs = search needs
+
+same-length-4 : tie.Need-same-length-4
+same-length-4 c = search needs
+
+same-length-5 : tie.Need-same-length-5
+same-length-5 c = search needs
+
+same-length-6 : tie.Need-same-length-6
+same-length-6 c = search needs
+
+returns-2 : tie.Need-returns-2
+returns-2 c =
+    let s = c .before .before .before .before .before .before .before .before .before .before .before .before .before .before .before .before .before .before .args in
+    exits-settled (c .before .before .before .before .before .before .before .before .before .attempts .result) (c .before .before .before .before .before .before .before .before .before .attempts .last .1 .1 .1 .1 .1 .1 .0) (c .before .before .before .before .before .before .before .before .before .attempts .ensures ∙ from-old (s .table .now) (s .p .now) (s .a .now) (s .l .now) (s .old .now) (c .before .before .before .before .before .before .before .before .before .before .before .before .before .before .narrow .last .1 .0) (c .before .before .before .before .before .before .before .before .before .before .before .before .before .before .narrow .ensures)) _ (c .before .before .before .before .before .e .given .1) (c .before .widen .ensures)
+
+pub finish-spec : {M : Type 1} → statement M
+finish-spec =
+    tie.close
+    (tie.spec
+    narrow-requires
+    attempts-requires
+    enum-known-e
+    enum-told
+    same-length
+    same-length-2
+    same-length-3
+    returns
+    widen-requires
+    same-length-4
+    same-length-5
+    same-length-6
+    returns-2)

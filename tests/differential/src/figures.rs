@@ -1,0 +1,134 @@
+//! The paper's checked numbers, P1 to P12, out of the archive alone.
+
+use crate::archive;
+use crate::case::{Call, Lent};
+use crate::decks::{Groups, E};
+
+const START: i64 = 19_660_800;
+
+/// What a number past the end must stay.
+const PAST: i64 = 77;
+
+/// A deck of three nodes, with slices one longer than it asks.
+fn lend(groups: &Groups) -> Lent {
+    Lent {
+        table: groups.table(),
+        matrices: [0; 4].map(|_| vec![PAST; 7]),
+        temperatures: vec![START, START, START, PAST],
+        ..Lent::default()
+    }
+}
+
+/// The base of the paper with something else in it, built: the packed answer, P, A and factor.
+fn built(change: fn(&mut Groups)) -> (u64, [Vec<i64>; 3]) {
+    let mut groups = Groups::base();
+    change(&mut groups);
+    let mut lent = lend(&groups);
+    let answer = archive::call(Call::Build, &mut lent);
+    let [p, a, factor, work] = lent.matrices;
+    let worked = answer == 0 || [7, 8].contains(&(answer & 255));
+    assert_eq!(work[..6], [if worked { 0 } else { PAST }; 6]);
+    assert_eq!([p[6], a[6], factor[6], work[6]], [PAST; 4]);
+    (answer, [p, a, factor].map(|matrix| matrix[..6].to_vec()))
+}
+
+/// A refusal, packed, with P, A and the factor as they were.
+fn refused(number: u64, place: u64) -> (u64, [Vec<i64>; 3]) {
+    (number + 65_536 * place, [0; 3].map(|_| vec![PAST; 6]))
+}
+
+/// The base built and stepped once: the packed answer and the temperatures.
+fn stepped(change: fn(&mut Groups)) -> (u64, Vec<i64>) {
+    let mut groups = Groups::base();
+    change(&mut groups);
+    let mut lent = lend(&groups);
+    archive::call(Call::Build, &mut lent);
+    let answer = archive::call(Call::Step, &mut lent);
+    (answer, lent.temperatures)
+}
+
+fn film(groups: &mut Groups, film: u32) {
+    groups.films.push([1, film, 0]);
+}
+
+fn thick(groups: &mut Groups, capacity: u32) {
+    (groups.d[0], groups.elements[0][4], groups.materials[0][2]) = (1, 4_000, capacity);
+}
+
+fn matrices() {
+    let (answer, [p, a, factor]) = built(|_| {});
+    assert_eq!(answer, 0);
+    let conductance: Vec<i64> = a.iter().zip(&p).map(|(a, p)| a - p).collect();
+    assert_eq!(conductance, [1_000, -500, 500, -500, 0, 500], "P1");
+    assert_eq!(p, [5_000, 2_500, 5_000, 2_500, 2_500, 5_000], "P2");
+    assert_eq!(built(|groups| film(groups, 479)).1[1], a, "P3");
+    let filmed = built(|groups| film(groups, 480)).1[1].clone();
+    let more: Vec<i64> = filmed.iter().zip(&a).map(|(now, a)| now - a).collect();
+    assert_eq!(more, [2, 1, 2, 1, 1, 2], "P3");
+    assert_eq!(
+        built(|groups| groups.elements[0] = [1, 3, 2, 1, 1_000]).1[1],
+        a,
+        "P4"
+    );
+    assert_eq!(
+        factor,
+        [6_000, 349_525, 4_833, 349_525, 397_691, 4_138],
+        "P5"
+    );
+}
+
+fn steps() {
+    let warmer = START + 7;
+    assert_eq!(
+        stepped(|groups| groups.heats.push([1, 3])),
+        (256, vec![warmer, warmer, warmer, PAST]),
+        "P6"
+    );
+    assert_eq!(
+        stepped(|_| {}),
+        (256, vec![START, START, START, PAST]),
+        "P7"
+    );
+}
+
+fn refusals() {
+    let slow = |groups: &mut Groups| (groups.materials[0][2], groups.d[0]) = (1, 60_000);
+    assert_eq!(built(slow), refused(7, 3), "P8");
+    let thin = |groups: &mut Groups| {
+        groups.nodes[2] = [101, 1];
+        groups.materials[0] = [10_000, 10_000, 1];
+    };
+    assert_eq!(built(thin), refused(8, 2), "P9");
+    let (answer, [p, ..]) = built(|groups| thick(groups, 960));
+    assert_eq!((answer, &p[..2]), (0, &[8_000_000, 4_000_000][..]), "P10");
+    assert_eq!(built(|groups| thick(groups, 961)), refused(6, 1), "P10");
+    assert_eq!(
+        built(|groups| groups.nodes = vec![[0, 0], [50, 50], [100, 100]]),
+        refused(5, 1),
+        "P11"
+    );
+}
+
+fn replacement() {
+    let mut lent = lend(&Groups::base());
+    archive::call(Call::Build, &mut lent);
+    let new = [E, 1, 2, 3, 1, 2_000];
+    assert_eq!(
+        archive::call(Call::Replace { card: 6, new }, &mut lent),
+        0,
+        "P12"
+    );
+    assert_eq!(lent.table[30..36], new, "P12");
+    assert_eq!(
+        lent.matrices[1],
+        [12_000, 4_000, 11_000, 4_000, 5_000, 11_000, PAST],
+        "P12"
+    );
+}
+
+pub fn all() {
+    matrices();
+    steps();
+    refusals();
+    replacement();
+}

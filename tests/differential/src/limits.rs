@@ -1,0 +1,129 @@
+//! Cases just at a limit and just past it, which chance seldom draws. `tests/kernel` takes this file too.
+
+use crate::case::{Call, Lent};
+use crate::decks::{nodes_of, triangle, Groups};
+use crate::trial::Trial;
+
+const P: usize = 0;
+const A: usize = 1;
+const FACTOR: usize = 2;
+
+/// A deck built, with all that the calls take exactly as long as they ask.
+fn built(trial: &mut Trial, table: Vec<u32>) -> Lent {
+    let (bytes, nodes) = (7 * table.len(), nodes_of(&table));
+    let mut lent = Lent {
+        bytes: vec![b'?'; bytes],
+        matrices: [0; 4].map(|_| vec![7; triangle(nodes)]),
+        temperatures: vec![i64::from(table[2]); nodes],
+        table,
+        ..Lent::default()
+    };
+    assert_eq!(trial.call(&mut lent, Call::Build), 0);
+    lent
+}
+
+/// The card in a row, put in its own place.
+fn same(table: &[u32], row: usize) -> Call {
+    Call::Replace {
+        card: row as u32 + 1,
+        new: table[6 * row..6 * row + 6].try_into().unwrap(),
+    }
+}
+
+pub fn short_buffers(trial: &mut Trial) {
+    let whole = built(trial, Groups::one_of_each().table());
+    let [element, heat] = [5, 6].map(|row| same(&whole.table, row));
+    for which in 0..4 {
+        for call in [Call::Build, element, heat, Call::Step] {
+            let mut lent = whole.clone();
+            lent.matrices[which].pop();
+            trial.call(&mut lent, call);
+        }
+    }
+    let mut lent = whole.clone();
+    lent.temperatures.pop();
+    trial.call(&mut lent, Call::Step);
+    let mut lent = whole.clone();
+    lent.bytes.pop();
+    trial.call(&mut lent, Call::Write);
+    let mut lent = whole;
+    trial.call(&mut lent, Call::Write);
+    lent.table.pop();
+    trial.call(&mut lent, Call::Read);
+}
+
+/// Pivots of some times their size: each correction then does less.
+pub fn unsettled(trial: &mut Trial) {
+    let mut groups = Groups::base();
+    groups.heats.push([1, 5_000]);
+    for times in [1, 2, 4, 8, 16, 1_000] {
+        let mut lent = built(trial, groups.table());
+        for i in 0..3 {
+            lent.matrices[FACTOR][triangle(i) + i] *= times;
+        }
+        trial.call(&mut lent, Call::Step);
+    }
+}
+
+/// A held node some ticks off, and a pivot so large that no correction moves it: one tick is settled, two are not.
+pub fn off_the_card(trial: &mut Trial) {
+    let mut groups = Groups::base();
+    groups.fixed.push([1, 19_660_800]);
+    for off in [-2, -1, 1, 2] {
+        let mut lent = built(trial, groups.table());
+        lent.matrices[FACTOR][0] = 1 << 38;
+        lent.temperatures[0] += off;
+        trial.call(&mut lent, Call::Step);
+    }
+}
+
+/// Refusal 10, and 7 and 8 of a replacement's factor.
+pub fn lent_numbers(trial: &mut Trial) {
+    let whole = built(trial, Groups::one_of_each().table());
+    for at in 0..6 {
+        let diagonal = [0, 2, 5].contains(&at);
+        let most = if diagonal { 1 << 38 } else { 1 << 24 };
+        for value in [15, 16, most, most + 1, -most, -most - 1] {
+            with(trial, &whole, FACTOR, at, value);
+        }
+        for matrix in [P, A] {
+            let mut empty = whole.clone();
+            empty.matrices[matrix].fill(0);
+            for value in [1 << 33, (1 << 33) + 1, -1 << 33, (-1 << 33) - 1] {
+                with(trial, &empty, matrix, at, value);
+            }
+        }
+    }
+    // Of the first row, with a pivot of d: w, whose l is at most 2^24.
+    for (d, w) in [
+        (15, 1),
+        (16, 1),
+        (1 << 20, 1 << 24),
+        (1 << 20, (1 << 24) + 1),
+    ] {
+        first_row(trial, d, w);
+        first_row(trial, d, -w);
+    }
+}
+
+/// One number of what is lent to a step and to a replacement of each kind.
+fn with(trial: &mut Trial, whole: &Lent, matrix: usize, at: usize, value: i64) {
+    let replacements = (5..9).map(|row| same(&whole.table, row));
+    for call in replacements.chain([Call::Step]) {
+        let mut lent = whole.clone();
+        lent.matrices[matrix][at] = value;
+        trial.call(&mut lent, call);
+    }
+}
+
+/// A deck without T, so that no row of A is cleared, and its E and F put in their own places over such an A.
+fn first_row(trial: &mut Trial, d: i64, w: i64) {
+    let mut groups = Groups::base();
+    groups.films.push([1, 480, 19_660_800]);
+    let whole = built(trial, groups.table());
+    for row in [5, 6] {
+        let mut lent = whole.clone();
+        lent.matrices[A] = vec![d, w, 1 << 31, 0, 0, 1 << 31];
+        trial.call(&mut lent, same(&whole.table, row));
+    }
+}
