@@ -16,8 +16,8 @@ use Rattle.paper.specs.declared.Refusal.the-variants.{Form, Range}
 use Rattle.paper.specs.declared.About.{About}
 use Rattle.paper.specs.declared.Counts.{Counts}
 use Rattle.paper.specs.declared.Kind.the-variants.{Z}
-use Rattle.paper.proofs.Letters.{kind-of}
-use Rattle.paper.proofs.Judging.{formed-on, formed-not, ranged-on, ranged-not, form-refused, range-refused, card-done}
+use Rattle.laws.proofs.Letters.{kind-of}
+use Rattle.laws.proofs.Judging.{formed-on, formed-not, ranged-on, ranged-not, form-refused, range-refused, card-done}
 use Rattle.kinds.specs.Laid.{starts}
 use Rattle.kinds.proofs.Sections.{starts-are}
 

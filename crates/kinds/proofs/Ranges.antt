@@ -10,7 +10,7 @@ use lib.ListN.{length, getD}
 use Rattle.paper.specs.Kinds.{ends, kindAt}
 use Rattle.paper.specs.Cards.{Column, before, columns, columnsOf, used, zeros, inRange}
 use Rattle.paper.specs.Judge.{clean}
-use Rattle.paper.proofs.Judging.{clean-start}
+use Rattle.laws.proofs.Judging.{clean-start}
 use Rattle.paper.specs.declared.Counts.{Counts}
 use Rattle.paper.specs.declared.Kind.{Kind}
 use Rattle.paper.specs.declared.Kind.the-variants.{D, N, M, E, H, F, T, Z, Other}

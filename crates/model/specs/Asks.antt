@@ -6,7 +6,7 @@ use lib.IntN.{ℤ, _-ℤ_}
 use lib.ListN.{length}
 use Rattle.paper.specs.Cards.{rowAt}
 use Rattle.paper.specs.Parts.{partFor}
-use Rattle.paper.proofs.Places.{squareP}
+use Rattle.laws.proofs.Places.{squareP}
 use Rattle.triangle.specs.Forms.{numbers, squareOf}
 use Rattle.part.specs.declared.Corners.{Corners}
 use Rattle.packed.specs.Asks.{Takes}

@@ -7,7 +7,7 @@ ghost use lib.IntN.{pos};
 ghost use lib.ListN.{length, replicate, drop};
 ghost use Rattle.paper.specs.Cards.{put};
 ghost use Rattle.paper.specs.Calls.{lent, left, buildCall, replaceCall};
-ghost use Rattle.paper.proofs.Places.{addSquare};
+ghost use Rattle.laws.proofs.Places.{addSquare};
 ghost use Rattle.triangle.specs.Forms.{numbers, at};
 ghost use Rattle.model.specs.Asks.{storedSquare, Accepts};
 

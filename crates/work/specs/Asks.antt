@@ -11,8 +11,8 @@ use Rattle.paper.specs.Cards.{nodes}
 use Rattle.paper.specs.Matrices.{fixed, cleared}
 use Rattle.paper.specs.Lent.{noFactor}
 use Rattle.paper.specs.declared.Answer.{Answer}
-use Rattle.paper.proofs.Decks.{Deck}
-use Rattle.paper.proofs.Places.{addSquare}
+use Rattle.laws.proofs.Decks.{Deck}
+use Rattle.laws.proofs.Places.{addSquare}
 use Rattle.triangle.specs.Forms.{numbers, at}
 use Rattle.part.specs.declared.Corners.{Corners}
 use Rattle.packed.specs.Asks.{Bounded, Takes}

@@ -5,7 +5,7 @@ use mathlib.Core.Path.{_≡_, sym, ap, subst, _∙_}
 use mathlib.Core.List.{List}
 use lib.IntN.{ℤ}
 use Rattle.triangle.specs.Forms.{numbers, at}
-use Rattle.paper.proofs.Places.{addSquare}
+use Rattle.laws.proofs.Places.{addSquare}
 use Rattle.packed.specs.Asks.{Takes}
 use Rattle.change.proofs.Forming.{row-room}
 
