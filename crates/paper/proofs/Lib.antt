@@ -1,6 +1,8 @@
 -- Figures of the definitions: what each gives of decks that are written out.
 pub mod Cases
 pub mod Checked
+pub mod Built
+pub mod Texts
 pub mod Edges
 pub mod Orders
 pub mod Redone
