@@ -1,6 +1,6 @@
 use borrow.Author.Needs.{needs}
-use Rattle.model.proofs.accept.Statement.{statement}
-use Rattle.model.proofs.accept.Tie as tie
+use Rattle.renew.proofs.accept.Statement.{statement}
+use Rattle.renew.proofs.accept.Tie as tie
 use mathlib.Core.Path.{_≡_, sym, ap, subst, _∙_}
 use mathlib.Core.List.{List}
 use lib.IntN.{ℤ}
