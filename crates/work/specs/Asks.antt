@@ -5,7 +5,7 @@ use mathlib.Core.List.{List, _++_}
 use Prim.Native.Nat.{ℕ, _^_, _≤_}
 use lib.IntN.{ℤ, pos}
 use lib.ListN.{length, replicate, drop}
-use Rattle.whole.specs.Packed.{tri, matrix, lower, entry}
+use Rattle.whole.specs.Packed.{start, matrix, lower, entry}
 use Rattle.paper.specs.Refusals.{Outcome, refused, done, answerOf}
 use Rattle.paper.specs.Cards.{nodes}
 use Rattle.paper.specs.Matrices.{fixed, cleared}
@@ -48,7 +48,7 @@ pub record Edits (t : List ℕ) (a w : List ℤ) (c : Corners) (q : List (List �
 -- and the rows of a factor above row m, which pass refusal 10; the numbers below them are within what the factor asks
 pub record Refactors (t : List ℕ) (a above w : List ℤ) (c : Corners) (q : List (List ℤ)) (m : ℕ) : Type 0 where
   pub edits : Edits t a w c q
-  pub of-above : length above ≡ tri m
+  pub of-above : length above ≡ start m
   pub tame : noFactor m above ≡ false
   pub low : m ≤ nodes t
   pub small : Bounded (2 ^ 50) (added a c q)
