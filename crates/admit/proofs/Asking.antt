@@ -29,13 +29,13 @@ use Rattle.paper.specs.declared.Answer.the-variants.{Done, Refused}
 use Rattle.paper.specs.declared.Refusal.{Refusal}
 use Rattle.paper.specs.declared.Refusal.the-variants.{Form, Range, Replacement}
 use Rattle.paper.specs.declared.Kind.the-variants.{Other}
-use Rattle.paper.proofs.Outcomes.{done-refused, both-done, cond-done}
-use Rattle.paper.proofs.Refused.{Plain, plain-told, judged-plain, new-plain, element-plain, inside-told, rows-inside}
-use Rattle.paper.proofs.Decks.{Deck}
-use Rattle.paper.proofs.Judged.{deck, range-each}
-use Rattle.paper.proofs.NewCard.{change, stays, new-place}
-use Rattle.paper.proofs.Lent.{Passes, lent-told, enough-told}
-use Rattle.paper.proofs.Calls.{replaceOutcome, replace-is}
+use Rattle.laws.proofs.Outcomes.{done-refused, both-done, cond-done}
+use Rattle.laws.proofs.Refused.{Plain, plain-told, judged-plain, new-plain, element-plain, inside-told, rows-inside}
+use Rattle.laws.proofs.Decks.{Deck}
+use Rattle.laws.proofs.Judged.{deck, range-each}
+use Rattle.laws.proofs.NewCard.{change, stays, new-place}
+use Rattle.laws.proofs.Lent.{Passes, lent-told, enough-told}
+use Rattle.laws.proofs.Calls.{replaceOutcome, replace-is}
 use Rattle.change.specs.Asks.{Changes, Renews}
 use Rattle.change.proofs.Forming.{stirs-new, row-room}
 use Rattle.admit.specs.Asks.{askedJudged}

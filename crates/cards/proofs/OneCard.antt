@@ -16,40 +16,30 @@ use Rattle.paper.specs.declared.Refusal.the-variants.{Form, Range}
 use Rattle.paper.specs.declared.About.{About}
 use Rattle.paper.specs.declared.Counts.{Counts}
 use Rattle.paper.specs.declared.Kind.the-variants.{Z}
-use Rattle.paper.proofs.Letters.{kind-of}
-use Rattle.paper.proofs.Judging.{formed-on, formed-not, ranged-on, ranged-not, form-refused, range-refused, card-done}
-use Rattle.kinds.specs.Laid.{starts}
-use Rattle.kinds.proofs.Sections.{starts-are}
+use Rattle.laws.proofs.Letters.{kind-of}
+use Rattle.laws.proofs.Judging.{formed-on, formed-not, ranged-on, ranged-not, form-refused, range-refused, card-done}
 
 -- where it stands
-module _ (z : Counts) (i p : ℕ) (a : About) (small : a .section ≤ 6) {s : List ℕ} (e : s ≡ starts z) where
-  start : (k : ℕ) → k < 8 → getD s k 0 ≡ before z k
-  start k h = ap (λ (s : List ℕ). getD s k 0) e ∙ starts-are z k h
-
-  pub stands-early : i < getD s (a .section) 0 → false ≡ stands z i p a
+module _ (z : Counts) (i p : ℕ) (a : About) where
+  pub stands-early : i < before z (a .section) → false ≡ stands z i p a
   unfolding stands
-  stands-early h =
-      let l : i < before z (a .section) = omega (arith, start (a .section) (omega arith)) in
-      simp (lt-leb (before z (a .section)) i l)
+  stands-early h = simp (lt-leb (before z (a .section)) i h)
 
-  module _ (h : getD s (a .section) 0 ≤ i) where
-    begun : leb (before z (a .section)) i ≡ true
-    begun = let l : before z (a .section) ≤ i = omega (arith, start (a .section) (omega arith)) in le-leb (before z (a .section)) i l
+  module _ (h : before z (a .section) ≤ i) where
+    next : before z (a .section + 1) ≡ before z (suc (a .section))
+    next = ap (before z) (add-one (a .section))
 
-    next : getD s (a .section + 1) 0 ≡ before z (suc (a .section))
-    next = start (a .section + 1) (omega arith) ∙ ap (before z) (add-one (a .section))
-
-    pub stands-late : getD s (a .section + 1) 0 ≤ i → false ≡ stands z i p a
+    pub stands-late : before z (a .section + 1) ≤ i → false ≡ stands z i p a
     unfolding stands
     stands-late g =
         let l : before z (suc (a .section)) ≤ i = omega (arith, next) in
-        simp (begun, le-ltb i (before z (suc (a .section))) l)
+        simp (le-leb (before z (a .section)) i h, le-ltb i (before z (suc (a .section))) l)
 
-    pub stands-in : i < getD s (a .section + 1) 0 → leb p (a .order) ≡ stands z i p a
+    pub stands-in : i < before z (a .section + 1) → leb p (a .order) ≡ stands z i p a
     unfolding stands
     stands-in g =
         let l : i < before z (suc (a .section)) = omega (arith, next) in
-        simp (begun, lt-ltb i (before z (suc (a .section))) l)
+        simp (le-leb (before z (a .section)) i h, lt-ltb i (before z (suc (a .section))) l)
 
 -- whether its key rises
 module _ (p key : ℕ) (a : About) (card : List ℕ) where

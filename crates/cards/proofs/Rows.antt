@@ -8,8 +8,8 @@ use Rattle.paper.specs.Kinds.{kindOf, kindAt}
 use Rattle.paper.specs.Cards.{rowAt, field}
 use Rattle.paper.specs.Judge.{judgeCard}
 use Rattle.paper.specs.declared.Counts.{Counts}
-use Rattle.paper.proofs.Tables.{row-field}
-use Rattle.paper.proofs.Judging.{card-same}
+use Rattle.laws.proofs.Tables.{row-field}
+use Rattle.laws.proofs.Judging.{card-same}
 
 -- the part that the code lends is row i
 pub lent : (t : List ℕ) (i : ℕ) → take (i * 6 + 6 - i * 6) (drop (i * 6) t) ≡ rowAt t i

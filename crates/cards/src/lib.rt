@@ -22,12 +22,10 @@ fn stands_at(counts: Counts, i: usize, group: u32, a: About) -> bool
     requires { ⌜ a .section ≤ 6 ⌝ }
     ensures { λ r. ⌜ r ≡ stands counts i group a ⌝ }
 {
-    let starts = kinds::starts_of(counts);
-    let s = a.section;
-    if i < starts[s] {
+    if i < kinds::cards_before(counts, a.section) {
         return false;
     }
-    if starts[s + 1] <= i {
+    if kinds::cards_before(counts, a.section + 1) <= i {
         return false;
     }
     group <= a.order

@@ -17,13 +17,13 @@ use Rattle.paper.specs.declared.Answer.{Answer}
 use Rattle.paper.specs.declared.Answer.the-variants.{Done}
 use Rattle.paper.specs.declared.Kind.{Kind}
 use Rattle.paper.specs.declared.Kind.the-variants.{D, N, M, E, H, F, T, Z, Other}
-use Rattle.paper.proofs.Decks.{In, Deck, Change, kindIn}
-use Rattle.paper.proofs.Letters.{flat, body-section}
-use Rattle.paper.proofs.Tables.{row-field}
-use Rattle.paper.proofs.Spans.{in-bodies, names-F}
-use Rattle.paper.proofs.Kept.{place}
-use Rattle.paper.proofs.Changed.{kind-here, form-element, form-load}
-use Rattle.paper.proofs.Elements.{Formed, sound-one}
+use Rattle.laws.proofs.Decks.{In, Deck, Change, kindIn}
+use Rattle.laws.proofs.Letters.{flat, body-section}
+use Rattle.laws.proofs.Tables.{row-field}
+use Rattle.laws.proofs.Spans.{in-bodies, names-F}
+use Rattle.laws.proofs.Kept.{place}
+use Rattle.laws.proofs.Changed.{kind-here, form-element, form-load}
+use Rattle.laws.proofs.Elements.{Formed, sound-one}
 use Rattle.element.specs.Asks.{ElementCard}
 use Rattle.part.specs.Forms.{doesBy, does}
 use Rattle.part.specs.Asks.{Card, Solid}

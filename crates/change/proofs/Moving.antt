@@ -12,11 +12,11 @@ use Rattle.paper.specs.Corners.{mass}
 use Rattle.paper.specs.Parts.{Part, partFor, partAt, least, leastRow}
 use Rattle.paper.specs.Matrices.{addsP, addsA}
 use Rattle.paper.specs.Replacing.{moved, firstRow}
-use Rattle.paper.proofs.Spans.{Inside, part-corners}
-use Rattle.paper.proofs.Sizes.{Distinct}
-use Rattle.paper.proofs.Square.{Sound, part-sound}
-use Rattle.paper.proofs.Changed.{part-here, corners-here}
-use Rattle.paper.proofs.Places.{addSquare, squareP, squareA, moved-P, moved-A}
+use Rattle.laws.proofs.Spans.{Inside, part-corners}
+use Rattle.laws.proofs.Sizes.{Distinct}
+use Rattle.laws.proofs.Square.{Sound, part-sound}
+use Rattle.laws.proofs.Changed.{part-here, corners-here}
+use Rattle.laws.proofs.Places.{addSquare, squareP, squareA, moved-P, moved-A}
 use Rattle.triangle.specs.Forms.{numbers, at, squareOf}
 use Rattle.triangle.specs.Asks.{Small}
 use Rattle.triangle.proofs.Sizes.{mass-size}

@@ -27,15 +27,15 @@ use Rattle.paper.specs.declared.Answer.{Answer}
 use Rattle.paper.specs.declared.Answer.the-variants.{Done}
 use Rattle.paper.specs.declared.Kind.{Kind}
 use Rattle.paper.specs.declared.Kind.the-variants.{D, N, M, E, H, F, T, Z, Other}
-use Rattle.paper.proofs.Decks.{In, Deck, kindIn}
-use Rattle.paper.proofs.Tables.{row-field}
-use Rattle.paper.proofs.Spans.{Inside, part-corners, names-F}
-use Rattle.paper.proofs.Sizes.{Distinct, spread-row}
-use Rattle.paper.proofs.Square.{Sound, part-sound}
-use Rattle.paper.proofs.Least.{least-in, least-each, least-most}
-use Rattle.paper.proofs.Elements.{Formed, sound-one, distinct}
-use Rattle.paper.proofs.Changed.{part-here, corners-here, fixed-same, form-load, kind-here}
-use Rattle.paper.proofs.Places.{addSquare, squareP, squareA, moved-P, moved-A}
+use Rattle.laws.proofs.Decks.{In, Deck, kindIn}
+use Rattle.laws.proofs.Tables.{row-field}
+use Rattle.laws.proofs.Spans.{Inside, part-corners, names-F}
+use Rattle.laws.proofs.Sizes.{Distinct, spread-row}
+use Rattle.laws.proofs.Square.{Sound, part-sound}
+use Rattle.laws.proofs.Least.{least-in, least-each, least-most}
+use Rattle.laws.proofs.Elements.{Formed, sound-one, distinct}
+use Rattle.laws.proofs.Changed.{part-here, corners-here, fixed-same, form-load, kind-here}
+use Rattle.laws.proofs.Places.{addSquare, squareP, squareA, moved-P, moved-A}
 use Rattle.triangle.specs.Forms.{numbers, at, squareOf}
 use Rattle.triangle.proofs.Sizes.{mass-size}
 use Rattle.part.specs.Forms.{cornersOf, doesBy, does}

@@ -6,7 +6,7 @@ use Prim.Native.Nat.{ℕ, _+_, _≤_, _<_}
 use Rattle.paper.specs.Cards.{nodes, materials, elements, put}
 use Rattle.paper.specs.Replacing.{formOf, stirs}
 use Rattle.paper.specs.declared.Answer.the-variants.{Done}
-use Rattle.paper.proofs.Decks.{Deck, Change}
+use Rattle.laws.proofs.Decks.{Deck, Change}
 use Rattle.part.specs.Asks.{Card}
 
 -- a row of the elements

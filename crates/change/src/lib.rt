@@ -11,8 +11,8 @@ ghost use Rattle.paper.specs.Cards.{rowAt, rows, nodes, materials, elements, pu
 ghost use Rattle.paper.specs.Parts.{partFor};
 ghost use Rattle.paper.specs.Replacing.{stirs, formOf};
 ghost use Rattle.paper.specs.declared.Answer.the-variants.{Done};
-ghost use Rattle.paper.proofs.Decks.{Deck};
-ghost use Rattle.paper.proofs.Places.{squareP, squareA, addSquare};
+ghost use Rattle.laws.proofs.Decks.{Deck};
+ghost use Rattle.laws.proofs.Places.{squareP, squareA, addSquare};
 ghost use Rattle.triangle.specs.Forms.{numbers, at, squareOf};
 ghost use Rattle.packed.specs.Asks.{Takes};
 ghost use Rattle.change.specs.Asks.{InBodies, Changes, Renews};

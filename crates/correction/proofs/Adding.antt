@@ -22,7 +22,7 @@ use Rattle.paper.specs.Ticks.{onScale}
 use Rattle.paper.specs.Refusals.{when}
 use Rattle.paper.specs.Step.{warmed, addFrom}
 use Rattle.paper.specs.declared.Refusal.the-variants.{OffScale}
-use Rattle.paper.proofs.Scale.{on-scale-size}
+use Rattle.laws.proofs.Scale.{on-scale-size}
 use Rattle.lent.specs.Rows.{Mild}
 use Rattle.lent.proofs.Narrow.{rd32, small32, num32, wide-is}
 use Rattle.correction.specs.Asks.{Back, Added}

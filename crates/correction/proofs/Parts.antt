@@ -8,7 +8,7 @@ use Rattle.paper.specs.Step.{backFrom, addFrom, correct}
 use Rattle.paper.specs.declared.Answer.the-variants.{Done, Refused}
 use Rattle.paper.specs.declared.Refusal.{Refusal}
 use Rattle.paper.specs.declared.Refusal.the-variants.{Bound, OffScale}
-use Rattle.paper.proofs.Outcomes.{done-refused}
+use Rattle.laws.proofs.Outcomes.{done-refused}
 use Rattle.correction.specs.Asks.{outAt, Forwarded, Backed, Added, Corrected}
 
 out-no : (why : ℕ → Refusal) (i : ℕ) (xs : List ℤ) → (i ≡ 0 → ⊥) → outAt why i xs ≡ refused (why i)

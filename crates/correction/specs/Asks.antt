@@ -4,7 +4,7 @@ use mathlib.Core.List.{List}
 use Prim.Native.Nat.{ℕ, zero, suc, _+_, _^_, _≤_, _<_}
 use lib.IntN.{ℤ, natAbs, _*ℤ_}
 use lib.ListN.{length}
-use Rattle.whole.specs.Packed.{tri, cell}
+use Rattle.whole.specs.Packed.{start, cell}
 use Rattle.paper.specs.Refusals.{Outcome, refused, done}
 use Rattle.paper.specs.Factor.{R}
 use Rattle.paper.specs.Step.{forwardFrom, backFrom, addFrom, correct}
@@ -33,7 +33,7 @@ abbrev pub leftTerm : List ℤ → ℕ → List ℤ → ℕ → ℤ
 leftTerm l at ys k = R (cell l (at + k) *ℤ cell ys k)
 
 abbrev pub downTerm : List ℤ → ℕ → List ℤ → ℕ → ℤ
-downTerm l i xs k = R (cell l (tri (suc i + k) + i) *ℤ cell xs (suc i + k))
+downTerm l i xs k = R (cell l (start (suc i + k) + i) *ℤ cell xs (suc i + k))
 
 -- n numbers l from `at` on, and as many y
 pub record Left (l : List ℤ) (at : ℕ) (ys : List ℤ) (n : ℕ) : Type 0 where

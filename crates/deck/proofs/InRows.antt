@@ -11,7 +11,7 @@ use Rattle.paper.specs.Text.{cardOf}
 use Rattle.paper.specs.Judge.{judgeCard}
 use Rattle.paper.specs.Calls.{joined, cardAt}
 use Rattle.paper.specs.declared.Counts.{Counts}
-use Rattle.paper.proofs.Judging.{card-same}
+use Rattle.laws.proofs.Judging.{card-same}
 
 pub lent : (b : List ℕ) (start i : ℕ) → cardOf (take (start + i * 42 + 42 - (start + i * 42)) (drop (start + i * 42) b)) ≡ cardAt b start i
 lent b start i =

@@ -8,10 +8,10 @@ use lib.Seq.{length-take-le, getD-drop, ext-getD}
 use Rattle.paper.specs.Cards.{field, rowAt, rows, nodes, elements, elementRow, stepOf}
 use Rattle.paper.specs.Corners.{Body, shapeOf}
 use Rattle.paper.specs.Elements.{bodyOf, elementOf}
-use Rattle.paper.proofs.Letters as kinds
-use Rattle.paper.proofs.Decks.{Deck, In, kindIn}
-use Rattle.paper.proofs.Tables.{row-field, row-ext}
-use Rattle.paper.proofs.Spans.{coordinate, step-in, kx-in, ky-in, capacity-in, body-corners, body-material, thickness-in, is-body}
+use Rattle.laws.proofs.Letters as kinds
+use Rattle.laws.proofs.Decks.{Deck, In, kindIn}
+use Rattle.laws.proofs.Tables.{row-field, row-ext}
+use Rattle.laws.proofs.Spans.{coordinate, step-in, kx-in, ky-in, capacity-in, body-corners, body-material, thickness-in, is-body}
 use Rattle.triangle.specs.Asks.{Placed, Sized, Step}
 use Rattle.triangle.specs.Forms.{madeOf}
 use Rattle.element.specs.Asks.{ElementCard}

@@ -3,8 +3,8 @@ use mathlib.Core.List.{List, [], _∷_}
 use Prim.Native.Nat.{ℕ, _≤_}
 use lib.ListN.{getD}
 use Rattle.paper.specs.Cards.{nodes, materials}
-use Rattle.paper.proofs.Decks.{Deck, In}
-use Rattle.paper.proofs.Spans.{Inside}
+use Rattle.laws.proofs.Decks.{Deck, In}
+use Rattle.laws.proofs.Spans.{Inside}
 
 pub record ElementCard (t card : List ℕ) : Type 0 where
   pub deck : Deck t

@@ -11,7 +11,7 @@ ghost use lib.ListN.{length, getD};
 ghost use Rattle.paper.specs.Cards.{field, rowAt, nodes, materials, elements, materialRow, elementRow};
 ghost use Rattle.paper.specs.Elements.{bodyOf, elementOf, formJudged, elementJudged};
 ghost use Rattle.paper.specs.Building.{elementsFrom};
-ghost use Rattle.paper.proofs.Decks.{Deck, In};
+ghost use Rattle.laws.proofs.Decks.{Deck, In};
 ghost use Rattle.triangle.specs.Forms.{asShape, asBody};
 ghost use Rattle.element.specs.Asks.{ElementCard};
 

@@ -19,8 +19,8 @@ use Rattle.paper.specs.declared.Answer.the-variants.{Refused}
 use Rattle.paper.specs.declared.Refusal.{Refusal}
 use Rattle.paper.specs.declared.Refusal.the-variants.{Bound, Pivot}
 use Rattle.factor.specs.Asks.{Entry, Column, Row, RowDone}
-use Rattle.paper.proofs.Outcomes.{done-refused}
-use Rattle.paper.proofs.Finished.{fin-more}
+use Rattle.laws.proofs.Outcomes.{done-refused}
+use Rattle.laws.proofs.Finished.{fin-more}
 
 -- ---- w and l read no more than the row's numbers so far
 

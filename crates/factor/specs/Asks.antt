@@ -10,7 +10,7 @@ use Rattle.whole.specs.Packed.{tri, cell}
 use Rattle.paper.specs.Refusals.{Outcome, done, when, after}
 use Rattle.paper.specs.Factor.{small, w, l, rowFrom}
 use Rattle.paper.specs.Lent.{noFactor}
-use Rattle.paper.proofs.Finished.{Fin}
+use Rattle.laws.proofs.Finished.{Fin}
 use Rattle.paper.specs.declared.Answer.{Answer}
 use Rattle.paper.specs.declared.Answer.the-variants.{Done}
 use Rattle.paper.specs.declared.Refusal.the-variants.{Bound}

@@ -25,14 +25,14 @@ use Rattle.paper.specs.declared.Answer.{Answer}
 use Rattle.paper.specs.declared.Answer.the-variants.{Done, Refused}
 use Rattle.paper.specs.declared.Refusal.{Refusal}
 use Rattle.paper.specs.declared.Refusal.the-variants.{Short}
-use Rattle.paper.proofs.Outcomes.{done-refused, both-done, cond-done, ends-done}
-use Rattle.paper.proofs.Refused.{Plain, plain-told, judged-plain, elements-plain, OfFactor, inside-told, rows-inside}
-use Rattle.paper.proofs.Update.{Kept, rows-keep}
-use Rattle.paper.proofs.Weights.{part-A}
-use Rattle.paper.proofs.Decks.{Deck}
-use Rattle.paper.proofs.Judged.{deck}
-use Rattle.paper.proofs.Lent.{enough-told}
-use Rattle.paper.proofs.Calls.{buildOutcome, build-is}
+use Rattle.laws.proofs.Outcomes.{done-refused, both-done, cond-done, ends-done}
+use Rattle.laws.proofs.Refused.{Plain, plain-told, judged-plain, elements-plain, OfFactor, inside-told, rows-inside}
+use Rattle.laws.proofs.Update.{Kept, rows-keep}
+use Rattle.laws.proofs.Weights.{part-A}
+use Rattle.laws.proofs.Decks.{Deck}
+use Rattle.laws.proofs.Judged.{deck}
+use Rattle.laws.proofs.Lent.{enough-told}
+use Rattle.laws.proofs.Calls.{buildOutcome, build-is}
 use Rattle.packed.specs.Asks.{Sound}
 use Rattle.factor.specs.Asks.{Ready}
 use Rattle.work.specs.Asks.{made, Factored}

@@ -10,24 +10,20 @@ use lib.ListN.{length, getD}
 use Rattle.paper.specs.Kinds.{ends, kindAt}
 use Rattle.paper.specs.Cards.{Column, before, columns, columnsOf, used, zeros, inRange}
 use Rattle.paper.specs.Judge.{clean}
-use Rattle.paper.proofs.Judging.{clean-start}
+use Rattle.laws.proofs.Judging.{clean-start}
 use Rattle.paper.specs.declared.Counts.{Counts}
 use Rattle.paper.specs.declared.Kind.{Kind}
 use Rattle.paper.specs.declared.Kind.the-variants.{D, N, M, E, H, F, T, Z, Other}
-use Rattle.kinds.specs.Laid.{starts, columnsAs, laid, inBounds}
+use Rattle.kinds.specs.Laid.{columnsAs, laid, inBounds}
 use Rattle.kinds.specs.declared.Columns.{Columns}
-use Rattle.kinds.proofs.Sections.{starts-are}
 
 module _ (z : Counts) where
   pub laid-as : {k k′ : Kind} → k ≡ k′ → laid (columns z k′) ≡ laid (columns z k)
   laid-as e = ap (λ (k : Kind). laid (columns z k)) (sym e)
 
-  pub laid-Z : {s : List ℕ} → s ≡ starts z
-      → columnsAs 5 (42 * getD s 5 0 ∷ 3 ∷ 1 ∷ 1 ∷ 0 ∷ []) (42 * getD s 5 0 ∷ 96 ∷ 8 ∷ 160 ∷ 416 ∷ []) ≡ laid (columns z Z)
+  pub laid-Z : {b : ℕ} → b ≡ before z ends → columnsAs 5 (42 * b ∷ 3 ∷ 1 ∷ 1 ∷ 0 ∷ []) (42 * b ∷ 96 ∷ 8 ∷ 160 ∷ 416 ∷ []) ≡ laid (columns z Z)
   unfolding laid columns
-  laid-Z e =
-      let b = ap (λ (s : List ℕ). getD s 5 0) e ∙ starts-are z ends (omega arith) in
-      ap (λ (b : ℕ). columnsAs 5 (42 * b ∷ 3 ∷ 1 ∷ 1 ∷ 0 ∷ []) (42 * b ∷ 96 ∷ 8 ∷ 160 ∷ 416 ∷ [])) b
+  laid-Z e = ap (λ (b : ℕ). columnsAs 5 (42 * b ∷ 3 ∷ 1 ∷ 1 ∷ 0 ∷ []) (42 * b ∷ 96 ∷ 8 ∷ 160 ∷ 416 ∷ [])) e
 
 pub laid-used : (b : Columns) (cs : List Column) → b ≡ laid cs → b .used ≡ length cs
 unfolding laid

@@ -1,29 +1,31 @@
 -- The cards before each section, and how large the numbers about a kind are.
-use mathlib.Core.Path.{_≡_, refl}
-use Prim.Native.Nat.{ℕ, zero, suc, _+_, _≤_, _<_}
+use mathlib.Core.Path.{_≡_, refl, sym, ap, _∙_}
+use Prim.Native.Nat.{ℕ, zero, suc, _+_, _-_, _≤_}
+use native.Mathlib.Nat.{add-zero}
 use native.Mathlib.Omega.{arith}
-use lib.ListN.{getD}
 use Rattle.whole.specs.Sums.{sumN}
-use Rattle.paper.specs.Kinds.{about}
+use Rattle.paper.specs.Kinds.{about, ends}
 use Rattle.paper.specs.Cards.{before}
 use Rattle.paper.specs.declared.About.{About}
 use Rattle.paper.specs.declared.Counts.{Counts}
 use Rattle.paper.specs.declared.Kind.{Kind}
 use Rattle.paper.specs.declared.Kind.the-variants.{D, N, M, E, H, F, T, Z, Other}
-use Rattle.kinds.specs.Laid.{starts}
 
 module _ (z : Counts) where
-  pub starts-are : (s : ℕ) → s < 8 → getD (starts z) s 0 ≡ before z s
+  pub cards-are : before z ends ≡ 1 + z .nodes + z .materials + z .elements + z .loads
   unfolding before sumN
-  starts-are zero h = refl
-  starts-are (suc zero) h = refl
-  starts-are (suc (suc zero)) h = refl
-  starts-are (suc (suc (suc zero))) h = refl
-  starts-are (suc (suc (suc (suc zero)))) h = refl
-  starts-are (suc (suc (suc (suc (suc zero))))) h = refl
-  starts-are (suc (suc (suc (suc (suc (suc zero)))))) h = refl
-  starts-are (suc (suc (suc (suc (suc (suc (suc zero))))))) h = omega arith
-  starts-are (suc (suc (suc (suc (suc (suc (suc (suc s)))))))) h = omega arith
+  cards-are = refl
+
+  -- no card stands past the sections
+  more : (s : ℕ) → before z (suc (suc (suc (suc (suc (suc s)))))) ≡ before z 6
+  unfolding before sumN
+  more zero = refl
+  more (suc s) = add-zero _ ∙ more s
+
+  pub before-past : (s : ℕ) → 6 ≤ s → before z 6 ≡ before z s
+  before-past s h =
+      let e : s ≡ suc (suc (suc (suc (suc (suc (s - 6)))))) = omega arith in
+      sym (ap (before z) e ∙ more (s - 6))
 
 -- how large the numbers about a kind are
 pub record Small (a : About) : Type 0 where

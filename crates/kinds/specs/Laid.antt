@@ -1,21 +1,11 @@
 -- The tables as the code lays them out. No reader need believe these: public contracts of the crates above speak of crate paper alone.
 use mathlib.Core.Bool.{Bool, true, _&&_}
 use mathlib.Core.List.{List, [], _∷_}
-use Prim.Native.Nat.{ℕ, zero, suc, _+_}
+use Prim.Native.Nat.{ℕ, zero, suc}
 use lib.Dec.{leb}
 use lib.ListN.{length, getD}
 use Rattle.paper.specs.Cards.{Column, _⋯_}
-use Rattle.paper.specs.declared.Counts.{Counts}
 use Rattle.kinds.specs.declared.Columns.{Columns}
-
--- the cards before each section
-abbrev pub starts : Counts → List ℕ
-starts z =
-    let n = 1 + z .nodes in
-    let m = n + z .materials in
-    let e = m + z .elements in
-    let l = e + z .loads in
-    0 ∷ 1 ∷ n ∷ m ∷ e ∷ l ∷ (l + 1) ∷ (l + 1) ∷ []
 
 -- a kind's columns: five of each, of an unused one 0
 abbrev pub column : List Column → ℕ → Column

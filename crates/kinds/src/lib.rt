@@ -8,7 +8,7 @@ ghost use Prim.Native.Nat.{_+_, _-_, _≤_};
 ghost use lib.ListN.{length};
 ghost use Rattle.paper.specs.Kinds as kinds;
 ghost use Rattle.paper.specs.Cards as cards;
-ghost use Rattle.kinds.specs.Laid.{starts, columnsAs, laid, inBounds};
+ghost use Rattle.kinds.specs.Laid.{columnsAs, laid, inBounds};
 
 // ---- kinds
 
@@ -83,15 +83,23 @@ pub fn about(k: Kind) -> About
 
 // ---- sections
 
-// The cards before each section.
-pub fn starts_of(counts: Counts) -> [usize; 8]
-    ensures { λ r. ⌜ r ≡ starts counts ⌝ }
+// The cards before a section.
+pub fn cards_before(counts: Counts, section: usize) -> usize
+    ensures { λ r. ⌜ r ≡ cards.before counts section ⌝ }
 {
     let n = 1 + counts.nodes as usize;
     let m = n + counts.materials as usize;
     let e = m + counts.elements as usize;
     let l = e + counts.loads as usize;
-    [0, 1, n, m, e, l, l + 1, l + 1]
+    match section {
+        0 => 0,
+        1 => 1,
+        2 => n,
+        BODIES => m,
+        LOADS => e,
+        ENDS => l,
+        _ => l + 1,
+    }
 }
 
 // ---- columns
@@ -120,7 +128,6 @@ pub fn columns_of(counts: Counts, k: Kind) -> Columns
     let n = counts.nodes as u64;
     let m = counts.materials as u64;
     let e = counts.elements as u64;
-    let b = 42 * starts_of(counts)[ENDS] as u64;
     match k {
         Kind::D => laid_out(3, [1, 0, 1, 0, 0], [60_000, top, 100_000, 0, 0]),
         Kind::N => laid_out(2, [0, 0, 0, 0, 0], [4_095, 4_095, 0, 0, 0]),
@@ -129,7 +136,10 @@ pub fn columns_of(counts: Counts, k: Kind) -> Columns
         Kind::H => laid_out(2, [1, 1, 0, 0, 0], [e, 5_000_000, 0, 0, 0]),
         Kind::F => laid_out(3, [1, 1, 0, 0, 0], [e, 100_000, top, 0, 0]),
         Kind::T => laid_out(2, [1, 0, 0, 0, 0], [n, top, 0, 0, 0]),
-        Kind::Z => laid_out(5, [b, 3, 1, 1, 0], [b, 96, 8, 160, 416]),
+        Kind::Z => {
+            let b = 42 * cards_before(counts, ENDS) as u64;
+            laid_out(5, [b, 3, 1, 1, 0], [b, 96, 8, 160, 416])
+        }
         Kind::Other => laid_out(0, [0, 0, 0, 0, 0], [0, 0, 0, 0, 0]),
     }
 }

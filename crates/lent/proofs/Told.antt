@@ -23,8 +23,8 @@ use Rattle.paper.specs.Step.{offScale}
 use Rattle.paper.specs.declared.Answer.{Answer}
 use Rattle.paper.specs.declared.Answer.the-variants.{Done}
 use Rattle.paper.specs.declared.Refusal.the-variants.{Short, Foreign}
-use Rattle.paper.proofs.Outcomes.{cond-done, cond-rest}
-use Rattle.paper.proofs.Scale.{on-scale-size}
+use Rattle.laws.proofs.Outcomes.{cond-done, cond-rest}
+use Rattle.laws.proofs.Scale.{on-scale-size}
 use Rattle.lent.specs.Rows.{Rows, Light, Factored, Mild, Passed}
 
 -- ---- a matrix that is not heavy

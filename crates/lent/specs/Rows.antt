@@ -7,7 +7,7 @@ use lib.IntN.{ℤ, pos, natAbs}
 use lib.Signed.{_≤ℤ_}
 use lib.ListN.{length}
 use Rattle.whole.specs.Sums.{sumN}
-use Rattle.whole.specs.Packed.{tri, matrix, cell, entry}
+use Rattle.whole.specs.Packed.{start, matrix, cell, entry}
 use Rattle.paper.specs.Building.{Slices}
 use Rattle.paper.specs.Lent.{rowSize, opened}
 
@@ -40,9 +40,9 @@ pub record Light (m : List ℤ) (n : ℕ) : Type 0 where
 -- n rows of a factor
 pub record Factored (l : List ℤ) (n : ℕ) : Type 0 where
   pub rows : Rows l n
-  pub low : (i k : ℕ) → i < n → k < i → natAbs (cell l (tri i + k)) ≤ 2 ^ 24
-  pub least : (i : ℕ) → i < n → pos 16 ≤ℤ cell l (tri i + i)
-  pub most : (i : ℕ) → i < n → natAbs (cell l (tri i + i)) ≤ 2 ^ 38
+  pub low : (i k : ℕ) → i < n → k < i → natAbs (cell l (start i + k)) ≤ 2 ^ 24
+  pub least : (i : ℕ) → i < n → pos 16 ≤ℤ cell l (start i + i)
+  pub most : (i : ℕ) → i < n → natAbs (cell l (start i + i)) ≤ 2 ^ 38
 
 -- n temperatures
 pub record Mild (t : List ℤ) (n : ℕ) : Type 0 where

@@ -17,8 +17,8 @@ use Rattle.whole.proofs.Signs.{natAbs-plus}
 use Rattle.whole.proofs.Sums.{sum-more, sum-size-each, set-table, table-at, table-cells, table-ext, table-length}
 use Rattle.whole.proofs.Calc.{Is, rd, num, is, plus, again, size-of}
 use Rattle.paper.specs.Corners.{share}
-use Rattle.paper.proofs.Decks.{In}
-use Rattle.paper.proofs.Spans.{inside-each}
+use Rattle.laws.proofs.Decks.{In}
+use Rattle.laws.proofs.Spans.{inside-each}
 use Rattle.loads.specs.Asks.{Corner, plusAt, Spread}
 
 -- ---- one corner

@@ -22,9 +22,9 @@ use Rattle.paper.specs.Matrices.{fixes, fixed, held}
 use Rattle.paper.specs.declared.About.{About}
 use Rattle.paper.specs.declared.Kind.{Kind}
 use Rattle.paper.specs.declared.Kind.the-variants.{T}
-use Rattle.paper.proofs.Decks.{kindIn, Deck}
-use Rattle.paper.proofs.Letters.{kind-of}
-use Rattle.paper.proofs.Spans.{names-T, held-in, in-loads, once}
+use Rattle.laws.proofs.Decks.{kindIn, Deck}
+use Rattle.laws.proofs.Letters.{kind-of}
+use Rattle.laws.proofs.Spans.{names-T, held-in, in-loads, once}
 use Rattle.lent.proofs.Narrow.{small32}
 use Rattle.loads.specs.Asks.{AtRow}
 

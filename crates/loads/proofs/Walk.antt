@@ -21,10 +21,10 @@ use Rattle.paper.specs.Parts.{Part, heatShare, namedShape, partOf, partFor, par
 use Rattle.paper.specs.Matrices.{addsLoad, loadOf}
 use Rattle.paper.specs.declared.Kind.{Kind}
 use Rattle.paper.specs.declared.Kind.the-variants.{D, N, M, E, H, F, T, Z, Other}
-use Rattle.paper.proofs.Decks.{In, kindIn, Deck}
-use Rattle.paper.proofs.Tables.{row-field}
-use Rattle.paper.proofs.Spans.{Inside, part-corners, heat-in, film-in, ambient-in, names-H, names-F, in-loads}
-use Rattle.paper.proofs.Weights.{S-size, face-size, named-on-sheet}
+use Rattle.laws.proofs.Decks.{In, kindIn, Deck}
+use Rattle.laws.proofs.Tables.{row-field}
+use Rattle.laws.proofs.Spans.{Inside, part-corners, heat-in, film-in, ambient-in, names-H, names-F, in-loads}
+use Rattle.laws.proofs.Weights.{S-size, face-size, named-on-sheet}
 use Rattle.part.specs.Asks.{Card}
 use Rattle.part.proofs.Parts.{card-at}
 use Rattle.loads.specs.Asks.{AtRow, Room, Spread}

@@ -8,8 +8,8 @@ use lib.IntN.{ℤ, pos, natAbs, _+ℤ_}
 use lib.ListN.{length, getD}
 use Rattle.whole.specs.Packed.{cell}
 use Rattle.paper.specs.Cards.{rows, nodes}
-use Rattle.paper.proofs.Decks.{Deck}
-use Rattle.paper.proofs.Spans.{Inside}
+use Rattle.laws.proofs.Decks.{Deck}
+use Rattle.laws.proofs.Spans.{Inside}
 
 -- a number for each node
 pub record Each (t : List ℕ) (r : List ℤ) : Type 0 where

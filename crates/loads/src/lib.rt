@@ -14,7 +14,7 @@ ghost use Rattle.paper.specs.Cards.{field, nodes, materials, elements};
 ghost use Rattle.paper.specs.Corners.{share};
 ghost use Rattle.paper.specs.Parts.{partAt};
 ghost use Rattle.paper.specs.Matrices.{addsLoad, loadOf, fixes, held};
-ghost use Rattle.paper.proofs.Decks.{Deck};
+ghost use Rattle.laws.proofs.Decks.{Deck};
 ghost use Rattle.part.specs.Forms.{cornersOf};
 ghost use Rattle.part.specs.Asks.{Full};
 ghost use Rattle.loads.specs.Asks.{Each, AtRow, Room, Corner, plusAt, Spread};

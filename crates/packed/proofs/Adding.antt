@@ -14,7 +14,7 @@ use Rattle.whole.proofs.Signs.{natAbs-plus}
 use Rattle.whole.proofs.Calc.{rd, num, size-of}
 use Rattle.whole.proofs.Packed.{place-in, add}
 use Rattle.paper.specs.declared.Node.{Node}
-use Rattle.paper.proofs.Places.{cornerRow, addRow, addSquare, length-row, length-square}
+use Rattle.laws.proofs.Places.{cornerRow, addRow, addSquare, length-row, length-square}
 use Rattle.triangle.specs.Forms.{numbers, at}
 use Rattle.triangle.specs.Asks.{Small}
 use Rattle.part.proofs.Leasts.{nth, nth-is}

@@ -20,13 +20,13 @@ use Rattle.paper.specs.Parts.{Part, nothing, loaded, partOf, partFor, partAt}
 use Rattle.paper.specs.Matrices.{addsP, addsA}
 use Rattle.paper.specs.declared.Kind.{Kind}
 use Rattle.paper.specs.declared.Kind.the-variants.{D, N, M, E, H, F, T, Z, Other}
-use Rattle.paper.proofs.Letters.{Body, flat}
-use Rattle.paper.proofs.Decks.{kindIn, Deck}
-use Rattle.paper.proofs.Tables.{row-field}
-use Rattle.paper.proofs.Spans.{part-corners, body-inner, in-loads}
-use Rattle.paper.proofs.Square.{part-sound}
-use Rattle.paper.proofs.Elements.{sound, part-distinct}
-use Rattle.paper.proofs.Places.{addSquare, squareP, squareA, added-P, added-A}
+use Rattle.laws.proofs.Letters.{Body, flat}
+use Rattle.laws.proofs.Decks.{kindIn, Deck}
+use Rattle.laws.proofs.Tables.{row-field}
+use Rattle.laws.proofs.Spans.{part-corners, body-inner, in-loads}
+use Rattle.laws.proofs.Square.{part-sound}
+use Rattle.laws.proofs.Elements.{sound, part-distinct}
+use Rattle.laws.proofs.Places.{addSquare, squareP, squareA, added-P, added-A}
 use Rattle.triangle.specs.Forms.{numbers, at, squareOf}
 use Rattle.triangle.proofs.Sizes.{mass-size}
 use Rattle.part.specs.Forms.{cornersOf, doesBy, does}

@@ -8,8 +8,8 @@ use lib.ListN.{length, getD, take}
 use lib.Seq.{getD-take}
 use Rattle.whole.specs.Packed.{tri, matrix, entry, lower}
 use Rattle.whole.proofs.Packed.{lower-ext, lower-eta, add}
-use Rattle.paper.proofs.Spans.{Inside, inside-each}
-use Rattle.paper.proofs.Places.{cornerRow, addRow, addSquare}
+use Rattle.laws.proofs.Spans.{Inside, inside-each}
+use Rattle.laws.proofs.Places.{cornerRow, addRow, addSquare}
 use Rattle.triangle.specs.Forms.{numbers, at, squareOf}
 use Rattle.triangle.specs.Asks.{Small}
 use Rattle.triangle.proofs.Squares.{small-square, square-at}

@@ -12,7 +12,7 @@ use Rattle.paper.specs.Cards.{rowAt, letter, field, nodes}
 use Rattle.paper.specs.Corners.{mass}
 use Rattle.paper.specs.Parts.{partOf, partFor, partAt}
 use Rattle.paper.specs.Matrices.{addsP, addsA}
-use Rattle.paper.proofs.Places.{addSquare, squareA}
+use Rattle.laws.proofs.Places.{addSquare, squareA}
 use Rattle.triangle.specs.Forms.{numbers, at, squareOf}
 use Rattle.part.specs.Forms.{cornersOf}
 use Rattle.part.specs.Asks.{Card, Solid, Full}

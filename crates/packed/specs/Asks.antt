@@ -8,7 +8,7 @@ use Rattle.whole.specs.Packed.{matrix, cell, place}
 use Rattle.paper.specs.Cards.{rows, nodes, elements}
 use Rattle.paper.specs.Building.{elementsFrom}
 use Rattle.paper.specs.declared.Answer.the-variants.{Done}
-use Rattle.paper.proofs.Decks.{Deck, In}
+use Rattle.laws.proofs.Decks.{Deck, In}
 use Rattle.triangle.specs.Asks.{Small}
 
 -- numbers of size at most b

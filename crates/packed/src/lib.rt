@@ -13,8 +13,8 @@ ghost use Rattle.paper.specs.Cards.{nodes};
 ghost use Rattle.paper.specs.Parts.{partAt};
 ghost use Rattle.paper.specs.Matrices as matrices;
 ghost use Rattle.paper.specs.Matrices.{addsP, addsA, fixes, fixed, cleared};
-ghost use Rattle.paper.proofs.Decks.{Deck};
-ghost use Rattle.paper.proofs.Places.{addRow, addSquare};
+ghost use Rattle.laws.proofs.Decks.{Deck};
+ghost use Rattle.laws.proofs.Places.{addRow, addSquare};
 ghost use Rattle.triangle.specs.Forms.{numbers, at};
 ghost use Rattle.packed.specs.Asks.{AddsAt, AddsRow, Takes, Sound, Walked, Clears, Fixes};
 

@@ -1,56 +1,64 @@
--- What a build that is accepted says of its slices.
-use mathlib.Core.Path.{_≡_, sym, ap, _∙_}
-use mathlib.Core.List.{List}
-use Prim.Native.Nat.{ℕ}
-use native.Mathlib.Omega.{arith}
-use lib.IntN.{ℤ}
-use lib.ListN.{length}
-use Rattle.whole.specs.Packed.{tri, lower}
-use Rattle.whole.proofs.Packed.{length-lower}
-use Rattle.paper.specs.Refusals.{done}
-use Rattle.paper.specs.Cards.{nodes, elements}
-use Rattle.paper.specs.Matrices.{P, A, fixed, cleared}
-use Rattle.paper.specs.Factor.{rowsFrom}
-use Rattle.paper.specs.Building.{Slices, elementsFrom, build}
-use Rattle.paper.specs.declared.Answer.the-variants.{Done}
-use Rattle.paper.proofs.Outcomes.{after-done, then-done, ends-all, ends-done, done-inj}
-use Rattle.paper.proofs.Update.{Kept, rows-keep}
+-- What a build makes and leaves, on decks where each slip shows. One theorem over one list.
+use mathlib.Core.Path.{_≡_, refl}
+use mathlib.Core.Bool.{true}
+use mathlib.Core.List.{List, [], _∷_, _++_, map}
+use Prim.Native.Nat.{ℕ, _^_}
+use lib.IntN.{ℤ, pos, negsuc}
+use lib.ListN.{replicate}
+use Rattle.whole.specs.Nearest.{nearestN, nearest}
+use Rattle.whole.specs.Sums.{sum, sumN, any, table}
+use Rattle.whole.specs.Packed.{tri, place, lower}
+use Rattle.paper.specs.Refusals.{told}
+use Rattle.paper.specs.Kinds.{about, kindOf, letterOf}
+use Rattle.paper.specs.Cards.{before, columns, used, zeros, inRange, field, nodes, materials, elements}
+use Rattle.paper.specs.Judge.{stands, clean, rises, formed, ranged, judgeCard, judgeFrom, trailer, judgeRows, judged}
+use Rattle.paper.specs.Corners.{square, mass, spread, shapeOf, area}
+use Rattle.paper.specs.Triangle.{b, c, S, pair, u}
+use Rattle.paper.specs.Elements.{bodyOf, elementOf, fair, formJudged, elementJudged}
+use Rattle.paper.specs.Parts.{partOf, partAt}
+use Rattle.paper.specs.Matrices.{addsP, addsA, P, A, fixed, cleared}
+use Rattle.paper.specs.Factor.{w, l, rowFrom, rowsFrom}
+use Rattle.paper.specs.Building.{elementsFrom, build}
+use Rattle.paper.specs.Lent.{enough}
+use Rattle.paper.specs.Calls.{closed, leaves, buildCall}
+use Rattle.paper.specs.declared.Kind.the-variants.{T}
+use Rattle.paper.proofs.Cases.{same, eqZ, figures-told}
+use Rattle.paper.proofs.Checked.{deck, node, element, right, built}
 
--- A' of a deck
-abbrev pub A′ : List ℕ → ℕ → ℕ → ℤ
-A′ t = cleared (fixed t) (A t)
+-- a plate of 1 µm: each pair's half is rounded by itself
+abbrev thin : List ℕ
+thin = deck 1000 right 1000 2400 (element 1 2 3 1) [] 0
 
--- the slices are the deck's own
-pub record Own (t : List ℕ) (s : Slices) : Type 0 where
-  pub passed : elementsFrom (elements t) 1 t ≡ Done
-  pub factored : rowsFrom (nodes t) 0 (lower (nodes t) (A′ t)) ≡ done (s .factor)
-  pub isP : s .p ≡ lower (nodes t) (P t)
-  pub isA : s .a ≡ lower (nodes t) (A t)
+-- node 1 held
+abbrev holding : List ℕ
+holding = deck 1000 right 1000 2400 (element 1 2 3 1000) (letterOf T ∷ 1 ∷ 19660800 ∷ 0 ∷ 0 ∷ 0 ∷ []) 1
 
-pub own : (t : List ℕ) (s : Slices) → build t ≡ done s → Own t s
-unfolding build
-own t s e =
-    let J = elementsFrom (elements t) 1 t in
-    let R = rowsFrom (nodes t) 0 (lower (nodes t) (A′ t)) in
-    let (eJ, e₁) = after-done J _ s e in
-    let (f, eR, e₂, _) = then-done (λ (x : List ℤ). Unit {0}) R _ s (ends-all R) e₁ in
-    let q = done-inj e₂ in
-    record {
-      passed = eJ;
-      factored = eR ∙ ap (λ (z : Slices). done (z .factor)) q;
-      isP = sym (ap (λ (z : Slices). z .p) q);
-      isA = sym (ap (λ (z : Slices). z .a) q);
-    }
+-- the answer's number, and the work slice, lent as seven times 77
+abbrev worksOn : List ℕ → List ℤ
+worksOn t = let x = built t in pos (told (x .answer) .number) ∷ x .lent .work
 
--- each slice has the matrix length
-pub record Sized (n : ℕ) (s : Slices) : Type 0 where
-  pub longP : length (s .p) ≡ n
-  pub longA : length (s .a) ≡ n
-  pub longF : length (s .factor) ≡ n
+abbrev work : ℕ → ℤ → List ℤ
+work number z = pos number ∷ replicate 6 z ++ (pos 77 ∷ [])
 
-pub sized : (t : List ℕ) (s : Slices) → Own t s → Sized (tri (nodes t)) s
-sized t s o =
-    let n = nodes t in
-    let X = lower n (A′ t) in
-    let k : Kept 0 X (s .factor) = ends-done (Kept 0 X) (rowsFrom n 0 X) (s .factor) (rows-keep 0 n 0 X (omega arith)) (o .factored) in
-    record { longP = ap length (o .isP) ∙ length-lower n (P t); longA = ap length (o .isA) ∙ length-lower n (A t); longF = k .long ∙ length-lower n (A′ t) }
+pub record Made : Type 0 where
+  pub got : List ℤ
+  pub want : List ℤ
+
+unfoldable pub cases : List Made
+cases =
+    -- a diagonal is minus the sum of its neighbours, not its own formula rounded
+    record { got = lower 3 (partAt thin 5 .conductance); want = pos 2 ∷ negsuc 0 ∷ pos 1 ∷ negsuc 0 ∷ pos 0 ∷ pos 1 ∷ [] }
+    -- a held node's row and column are cleared
+    ∷ record { got = built holding .lent .slices .factor; want = map pos (2 ^ 20 ∷ 0 ∷ 5500 ∷ 0 ∷ 476625 ∷ 4364 ∷ 77 ∷ []) }
+    -- the work slice is zeroed on 7 and on 8, and kept on 6
+    ∷ record { got = worksOn (deck 60000 right 1000 1 (element 1 2 3 1000) [] 0); want = work 7 (pos 0) }
+    ∷ record { got = worksOn (deck 1000 (node 0 0 ++ node 100 0 ++ node 101 1) 10000 1 (element 1 2 3 1000) [] 0); want = work 8 (pos 0) }
+    ∷ record { got = worksOn (deck 1 right 1000 961 (element 1 2 3 4000) [] 0); want = work 6 (pos 77) }
+    ∷ []
+
+run : same (same eqZ) (map (λ (x : Made). x .got) cases) (map (λ (x : Made). x .want) cases) ≡ true
+unfolding cases same eqZ nearestN nearest sum sumN any table tri place lower told about kindOf before columns used zeros inRange field nodes materials elements stands clean rises formed ranged judgeCard judgeFrom trailer judgeRows judged square mass spread shapeOf area b c S pair u bodyOf elementOf fair formJudged elementJudged partOf addsP addsA P A fixed cleared w l rowFrom rowsFrom elementsFrom build enough closed leaves buildCall
+run = refl
+
+pub as-made : map (λ (x : Made). x .got) cases ≡ map (λ (x : Made). x .want) cases
+as-made = figures-told (map (λ (x : Made). x .got) cases) (map (λ (x : Made). x .want) cases) run

@@ -28,7 +28,7 @@ use Rattle.paper.specs.declared.Answer.{Answer}
 use Rattle.paper.specs.declared.Stepped.{Stepped}
 use Rattle.paper.specs.declared.Kind.the-variants.{D, N, M, H, Z}
 use Rattle.paper.proofs.Cases.{same, numbers-told}
-use Rattle.paper.proofs.Checked.{node, element, right, base, heated}
+use Rattle.paper.proofs.Checked.{deck, node, element, right, base, heated}
 
 -- number and place, 0 and 0 for none
 abbrev shown : Told → List ℕ
@@ -88,6 +88,8 @@ cases =
     -- a card: 3, 4; the deck before 9
     both (says (judged (wide 7))) 3 2
     ∷ both (builds (wide 0) 0) 4 2
+    -- cards in turn: two H of one element are 4 at the second, before a 3 at the third
+    ∷ both (says (judged (deck 1 right 1 1 stiff (heat 1 3 0 ++ heat 1 3 0 ++ heat 1 3 7) 3))) 4 8
     -- elements in turn, after 9
     ∷ both (builds (two stiff flat) 6) 6 1
     ∷ both (builds (two flat stiff) 6) 5 1
@@ -98,7 +100,7 @@ cases =
     -- a replacement: 3, 13, 4, 9, 10, and then the new form
     ∷ both (says (newJudged heated 7 (heat 2 3 7))) 3 7
     ∷ both (says (newJudged heated 7 (heat 2 10000001 0))) 13 7
-    ∷ both (says (newJudged heated 6 (element 1 3 2 4001))) 13 6
+    ∷ both (says (newJudged heated 6 (element 1 2 1 4001))) 13 6
     ∷ both (replaces heated 0 6 (element 1 2 3 4001)) 4 6
     ∷ both (replaces heated 5 7 (heat 1 4 0)) 9 0
     ∷ both (replaces (two stiff stiff) 6 6 (element 1 2 3 4000)) 10 0

@@ -7,7 +7,7 @@ use lib.IntN.{ℤ, pos, natAbs}
 use lib.Signed.{leZ}
 use Rattle.whole.specs.Sums.{sumN, any}
 use lib.ListN.{length, take}
-use Rattle.whole.specs.Packed.{tri, matrix, cell, entry}
+use Rattle.whole.specs.Packed.{start, matrix, cell, entry}
 use Rattle.paper.specs.Factor.{small}
 use Rattle.paper.specs.Building.{Slices}
 use Rattle.paper.specs.declared.Answer.{Answer}
@@ -27,7 +27,7 @@ pivot d = leZ (pos 16) d && small 38 d
 
 -- row i of a factor: an l or the d out of bounds
 unfoldable pub badRow : List ℤ → ℕ → Bool
-badRow xs i = any i (λ j. not (small 24 (cell xs (tri i + j)))) || not (pivot (cell xs (tri i + i)))
+badRow xs i = any i (λ j. not (small 24 (cell xs (start i + j)))) || not (pivot (cell xs (start i + i)))
 
 unfoldable pub noFactor : ℕ → List ℤ → Bool
 noFactor n xs = any n (badRow xs)

@@ -4,7 +4,7 @@ use mathlib.Core.List.{List, _++_}
 use Prim.Native.Nat.{ℕ, _-_}
 use lib.IntN.{ℤ, _+ℤ_, _-ℤ_}
 use lib.ListN.{take, drop}
-use Rattle.whole.specs.Packed.{tri, lower, entry}
+use Rattle.whole.specs.Packed.{start, lower, entry}
 use Rattle.paper.specs.Refusals.{Outcome, done, then, after}
 use Rattle.paper.specs.Cards.{countsAt, rowAt, nodes, put}
 use Rattle.paper.specs.Judge.{nameAt}
@@ -37,7 +37,7 @@ redone t s row card =
     let p′ = moved n (s .p) (addsP x) (addsP (partAt t row)) in
     let a′ = moved n (s .a) (addsA x) (addsA (partAt t row)) in
     after (formOf new row)
-    (then (rowsFrom (n - m) m (take (tri m) (s .factor) ++ drop (tri m) (lower n (cleared (fixed new) (entry a′))))) (λ f.
+    (then (rowsFrom (n - m) m (take (start m) (s .factor) ++ drop (start m) (lower n (cleared (fixed new) (entry a′))))) (λ f.
     done (record { p = p′; a = a′; factor = f })))
 
 -- whether a card's replacement touches the matrices: H and T change the card alone

@@ -8,7 +8,7 @@ use lib.Signed.{leZ}
 use lib.ListN.{set}
 use Rattle.whole.specs.Nearest.{nearest}
 use Rattle.whole.specs.Sums.{sum, sumN, firstFrom, table}
-use Rattle.whole.specs.Packed.{tri, cell, entry}
+use Rattle.whole.specs.Packed.{start, cell, entry}
 use Rattle.paper.specs.Ticks.{onScale}
 use Rattle.paper.specs.Refusals.{Outcome, refused, done, when, then}
 use Rattle.paper.specs.Cards.{nodes}
@@ -56,7 +56,7 @@ rowBound a f n i = sumN n (λ j. natAbs (A′ a f i j))
 
 -- y(i), where the list holds y below i and r from i on
 unfoldable pub yAt : List ℤ → ℕ → List ℤ → ℤ
-yAt l i ys = cell ys i -ℤ sum i (λ k. R (cell l (tri i + k) *ℤ cell ys k))
+yAt l i ys = cell ys i -ℤ sum i (λ k. R (cell l (start i + k) *ℤ cell ys k))
 
 -- the rest of the forward substitution, k rows from row i
 unfoldable pub forwardFrom : List ℤ → ℕ → ℕ → List ℤ → Outcome (List ℤ)
@@ -66,8 +66,8 @@ forwardFrom l (suc k) i ys = when (small 52 (yAt l i ys)) (Bound (suc i)) (forwa
 -- x(i), where the list holds y up to i and x above it
 unfoldable pub xAt : List ℤ → ℕ → ℕ → List ℤ → ℤ
 xAt l n i xs =
-    nearest (pos 256 *ℤ cell xs i) (natAbs (cell l (tri i + i)))
-    -ℤ sum (n - suc i) (λ k. R (cell l (tri (suc i + k) + i) *ℤ cell xs (suc i + k)))
+    nearest (pos 256 *ℤ cell xs i) (natAbs (cell l (start i + i)))
+    -ℤ sum (n - suc i) (λ k. R (cell l (start (suc i + k) + i) *ℤ cell xs (suc i + k)))
 
 -- the rest of the back substitution, the rows below i from the last
 unfoldable pub backFrom : List ℤ → ℕ → ℕ → List ℤ → Outcome (List ℤ)

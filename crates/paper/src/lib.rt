@@ -2,7 +2,7 @@
 ghost use mathlib.Core.Path.{_≡_};
 ghost use Prim.Native.Nat.{_*_, _≤_};
 ghost use Rattle.paper.specs.Ticks.{kelvin, onScale};
-ghost use Rattle.paper.specs.Refusals.{givenBy, refusal, told, toldStep, packed};
+ghost use Rattle.paper.specs.Refusals.{given, givenBy, refusal, told, toldStep, packed};
 
 // Three kinds of count, as on the cards. None is taken for another.
 pub struct Node(pub u8);
@@ -112,63 +112,31 @@ pub enum Ran {
 
 // ---- an answer's number, place and value
 
+// A row of the table of refusals.
+fn row(number: u32, place: u32) -> Given
+    ensures { λ g. ⌜ g ≡ given number place ⌝ }
+{
+    Given { number, place }
+}
+
 // The table of refusals.
 pub fn given_by(r: Refusal) -> Given
     ensures { λ g. ⌜ g ≡ givenBy r ⌝ }
 {
     match r {
-        Refusal::Length => Given {
-            number: 1,
-            place: 0,
-        },
-        Refusal::Trailer => Given {
-            number: 2,
-            place: 0,
-        },
-        Refusal::Form(card) => Given {
-            number: 3,
-            place: card,
-        },
-        Refusal::Range(card) => Given {
-            number: 4,
-            place: card,
-        },
-        Refusal::Flat(element) => Given {
-            number: 5,
-            place: element,
-        },
-        Refusal::Stiff(element) => Given {
-            number: 6,
-            place: element,
-        },
-        Refusal::Pivot(line) => Given {
-            number: 7,
-            place: line,
-        },
-        Refusal::Bound(line) => Given {
-            number: 8,
-            place: line,
-        },
-        Refusal::Short => Given {
-            number: 9,
-            place: 0,
-        },
-        Refusal::Foreign => Given {
-            number: 10,
-            place: 0,
-        },
-        Refusal::OffScale(node) => Given {
-            number: 11,
-            place: node,
-        },
-        Refusal::Unsettled(line) => Given {
-            number: 12,
-            place: line,
-        },
-        Refusal::Replacement(card) => Given {
-            number: 13,
-            place: card,
-        },
+        Refusal::Length => row(1, 0),
+        Refusal::Trailer => row(2, 0),
+        Refusal::Form(card) => row(3, card),
+        Refusal::Range(card) => row(4, card),
+        Refusal::Flat(element) => row(5, element),
+        Refusal::Stiff(element) => row(6, element),
+        Refusal::Pivot(line) => row(7, line),
+        Refusal::Bound(line) => row(8, line),
+        Refusal::Short => row(9, 0),
+        Refusal::Foreign => row(10, 0),
+        Refusal::OffScale(node) => row(11, node),
+        Refusal::Unsettled(line) => row(12, line),
+        Refusal::Replacement(card) => row(13, card),
     }
 }
 

@@ -18,10 +18,10 @@ use Rattle.paper.specs.Elements.{Element, bodyOf, elementOf}
 use Rattle.paper.specs.Parts.{Part, nowhere, nothing, bulk, filmed, loaded, namedRow, heatShare, partOf, partFor, least}
 use Rattle.paper.specs.declared.Kind.{Kind}
 use Rattle.paper.specs.declared.Kind.the-variants.{D, N, M, E, H, F, T, Z, Other}
-use Rattle.paper.proofs.Decks.{In, Deck, kindIn}
-use Rattle.paper.proofs.Tables.{row-field}
-use Rattle.paper.proofs.Spans.{Inside, nodes-are, materials-are, elements-are, in-told}
-use Rattle.paper.proofs.Places.{squareA}
+use Rattle.laws.proofs.Decks.{In, Deck, kindIn}
+use Rattle.laws.proofs.Tables.{row-field}
+use Rattle.laws.proofs.Spans.{Inside, nodes-are, materials-are, elements-are, in-told}
+use Rattle.laws.proofs.Places.{squareA}
 use Rattle.triangle.specs.Forms.{at, squareOf, madeOf}
 use Rattle.triangle.specs.Asks.{Small, Sized, Placed, Step}
 use Rattle.triangle.proofs.Sizes.{S-small, u-size, film-small, mass-size, conductance-size}

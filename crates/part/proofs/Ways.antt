@@ -18,8 +18,8 @@ use Rattle.paper.specs.Triangle.{S, pair, u, faceFilm}
 use Rattle.paper.specs.Elements.{bodyOf, elementOf}
 use Rattle.paper.specs.Parts.{Part, heatShare, namedRow, partOf, partFor}
 use Rattle.paper.specs.declared.Kind.{Kind}
-use Rattle.paper.proofs.Decks.{In}
-use Rattle.paper.proofs.Places.{squareA}
+use Rattle.laws.proofs.Decks.{In}
+use Rattle.laws.proofs.Places.{squareA}
 use Rattle.triangle.specs.Forms.{numbers, asShape, asBody, at, squareOf}
 use Rattle.triangle.specs.Asks.{Small, Sized, Placed, Solid}
 use Rattle.triangle.proofs.Sizes.{mass-size}

@@ -7,7 +7,7 @@ use lib.ListN.{length, getD}
 use Rattle.paper.specs.Kinds.{kindAt}
 use Rattle.paper.specs.Cards.{_⋯_, within, columns, countsAt}
 use Rattle.paper.specs.Elements.{elementOf}
-use Rattle.paper.proofs.Decks.{Deck}
+use Rattle.laws.proofs.Decks.{Deck}
 use Rattle.part.specs.Forms.{cornersOf, does}
 use Rattle.part.specs.declared.Corners.{Corners}
 

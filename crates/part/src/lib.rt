@@ -10,7 +10,7 @@ ghost use lib.ListN.{getD};
 ghost use Rattle.paper.specs.Ticks.{kelvin};
 ghost use Rattle.paper.specs.Kinds.{kindOf};
 ghost use Rattle.paper.specs.Parts.{partOf, partFor, least, leastRow};
-ghost use Rattle.paper.proofs.Places.{squareA};
+ghost use Rattle.laws.proofs.Places.{squareA};
 ghost use Rattle.triangle.specs.Forms.{asShape, squareOf};
 ghost use Rattle.part.specs.Forms.{cornersOf, line, doesBy, baseOf};
 ghost use Rattle.part.specs.Asks.{Card, Solid, Full};

@@ -6,7 +6,7 @@ use lib.ListN.{length, take, drop}
 use Rattle.paper.specs.Cards.{rows}
 use Rattle.paper.specs.Calls.{readCall, writeCall}
 use Rattle.paper.specs.declared.Answer.the-variants.{Done}
-use Rattle.paper.proofs.RoundTrip as below
+use Rattle.laws.proofs.RoundTrip as below
 
 -- what the writer gives of a table, the reader reads back to that table, with an empty note
 pub written-is-read : (table bytes lent : List ℕ) → writeCall table bytes .answer ≡ Done → length table ≤ length lent

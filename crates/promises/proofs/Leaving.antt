@@ -14,8 +14,8 @@ use Rattle.paper.specs.declared.Answer.the-variants.{Refused}
 use Rattle.paper.specs.declared.Refusal.{Refusal}
 use Rattle.paper.specs.declared.Stepped.the-variants as stepAnswer
 use Rattle.paper.specs.declared.Ran.the-variants as runAnswer
-use Rattle.paper.proofs.Left as leaves
-use Rattle.paper.proofs.Running as runs
+use Rattle.laws.proofs.Left as leaves
+use Rattle.laws.proofs.Running as runs
 
 -- ---- after a refusal
 

@@ -15,12 +15,12 @@ use Rattle.paper.specs.Matrices.{P, A, K, Film}
 use Rattle.paper.specs.Building.{Slices, build}
 use Rattle.paper.specs.Lent.{foreign}
 use Rattle.paper.specs.declared.Answer.the-variants.{Done}
-use Rattle.paper.proofs.Square.{square-symmetric, square-rows, P-symmetric, A-symmetric}
-use Rattle.paper.proofs.Assembled.{three-kinds, K-symmetric, conducted}
-use Rattle.paper.proofs.Judged.{deck}
-use Rattle.paper.proofs.Elements.{part-distinct}
-use Rattle.paper.proofs.Built.{own}
-use Rattle.paper.proofs.Lent.{own-pass}
+use Rattle.laws.proofs.Square.{square-symmetric, square-rows, P-symmetric, A-symmetric}
+use Rattle.laws.proofs.Assembled.{three-kinds, K-symmetric, conducted}
+use Rattle.laws.proofs.Judged.{deck}
+use Rattle.laws.proofs.Elements.{part-distinct}
+use Rattle.laws.proofs.Built.{own}
+use Rattle.laws.proofs.Lent.{own-pass}
 
 -- ---- a square over any number of corners, whatever its pairs are
 

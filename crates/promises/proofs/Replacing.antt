@@ -13,8 +13,8 @@ use Rattle.paper.specs.Calls.{Lent, asLent, buildCall, replaceCall}
 use Rattle.paper.specs.Replacements.{ready, on, present, Holds, Asked, afterAll, asBuilt, deckAfter}
 use Rattle.paper.specs.declared.Answer.the-variants.{Done, Refused}
 use Rattle.paper.specs.declared.Refusal.{Refusal}
-use Rattle.paper.proofs.Calls as calls
-use Rattle.paper.proofs.Left as leaves
+use Rattle.laws.proofs.Calls as calls
+use Rattle.laws.proofs.Left as leaves
 
 -- an accepted build leaves the deck's own slices, whatever they held
 pub built : (z : Lent) → buildCall z .answer ≡ Done → Holds (buildCall z .lent)

@@ -5,7 +5,7 @@ use lib.IntN.{natAbs}
 use Rattle.paper.specs.Step.{residual, rowBound}
 use Rattle.paper.specs.Calls.{Lent, boardAt, stepCall}
 use Rattle.paper.specs.declared.Stepped.the-variants.{Settled}
-use Rattle.paper.proofs.Settled.{accepted}
+use Rattle.laws.proofs.Settled.{accepted}
 
 module _ (z : Lent) (c : ℕ) (settled : stepCall z .answer ≡ Settled c) where
   pub residuals-within : (i : ℕ) → i < boardAt z .n

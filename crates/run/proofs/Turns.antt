@@ -14,8 +14,8 @@ use Rattle.paper.specs.declared.Refusal.{Refusal}
 use Rattle.paper.specs.declared.Stepped.{Stepped}
 use Rattle.paper.specs.declared.Stepped.the-variants.{Settled, Refused}
 use Rattle.paper.specs.declared.Ran.the-variants as ran
-use Rattle.paper.proofs.Left.{step-refused}
-use Rattle.paper.proofs.Running.{run-on, run-off}
+use Rattle.laws.proofs.Left.{step-refused}
+use Rattle.laws.proofs.Running.{run-on, run-off}
 
 pub record RunInv (z₀ z : Lent) (k count : ℕ) : Type 0 where
   pub upto : count ≤ k

@@ -10,7 +10,7 @@ use Rattle.whole.proofs.Sums.{table-at, table-length}
 use Rattle.paper.specs.Cards.{rows, nodes}
 use Rattle.paper.specs.Matrices.{loadOf, held}
 use Rattle.paper.specs.Step.{Board, boardOf, residual, residuals}
-use Rattle.paper.proofs.Decks.{Deck}
+use Rattle.laws.proofs.Decks.{Deck}
 use Rattle.lent.specs.Rows.{Light, Mild}
 use Rattle.correction.specs.Asks.{Forth}
 use Rattle.residual.specs.Asks.{board, Fair, Weighed}

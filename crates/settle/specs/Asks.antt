@@ -11,7 +11,7 @@ use Rattle.paper.specs.Matrices.{held}
 use Rattle.paper.specs.Step.{Settling, settled}
 use Rattle.paper.specs.declared.Stepped.{Stepped}
 use Rattle.paper.specs.declared.Stepped.the-variants.{Settled, Refused}
-use Rattle.paper.proofs.Decks.{Deck}
+use Rattle.laws.proofs.Decks.{Deck}
 use Rattle.lent.specs.Rows.{Light, Mild}
 
 -- past refusal 11: what the residuals are of

@@ -25,7 +25,7 @@ use Rattle.paper.specs.declared.Refusal.{Refusal}
 use Rattle.paper.specs.declared.Refusal.the-variants.{OffScale}
 use Rattle.paper.specs.declared.Stepped.{Stepped}
 use Rattle.paper.specs.declared.Stepped.the-variants.{Refused}
-use Rattle.paper.proofs.Judged.{deck}
+use Rattle.laws.proofs.Judged.{deck}
 use Rattle.lent.specs.Rows.{Light, Factored, Mild, Passed}
 use Rattle.lent.proofs.Told.{mild, passed}
 use Rattle.settle.specs.Asks.{Ready, answerOf, leftOf, Exits}

@@ -5,7 +5,7 @@ use Prim.Native.Nat.{ℕ}
 use lib.IntN.{ℤ}
 use lib.ListN.{length}
 use Rattle.paper.specs.Cards.{nodes}
-use Rattle.paper.proofs.Decks.{Deck}
+use Rattle.laws.proofs.Decks.{Deck}
 use Rattle.lent.specs.Rows.{Light, Factored}
 
 -- past refusals 9 and 10: a deck's n nodes, and P, A, the factor and the temperatures for them, each of its length

@@ -11,7 +11,7 @@ use Rattle.whole.proofs.Lists.{put-next}
 use Rattle.paper.specs.Kinds.{kindOf, letterOf}
 use Rattle.paper.specs.Cards.{used}
 use Rattle.paper.specs.Text.{textField, textFrom, textOf}
-use Rattle.paper.proofs.Fields.{length-field}
+use Rattle.laws.proofs.Fields.{length-field}
 
 pub text-more : (u : ℕ) (card out ys whole : List ℕ) (k : ℕ) → k < 5 → length out ≡ 42 → ys ≡ textField u k (getD card (k + 1) 0)
     → take (1 + k * 8) out ++ textFrom u card (5 - k) k ≡ whole

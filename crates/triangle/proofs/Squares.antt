@@ -9,7 +9,7 @@ use Rattle.whole.specs.Sums.{sum, table}
 use Rattle.whole.proofs.Linear.{zarith, plusL}
 use Rattle.paper.specs.Corners.{Body, square}
 use Rattle.paper.specs.Triangle.{pair}
-use Rattle.paper.proofs.Square.{pair-symmetric}
+use Rattle.laws.proofs.Square.{pair-symmetric}
 use Rattle.triangle.specs.Forms.{at, squareOf}
 use Rattle.triangle.specs.Asks.{Small}
 

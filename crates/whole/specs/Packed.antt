@@ -11,6 +11,10 @@ unfoldable pub tri : ℕ → ℕ
 tri zero = 0
 tri (suc i) = tri i + suc i
 
+-- where row i starts
+abbrev pub start : ℕ → ℕ
+start i = tri i
+
 -- the matrix length: the numbers of n rows
 abbrev pub matrix : ℕ → ℕ
 matrix n = tri n

@@ -16,7 +16,7 @@ use Rattle.paper.specs.Calls.{Lent, Exit, lent, left, over, long, closed, worke
 use Rattle.paper.specs.declared.Answer.{Answer}
 use Rattle.paper.specs.declared.Answer.the-variants.{Done, Refused}
 use Rattle.paper.specs.declared.Refusal.{Refusal}
-use Rattle.paper.proofs.Refused.{Plain}
+use Rattle.laws.proofs.Refused.{Plain}
 
 -- ---- lists
 

@@ -15,8 +15,8 @@ use Rattle.paper.specs.Cards.{nodes}
 use Rattle.paper.specs.Matrices.{fixed, cleared}
 use Rattle.paper.specs.Factor.{small, rowsFrom}
 use Rattle.paper.specs.Lent.{pivot, badRow, noFactor}
-use Rattle.paper.proofs.Outcomes.{ends-done}
-use Rattle.paper.proofs.Update.{Kept, rows-keep}
+use Rattle.laws.proofs.Outcomes.{ends-done}
+use Rattle.laws.proofs.Update.{Kept, rows-keep}
 use Rattle.factor.specs.Asks.{Ready}
 use Rattle.part.specs.declared.Corners.{Corners}
 use Rattle.work.specs.Asks.{laid, added, addedFixed, Refactors}

@@ -5,14 +5,14 @@ use mathlib.Core.List.{List, _++_}
 use Prim.Native.Nat.{ℕ, _^_, _≤_}
 use lib.IntN.{ℤ, pos}
 use lib.ListN.{length, replicate, drop}
-use Rattle.whole.specs.Packed.{tri, matrix, lower, entry}
+use Rattle.whole.specs.Packed.{start, matrix, lower, entry}
 use Rattle.paper.specs.Refusals.{Outcome, refused, done, answerOf}
 use Rattle.paper.specs.Cards.{nodes}
 use Rattle.paper.specs.Matrices.{fixed, cleared}
 use Rattle.paper.specs.Lent.{noFactor}
 use Rattle.paper.specs.declared.Answer.{Answer}
-use Rattle.paper.proofs.Decks.{Deck}
-use Rattle.paper.proofs.Places.{addSquare}
+use Rattle.laws.proofs.Decks.{Deck}
+use Rattle.laws.proofs.Places.{addSquare}
 use Rattle.triangle.specs.Forms.{numbers, at}
 use Rattle.part.specs.declared.Corners.{Corners}
 use Rattle.packed.specs.Asks.{Bounded, Takes}
@@ -48,7 +48,7 @@ pub record Edits (t : List ℕ) (a w : List ℤ) (c : Corners) (q : List (List �
 -- and the rows of a factor above row m, which pass refusal 10; the numbers below them are within what the factor asks
 pub record Refactors (t : List ℕ) (a above w : List ℤ) (c : Corners) (q : List (List ℤ)) (m : ℕ) : Type 0 where
   pub edits : Edits t a w c q
-  pub of-above : length above ≡ tri m
+  pub of-above : length above ≡ start m
   pub tame : noFactor m above ≡ false
   pub low : m ≤ nodes t
   pub small : Bounded (2 ^ 50) (added a c q)

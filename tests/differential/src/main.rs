@@ -21,7 +21,7 @@ use std::process::ExitCode;
 use std::time::Duration;
 
 const SEED: u64 = 1;
-const MOST: Duration = Duration::from_secs(150);
+const MOST: Duration = Duration::from_secs(600);
 
 fn main() -> ExitCode {
     let seed = match std::env::args().nth(1).map(|word| word.parse()) {
@@ -46,6 +46,10 @@ fn main() -> ExitCode {
         );
     }
     if !trial.report() {
+        return ExitCode::FAILURE;
+    }
+    if trial.is_over() {
+        println!("the time was over before all cases were tried");
         return ExitCode::FAILURE;
     }
     println!(

@@ -85,6 +85,11 @@ impl Trial {
         self.fresh
     }
 
+    /// Whether cases may have been left out for want of time.
+    pub fn is_over(&self) -> bool {
+        self.began.elapsed() >= self.most
+    }
+
     pub fn seconds(&self) -> f64 {
         self.began.elapsed().as_secs_f64()
     }

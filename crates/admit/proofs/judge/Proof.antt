@@ -8,8 +8,8 @@ use lib.ListN.{length}
 use Rattle.whole.specs.Packed.{matrix}
 use Rattle.paper.specs.Building.{slices}
 use Rattle.paper.specs.Lent.{lentJudged}
-use Rattle.paper.proofs.Judged.{deck}
-use Rattle.paper.proofs.NewCard.{new-place}
+use Rattle.laws.proofs.Judged.{deck}
+use Rattle.laws.proofs.NewCard.{new-place}
 use Rattle.work.proofs.Leaving.{refused-first}
 use Rattle.admit.proofs.Asking.{no-card, no-slices, form-left, changes-of}
 

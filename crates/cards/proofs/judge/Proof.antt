@@ -3,7 +3,7 @@ use Rattle.cards.proofs.judge.Statement.{statement}
 use Rattle.cards.proofs.judge.Tie as tie
 use mathlib.Core.Path.{_∙_}
 use native.Mathlib.Omega.{arith}
-use Rattle.paper.proofs.Judging.{judged-sixes, judged-short, judged-long, judged-rows}
+use Rattle.laws.proofs.Judging.{judged-sixes, judged-short, judged-long, judged-rows}
 
 returns : tie.Need-returns
 returns c = judged-sixes (c .before .before .args .table .now) (c .if1 .taken)

@@ -9,7 +9,7 @@ use Rattle.paper.specs.Kinds.{about, kindAt}
 use Rattle.paper.specs.Cards.{rowAt, rank}
 use Rattle.paper.specs.Judge.{judgeFrom}
 use Rattle.paper.specs.declared.About.{About}
-use Rattle.paper.proofs.Judging.{judge-on, judge-here, judge-end}
+use Rattle.laws.proofs.Judging.{judge-on, judge-here, judge-end}
 use Rattle.cards.proofs.Rows.{lent, letter-at, lent-card}
 
 abbrev Inv-loop : tie.InvT-loop

@@ -8,7 +8,7 @@ use borrow.Author.Tests.{not-true, not-false}
 use Rattle.paper.specs.Cards.{countsOf, rowAt}
 use Rattle.paper.specs.Judge.{trailer, judgeFrom}
 use Rattle.paper.specs.declared.Counts.{Counts}
-use Rattle.paper.proofs.Judging.{rows-trailer, rows-back, rows-cards}
+use Rattle.laws.proofs.Judging.{rows-trailer, rows-back, rows-cards}
 use Rattle.cards.proofs.Rows.{lent, at-row}
 
 mul-at : tie.Need-mul-at

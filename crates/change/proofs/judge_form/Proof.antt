@@ -4,7 +4,7 @@ use Rattle.change.proofs.judge_form.Tie as tie
 use mathlib.Core.Path.{_≡_, sym, ap, subst, _∙_}
 use Prim.Native.Nat.{ℕ}
 use Rattle.paper.specs.Cards.{elements}
-use Rattle.paper.proofs.Decks.{In}
+use Rattle.laws.proofs.Decks.{In}
 use Rattle.change.proofs.Forming.{element-card, own-row, judged-own, named, few-named, judged-named, judged-none}
 
 array-read-by-letter : tie.Need-array-read-by-letter

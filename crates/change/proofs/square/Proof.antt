@@ -5,7 +5,7 @@ use mathlib.Core.Path.{_≡_, sym, ap, subst, _∙_}
 use mathlib.Core.List.{List}
 use Prim.Native.Nat.{ℕ}
 use Rattle.paper.specs.Parts.{partFor}
-use Rattle.paper.proofs.Places.{squareA}
+use Rattle.laws.proofs.Places.{squareA}
 use Rattle.paper.specs.Cards.{rowAt}
 use Rattle.triangle.specs.Forms.{squareOf}
 use Rattle.part.specs.Asks.{Card, Solid}

@@ -11,7 +11,7 @@ use Rattle.paper.specs.Cards.{orderOf, rank}
 use Rattle.paper.specs.Judge.{judgeFrom}
 use Rattle.paper.specs.Calls.{cardAt}
 use Rattle.paper.specs.declared.About.{About}
-use Rattle.paper.proofs.Judging.{judge-on, judge-here, judge-end}
+use Rattle.laws.proofs.Judging.{judge-on, judge-here, judge-end}
 use Rattle.deck.proofs.InRows.{lent, read-card}
 
 abbrev Inv-loop : tie.InvT-loop

@@ -8,7 +8,7 @@ use lib.ListN.{length}
 use Rattle.paper.specs.Refusals.{told, packed}
 use Rattle.paper.specs.Calls.{readStart, handed}
 use Rattle.paper.specs.declared.Answer.{Answer}
-use Rattle.paper.proofs.Reading.{table-kept, part-none, start-none}
+use Rattle.laws.proofs.Reading.{table-kept, part-none, start-none}
 
 reads-of-requires : tie.Need-reads-of-requires
 reads-of-requires c κs = search needs

@@ -3,7 +3,7 @@ use Rattle.deck.proofs.reads_from.Statement.{statement}
 use Rattle.deck.proofs.reads_from.Tie as tie
 use mathlib.Core.Path.{sym, _∙_}
 use native.Mathlib.Omega.{arith}
-use Rattle.paper.proofs.Reading.{from-refused, from-short, from-done}
+use Rattle.laws.proofs.Reading.{from-refused, from-short, from-done}
 
 judge-text-requires : tie.Need-judge-text-requires
 judge-text-requires c κs = search needs

@@ -11,7 +11,7 @@ use Rattle.paper.specs.Cards.{cards, countsOf}
 use Rattle.paper.specs.Judge.{trailer}
 use Rattle.paper.specs.Calls.{lastCard, startOf, readsFrom}
 use Rattle.paper.specs.declared.Counts.{Counts}
-use Rattle.paper.proofs.Reading.{trailer-told, reads-short, reads-long, reads-trailer, reads-back, reads-on}
+use Rattle.laws.proofs.Reading.{trailer-told, reads-short, reads-long, reads-trailer, reads-back, reads-on}
 
 returns : tie.Need-returns
 returns c = reads-short (c .before .before .args .s .now) (c .before .before .args .room) (omega arith)

@@ -9,7 +9,7 @@ use lib.ListN.{length, getD, take, drop, length-drop}
 use lib.Seq.{take-all}
 use Rattle.paper.specs.Cards.{cards, countsOf}
 use Rattle.paper.specs.Calls.{joined, cardAt, lastCard, startOf, readStart}
-use Rattle.paper.proofs.Reading.{trailer-told, accepted, table-read, part-read, start-read}
+use Rattle.laws.proofs.Reading.{trailer-told, accepted, table-read, part-read, start-read}
 
 last-card-requires : tie.Need-last-card-requires
 last-card-requires c κs =

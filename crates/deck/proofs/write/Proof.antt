@@ -6,7 +6,7 @@ use native.Mathlib.Omega.{arith}
 use Rattle.paper.specs.Calls.{wrote}
 use Rattle.paper.specs.declared.Answer.{Answer}
 use Rattle.paper.specs.declared.Answer.the-variants.{Done}
-use Rattle.paper.proofs.Judged.{top-told}
+use Rattle.laws.proofs.Judged.{top-told}
 use Rattle.deck.proofs.Writing.{write-refused, write-short, write-done}
 
 judge-requires : tie.Need-judge-requires

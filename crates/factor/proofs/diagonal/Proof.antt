@@ -16,7 +16,7 @@ use Rattle.whole.proofs.Calc.{rd}
 use Rattle.whole.proofs.Packed.{tri-next}
 use Rattle.whole.proofs.Signs.{got}
 use Rattle.paper.specs.Factor.{small, w, rowFrom}
-use Rattle.paper.proofs.Finished.{Firm, fin-end}
+use Rattle.laws.proofs.Finished.{Firm, fin-end}
 use Rattle.paper.specs.declared.Answer.the-variants.{Done, Refused}
 use Rattle.paper.specs.declared.Refusal.the-variants.{Bound, Pivot}
 use Rattle.factor.specs.Asks.{Row, RowDone}

@@ -11,12 +11,12 @@ use Rattle.whole.specs.Packed.{tri}
 use Rattle.whole.proofs.Packed.{tri-next, tri-below, tri-half, tri-small, tri-96}
 use Rattle.paper.specs.Refusals.{refused, done, then}
 use Rattle.paper.specs.Factor.{rowFrom, rowsFrom}
-use Rattle.paper.proofs.Finished.{Fin}
+use Rattle.laws.proofs.Finished.{Fin}
 use Rattle.paper.specs.declared.Answer.{Answer}
 use Rattle.paper.specs.declared.Answer.the-variants.{Done, Refused}
 use Rattle.paper.specs.declared.Refusal.{Refusal}
 use Rattle.factor.specs.Asks.{Fresh, Row, RowDone}
-use Rattle.paper.proofs.Lent.{passed}
+use Rattle.laws.proofs.Lent.{passed}
 use Rattle.factor.proofs.rows.Statement.{statement}
 use Rattle.factor.proofs.rows.Tie as tie
 

@@ -11,7 +11,7 @@ use Rattle.whole.specs.Packed.{matrix}
 use Rattle.paper.specs.Building.{slices}
 use Rattle.paper.specs.Cards.{nodes}
 use Rattle.paper.specs.Lent.{enough}
-use Rattle.paper.proofs.Judged.{deck}
+use Rattle.laws.proofs.Judged.{deck}
 use Rattle.work.proofs.Leaving.{refused-first}
 use Rattle.fresh.proofs.Built.{no-room, all-elements}
 

@@ -1,13 +1,11 @@
 use borrow.Author.Needs.{needs}
 use Rattle.kinds.proofs.columns_of.Statement.{statement}
 use Rattle.kinds.proofs.columns_of.Tie as tie
-use mathlib.Core.Path.{ap, _∙_}
-use mathlib.Core.List.{List}
-use Prim.Native.Nat.{ℕ}
+use mathlib.Core.Path.{_∙_}
 use native.Mathlib.Omega.{arith}
-use lib.ListN.{getD}
 use Rattle.paper.specs.Cards.{columns}
 use Rattle.kinds.specs.Laid.{laid}
+use Rattle.kinds.proofs.Sections.{cards-are}
 use Rattle.kinds.proofs.Ranges.{laid-as, laid-Z}
 
 -- three lines a kind
@@ -20,9 +18,6 @@ columns-of-spec =
     (λ c. search needs)
     (λ c. search needs)
     (λ c. search needs)
-    (λ c κs. search needs)
-    (λ c. search needs)
-    (λ c. omega (arith, ap (λ (s : List ℕ). getD s 5 0) (c .starts-of .ensures)))
     (λ c. search needs)
     (λ c κs. search needs)
     (λ c. search needs)
@@ -38,6 +33,8 @@ columns-of-spec =
     (λ c. search needs)
     (λ c κs. search needs)
     (λ c. search needs)
+    (λ c κs. search needs)
+    (λ c. omega (arith, c .cards-before .ensures, cards-are (c .before .before .before .before .before .before .args .counts)))
     (λ c κs. search needs)
     (λ c. search needs)
     (λ c κs. search needs)
@@ -48,5 +45,5 @@ columns-of-spec =
     (λ c. c .laid-out5 .ensures ∙ laid-as _ (c .before .enum-told5 .given .1))
     (λ c. c .laid-out6 .ensures ∙ laid-as _ (c .before .enum-told6 .given .1))
     (λ c. c .laid-out7 .ensures ∙ laid-as _ (c .before .enum-told7 .given .1))
-    (λ c. c .laid-out8 .ensures ∙ laid-Z _ (c .before .before .before .starts-of .ensures) ∙ laid-as _ (c .before .enum-told8 .given .1))
+    (λ c. c .laid-out8 .ensures ∙ laid-Z _ (c .before .cards-before .ensures) ∙ laid-as _ (c .before .before .enum-told8 .given .1))
     (λ c. c .laid-out9 .ensures ∙ laid-as _ (c .before .enum-told9 .given .1)))

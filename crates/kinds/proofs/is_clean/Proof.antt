@@ -5,7 +5,7 @@ use mathlib.Core.Path.{_≡_, refl, sym, _∙_}
 use Prim.Native.Nat.{_+_, _-_, _≤_}
 use native.Mathlib.Omega.{arith}
 use Rattle.paper.specs.Cards.{zeros}
-use Rattle.paper.proofs.Judging.{zeros-on, zeros-here, zeros-end}
+use Rattle.laws.proofs.Judging.{zeros-on, zeros-here, zeros-end}
 
 abbrev Inv-loop : tie.InvT-loop
 Inv-loop used card k₀ k = (zeros card (6 - (1 + used)) (1 + used) ≡ zeros card (6 - k) k) × (k ≤ 6)

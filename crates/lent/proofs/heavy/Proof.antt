@@ -1,13 +1,14 @@
 use borrow.Author.Needs.{needs}
 use Rattle.lent.proofs.heavy.Statement.{statement}
 use Rattle.lent.proofs.heavy.Tie as tie
+use native.Mathlib.Omega.{arith}
 use Rattle.lent.proofs.Turns.{light-all}
 
 largest-requires : tie.Need-largest-requires
 largest-requires c κs = search needs
 
 returns : tie.Need-returns
-returns c = light-all (c .before .before .args .m .now) (c .before .before .args .n) (c .before .largest .result) (c .before .before .pre .few) (c .before .before .pre .room) (c .before .largest .ensures) (c .if1 .taken)
+returns c = light-all (c .before .before .args .m .now) (c .before .before .args .n) (c .before .largest .result) (c .before .before .pre .few) (c .before .before .pre .room) (c .before .largest .ensures) (omega (arith, c .if1 .taken))
 
 heavy-rows-requires : tie.Need-heavy-rows-requires
 heavy-rows-requires c κs = search needs

@@ -9,7 +9,7 @@ use Rattle.whole.proofs.Packed.{length-lower}
 use Rattle.paper.specs.Cards.{rows, nodes}
 use Rattle.paper.specs.Parts.{partAt}
 use Rattle.paper.specs.Matrices.{addsP, addsA, P, A}
-use Rattle.paper.proofs.Weights.{part-P, part-A}
+use Rattle.laws.proofs.Weights.{part-P, part-A}
 use Rattle.packed.proofs.Assembling.{partly, walk-none, walk-more, walk-card}
 
 abbrev Inv-loop : tie.InvT-loop

@@ -10,7 +10,7 @@ use Rattle.whole.proofs.Packed.{length-lower}
 use Rattle.paper.specs.Cards.{rows, nodes}
 use Rattle.paper.specs.Parts.{partAt}
 use Rattle.paper.specs.Matrices.{addsA, A}
-use Rattle.paper.proofs.Weights.{part-A}
+use Rattle.laws.proofs.Weights.{part-A}
 use Rattle.packed.proofs.Assembling.{partly, walk-none, walk-more, walk-card}
 
 abbrev Inv-loop : tie.InvT-loop

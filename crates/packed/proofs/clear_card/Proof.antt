@@ -14,9 +14,9 @@ use Rattle.paper.specs.Cards.{field, letter, nodes, rows}
 use Rattle.paper.specs.Matrices.{cleared}
 use Rattle.paper.specs.declared.Kind.the-variants.{T}
 use Rattle.paper.specs.declared.About.{About}
-use Rattle.paper.proofs.Decks.{Deck, In}
-use Rattle.paper.proofs.Letters.{kind-of}
-use Rattle.paper.proofs.Spans.{names-T}
+use Rattle.laws.proofs.Decks.{Deck, In}
+use Rattle.laws.proofs.Letters.{kind-of}
+use Rattle.laws.proofs.Spans.{names-T}
 use Rattle.packed.proofs.Clearing.{clear-other, clear-T}
 
 -- the letter read is T's

@@ -4,7 +4,7 @@ use Rattle.part.proofs.base.Tie as tie
 use mathlib.Core.Path.{_≡_, sym, ap, subst, _∙_}
 use Prim.Native.Nat.{ℕ}
 use Rattle.paper.specs.Cards.{rowAt, elements, elementRow}
-use Rattle.paper.proofs.Decks.{In}
+use Rattle.laws.proofs.Decks.{In}
 use Rattle.part.proofs.Ways.{is-named, few-named, base-is}
 
 array-read-by-letter : tie.Need-array-read-by-letter

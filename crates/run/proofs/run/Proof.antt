@@ -5,7 +5,7 @@ use mathlib.Core.Path.{sym, _∙_}
 use mathlib.Core.List.{[]}
 use native.Mathlib.Omega.{arith}
 use Rattle.paper.specs.Calls.{lent}
-use Rattle.paper.proofs.Judged.{deck}
+use Rattle.laws.proofs.Judged.{deck}
 use Rattle.run.proofs.Turns.{deck-refused, run-stopped, run-done}
 
 judge-requires : tie.Need-judge-requires

@@ -4,7 +4,7 @@ use borrow.Author.Needs.{needs}
 use mathlib.Core.Path.{sym, _∙_}
 use native.Mathlib.Omega.{arith}
 use lib.ListN.{length}
-use Rattle.paper.proofs.Judged.{deck}
+use Rattle.laws.proofs.Judged.{deck}
 use Rattle.step.proofs.Refusing.{few-of, lent-refused, p-in, a-in, l-in, old-in, own, cut-is}
 
 nodes-requires : tie.Need-nodes-requires

@@ -8,7 +8,7 @@ use native.Mathlib.Omega.{arith}
 use lib.ListN.{getD}
 use Rattle.paper.specs.Cards.{used}
 use Rattle.paper.specs.Text.{fieldsFrom}
-use Rattle.paper.proofs.CardText.{card-none, card-line, card-fields}
+use Rattle.laws.proofs.CardText.{card-none, card-line, card-fields}
 
 shared-slice-read-letter : tie.Need-shared-slice-read-letter
 shared-slice-read-letter c = search needs

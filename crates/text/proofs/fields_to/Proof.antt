@@ -9,7 +9,7 @@ use borrow.Rule.Slice.PartMut.{mid-len}
 use lib.ListN.{length, getD, take}
 use Rattle.whole.proofs.Lists.{put-length}
 use Rattle.paper.specs.Text.{textField, textFrom}
-use Rattle.paper.proofs.Fields.{length-field}
+use Rattle.laws.proofs.Fields.{length-field}
 use Rattle.text.proofs.PrintCard.{text-more, text-end}
 
 abbrev Inv-loop : tie.InvT-loop

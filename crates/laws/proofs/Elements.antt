@@ -1,0 +1,224 @@
+-- One element that passes refusals 5 and 6: no two of its corners are the same, and its numbers are small.
+use mathlib.Core.Path.{_≡_, refl, sym, ap, subst, _∙_}
+use mathlib.Core.Bool.{true, not}
+use mathlib.Core.List.{List, [], _∷_, map}
+use Prim.Native.Nat.{ℕ, zero, suc, _+_, _-_, _*_, _/_, _≤_, _<_}
+use native.Mathlib.Nat.{mul-zero, div-zero}
+use native.Mathlib.Decide.{decLt}
+use native.Mathlib.Omega.{arith}
+use borrow.Author.Tests.{leb-true, le-leb, not-false, not-true}
+use lib.IntN.{ℤ, pos, natAbs, _+ℤ_, _-ℤ_, _*ℤ_, +ℤ-invr, zero-*ℤ, *ℤ-zero}
+use lib.ListN.{length, getD}
+use Rattle.whole.specs.Nearest.{nearestN}
+use Rattle.whole.specs.Sums.{any}
+use Rattle.whole.proofs.Rounding.{nearest-zero, nearest-size}
+use Rattle.whole.proofs.Sums.{any-each, any-none}
+use Rattle.whole.proofs.Tests.{and-told}
+use Rattle.paper.specs.Kinds.{about}
+use Rattle.paper.specs.Cards.{field, rowAt, rows, nodes, materials, elements, elementRow, stepOf}
+use Rattle.paper.specs.Corners.{Shape, Body, shapeOf, area}
+use Rattle.paper.specs.Triangle.{b, c, S, pair, u}
+use Rattle.paper.specs.Elements.{Element, bodyOf, elementOf, elementAt, soft, fair, formJudged, elementJudged}
+use Rattle.paper.specs.Parts.{namedRow, partOf, partAt}
+use Rattle.paper.specs.Building.{elementsFrom}
+use Rattle.paper.specs.declared.Answer.the-variants.{Done}
+use Rattle.paper.specs.declared.Refusal.the-variants.{Flat, Stiff}
+use Rattle.paper.specs.declared.Kind.{Kind}
+use Rattle.paper.specs.declared.Kind.the-variants.{D, N, M, E, H, F, T, Z, Other}
+use Rattle.laws.proofs.Outcomes.{cond-done}
+use Rattle.laws.proofs.Letters as kinds
+use Rattle.laws.proofs.Tables.{row-field}
+use Rattle.laws.proofs.Decks.{In, kindIn, Deck}
+use Rattle.laws.proofs.Spans.{is-body, in-bodies, names-H, names-F}
+use Rattle.laws.proofs.Square.{between-symmetric}
+use Rattle.laws.proofs.InTurn.{elements-each}
+use Rattle.laws.proofs.Sizes.{Distinct}
+
+-- ---- two corners at one node lie in one place
+
+getD-map : (f : ℕ → ℕ) (ns : List ℕ) (a : ℕ) → a < length ns → getD (map f ns) a 0 ≡ f (getD ns a 0)
+getD-map f [] a h = absurd (omega arith)
+getD-map f (n ∷ ns) zero h = refl
+getD-map f (n ∷ ns) (suc a) h = getD-map f ns a (omega arith)
+
+axis-same : (f : ℕ → ℕ) (ns : List ℕ) (a b : ℕ) → a < length ns → b < length ns → getD ns a 0 ≡ getD ns b 0 → getD (map f ns) a 0 ≡ getD (map f ns) b 0
+axis-same f ns a b ha hb e = getD-map f ns a ha ∙ ap f e ∙ sym (getD-map f ns b hb)
+
+-- a corner's coordinates
+abbrev Xc : Shape → ℕ → ℤ
+Xc s a = pos (getD (s .xs) a 0)
+
+abbrev Yc : Shape → ℕ → ℤ
+Yc s a = pos (getD (s .ys) a 0)
+
+record Meet (s : Shape) (a b : ℕ) : Type 0 where
+  x : Xc s a ≡ Xc s b
+  y : Yc s a ≡ Yc s b
+
+meet : (t ns : List ℕ) (a b : ℕ) → a < length ns → b < length ns → getD ns a 0 ≡ getD ns b 0 → Meet (shapeOf t ns) a b
+unfolding shapeOf
+meet t ns a b ha hb e = record { x = ap pos (axis-same (λ n. field t n 1) ns a b ha hb e); y = ap pos (axis-same (λ n. field t n 2) ns a b ha hb e) }
+
+-- ---- corners of which two meet make no area
+
+abbrev flatOf : (x₀ x₁ x₂ y₀ y₁ y₂ : ℤ) → ℤ
+flatOf x₀ x₁ x₂ y₀ y₁ y₂ = (x₁ -ℤ x₀) *ℤ (y₂ -ℤ y₀) -ℤ (x₂ -ℤ x₀) *ℤ (y₁ -ℤ y₀)
+
+flat01 : (x x₂ y y₂ : ℤ) → flatOf x x x₂ y y y₂ ≡ pos 0
+flat01 x x₂ y y₂ = rw (+ℤ-invr x, +ℤ-invr y, zero-*ℤ (y₂ -ℤ y), *ℤ-zero (x₂ -ℤ x))
+
+flat02 : (x x₁ y y₁ : ℤ) → flatOf x x₁ x y y₁ y ≡ pos 0
+flat02 x x₁ y y₁ = rw (+ℤ-invr x, +ℤ-invr y, zero-*ℤ (y₁ -ℤ y), *ℤ-zero (x₁ -ℤ x))
+
+flat12 : (x x₁ y y₁ : ℤ) → flatOf x x₁ x₁ y y₁ y₁ ≡ pos 0
+flat12 x x₁ y y₁ = rw (+ℤ-invr ((x₁ -ℤ x) *ℤ (y₁ -ℤ y)))
+
+module _ (s : Shape) where
+  S-is : S s ≡ natAbs (flatOf (Xc s 0) (Xc s 1) (Xc s 2) (Yc s 0) (Yc s 1) (Yc s 2))
+  unfolding S area
+  S-is = refl
+
+  S-01 : Meet s 0 1 → S s ≡ 0
+  S-01 m = S-is ∙ ap natAbs ((λ i. flatOf (m .x i) (Xc s 1) (Xc s 2) (m .y i) (Yc s 1) (Yc s 2)) ∙ flat01 (Xc s 1) (Xc s 2) (Yc s 1) (Yc s 2))
+
+  S-02 : Meet s 0 2 → S s ≡ 0
+  S-02 m = S-is ∙ ap natAbs ((λ i. flatOf (m .x i) (Xc s 1) (Xc s 2) (m .y i) (Yc s 1) (Yc s 2)) ∙ flat02 (Xc s 2) (Xc s 1) (Yc s 2) (Yc s 1))
+
+  S-12 : Meet s 1 2 → S s ≡ 0
+  S-12 m = S-is ∙ ap natAbs ((λ i. flatOf (Xc s 0) (m .x i) (Xc s 2) (Yc s 0) (m .y i) (Yc s 2)) ∙ flat12 (Xc s 0) (Xc s 2) (Yc s 0) (Yc s 2))
+
+  no-area : (a b : ℕ) → a < b → b < 3 → Meet s a b → S s ≡ 0
+  no-area zero zero h k m = absurd (omega arith)
+  no-area zero (suc zero) h k m = S-01 m
+  no-area zero (suc (suc zero)) h k m = S-02 m
+  no-area zero (suc (suc (suc b))) h k m = absurd (omega arith)
+  no-area (suc zero) zero h k m = absurd (omega arith)
+  no-area (suc zero) (suc zero) h k m = absurd (omega arith)
+  no-area (suc zero) (suc (suc zero)) h k m = S-12 m
+  no-area (suc zero) (suc (suc (suc b))) h k m = absurd (omega arith)
+  no-area (suc (suc a)) b h k m = absurd (omega arith)
+
+-- ---- distinct corners
+
+pub distinct-by : (ns : List ℕ) → ((a b : ℕ) → a < b → b < length ns → getD ns a 0 ≡ getD ns b 0 → ⊥) → Distinct ns
+distinct-by ns f a b ha hb e = go (decLt a b) (decLt b a)
+  where
+    go : Dec (a < b) → Dec (b < a) → a ≡ b
+    go (yes l) m = absurd (f a b l hb e)
+    go (no l) (yes m) = absurd (f b a m ha (sym e))
+    go (no l) (no m) =
+        let l′ : a < b → ⊥ = l in
+        let m′ : b < a → ⊥ = m in
+        omega arith
+
+-- THEOREM. An element of some area, of whatever card, has no two corners the same.
+pub distinct : (t card : List ℕ) → 1 ≤ elementOf t card .size → Distinct (elementOf t card .shape .corners)
+unfolding elementOf bodyOf shapeOf
+distinct t card h =
+    let ns = getD card 1 0 ∷ getD card 2 0 ∷ getD card 3 0 ∷ [] in
+    distinct-by ns (λ a b l k m. let z = no-area (shapeOf t ns) a b l k (meet t ns a b (omega arith) k m) in omega arith)
+
+-- ---- fair
+
+pub record Fair (it : Element) : Type 0 where
+  pub store : it .stored ≤ 4000000
+  pub pairs : (i j : ℕ) → j < i → i < length (it .shape .corners) → natAbs (it .between i j) ≤ 4000000
+
+pub fair-told : (it : Element) → fair it ≡ true → Fair it
+unfolding fair
+fair-told it e =
+    let n = length (it .shape .corners) in
+    let (s, p) = and-told (soft (it .stored)) (not (any n (λ i. any i (λ j. not (soft (natAbs (it .between i j))))))) e in
+    let q = not-true (any n (λ i. any i (λ j. not (soft (natAbs (it .between i j)))))) p in
+    record {
+      store = leb-true _ _ s;
+      pairs = λ i j l k. leb-true _ _ (not-false (soft (natAbs (it .between i j))) (any-each i (λ j. not (soft (natAbs (it .between i j)))) (any-each n (λ i. any i (λ j. not (soft (natAbs (it .between i j))))) q i k) j l));
+    }
+
+-- what 5 and 6 leave
+pub record Formed (it : Element) : Type 0 where
+  pub some : 1 ≤ it .size
+  pub fair : Fair it
+
+pub sound-one : (it : Element) (e : ℕ) → formJudged it e ≡ Done → Formed it
+unfolding formJudged
+sound-one it e p =
+    let (a, p₁) = cond-done _ _ (Flat e) p in
+    let (b, _) = cond-done _ Done (Stiff e) p₁ in
+    record { some = leb-true 1 (it .size) a; fair = fair-told it b }
+
+-- THEOREM. In a deck whose elements pass 5 and 6, each element is of some area, its u and its pairs within 4,000,000.
+pub sound : (t : List ℕ) (row : ℕ) → Deck t → elementsFrom (elements t) 1 t ≡ Done → row < rows t → kinds.Body (kindIn t row) → Formed (elementAt t row)
+unfolding elementJudged
+sound t row d p h b =
+    let (lo, hi) = in-bodies t d row h (kinds.body-section (kindIn t row) b) in
+    let k = row - (nodes t + materials t) in
+    let here : elementRow t k ≡ row = omega arith in
+    subst (λ (r : ℕ). Formed (elementAt t r)) here (sound-one (elementAt t (elementRow t k)) k (elements-each t (elements t) 1 k p (omega arith) (omega arith)))
+
+-- its pairs on either side
+pub between-small : (t card : List ℕ) → Fair (elementOf t card) → (i j : ℕ) → i < length (elementOf t card .shape .corners) → j < length (elementOf t card .shape .corners) → (i ≡ j → ⊥)
+    → natAbs (elementOf t card .between i j) ≤ 4000000
+between-small t card f i j hi hj n = go (decLt j i)
+  where
+    go : Dec (j < i) → natAbs (elementOf t card .between i j) ≤ 4000000
+    go (yes l) = f .pairs i j l hi
+    go (no l) =
+        let l′ : j < i → ⊥ = l in
+        let n′ : i ≡ j → ⊥ = n in
+        omega (arith, ap natAbs (between-symmetric t card i j), f .pairs j i (omega arith) hj)
+
+-- ---- the corners of every card
+
+module _ (t : List ℕ) (d : Deck t) (pass : elementsFrom (elements t) 1 t ≡ Done) where
+  pub named-distinct : (e : ℕ) → In 1 (elements t) e → Distinct (elementAt t (elementRow t e) .shape .corners)
+  named-distinct e h =
+      let r = elementRow t e in
+      distinct t (rowAt t r) (sound t r d pass (omega (arith, d .all, h .1)) (is-body t d e h) .some)
+
+  named-at : (row : ℕ) → In 1 (elements t) (field t row 1) → Distinct (elementAt t (namedRow t (rowAt t row)) .shape .corners)
+  named-at row h = named-distinct (getD (rowAt t row) 1 0) (rw (row-field t row 1 (omega arith)) h)
+
+  nothing-distinct : Distinct []
+  nothing-distinct a b ha hb e = absurd (omega arith)
+
+  distinct-kind : (row : ℕ) (kind : Kind) → row < rows t → kindIn t row ≡ kind → Distinct (partOf t (rowAt t row) kind .corners)
+  unfolding partOf
+  distinct-kind row D h e = nothing-distinct
+  distinct-kind row N h e = nothing-distinct
+  distinct-kind row M h e = nothing-distinct
+  distinct-kind row E h e = distinct t (rowAt t row) (sound t row d pass h (kinds.flat e) .some)
+  distinct-kind row H h e = named-at row (names-H t d row h e)
+  distinct-kind row F h e = named-at row (names-F t d row h e)
+  distinct-kind row T h e = nothing-distinct
+  distinct-kind row Z h e = nothing-distinct
+  distinct-kind row Other h e = nothing-distinct
+
+  -- THEOREM. No card of a deck that passes 5 and 6 has two corners the same.
+  pub part-distinct : (row : ℕ) → row < rows t → Distinct (partAt t row .corners)
+  part-distinct row h = distinct-kind row (kindIn t row) h refl
+
+-- ---- within one element the order of 5 and 6 can't be seen
+
+-- THEOREM. 6 asks nothing of an element with no area.
+pub flat-is-fair : (t card : List ℕ) → 1 ≤ stepOf t → elementOf t card .size ≡ 0 → fair (elementOf t card) ≡ true
+unfolding fair elementOf u pair nearestN
+flat-is-fair t card h z = rw (
+  le-leb (u (stepOf t) e) 4000000 (omega (arith, none)),
+  any-none (length (elementOf t card .shape .corners)) (λ i. any i (λ j. not (soft (natAbs (pair e i j))))) (λ i l. any-none i _ (λ j k. ap not (pairs i j))),
+)
+  where
+    e : Body
+    e = bodyOf t card
+
+    none : u (stepOf t) e ≡ 0
+    none = unfold u in nearest-zero _ (9600 * stepOf t) (omega arith) (ap (λ (k : ℕ). e .capacity * e .thickness * k) z ∙ mul-zero (e .capacity * e .thickness))
+
+    by-none : (n q : ℕ) → q ≡ 0 → nearestN n q ≡ 0
+    by-none n q k = ap (λ (m : ℕ). (2 * n + m) / (2 * m)) k ∙ div-zero (2 * n + 0)
+
+    pairs : (i j : ℕ) → soft (natAbs (pair e i j)) ≡ true
+    pairs i j = le-leb (natAbs (pair e i j)) 4000000 (omega (arith, nearest-size (top i j) (2000 * S (e .shape)), by-none (natAbs (top i j)) (2000 * S (e .shape)) (omega arith)))
+      where
+        top : ℕ → ℕ → ℤ
+        top i j = let s = e .shape in pos (e .thickness) *ℤ (pos (e .kx) *ℤ (b s i *ℤ b s j) +ℤ pos (e .ky) *ℤ (c s i *ℤ c s j))

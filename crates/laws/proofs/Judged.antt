@@ -1,0 +1,294 @@
+-- What the judge of a table tells of a deck that it accepts: places by section, fields by column, for all kinds at once.
+use mathlib.Core.Path.{_≡_, refl, sym, ap, subst, _∙_}
+use mathlib.Core.Bool.{true, not, _&&_, _||_}
+use mathlib.Core.List.{List}
+use Prim.Native.Nat.{ℕ, zero, suc, _+_, _*_, _-_, _%_, _≤_, _<_}
+use native.Mathlib.Decide.{ℕ-discrete}
+use native.Mathlib.Omega.{arith}
+use borrow.Author.Tests.{leb-true, ltb-true, ltb-false, le-ltb, eqb-true, eq-eqb, ne-eqb, not-false}
+use lib.Dec.{eqb, leb, ltb}
+use lib.ListN.{length, getD}
+use Rattle.whole.specs.Sums.{sumN}
+use Rattle.whole.proofs.Tests.{and-told, nor-told}
+use Rattle.paper.specs.Kinds.{about, aboutOf, letterOf, kindOf, kindAt, isA}
+use Rattle.paper.specs.Cards.{Column, _⋯_, within, before, columns, columnsOf, inRange, orderOf, rank, countsAt, mostRows, rowAt, field, letter, rows, nodes, materials, elements}
+use Rattle.paper.specs.Judge.{stands, clean, rises, formed, ranged, judgeCard, judgeFrom, trailer, judgeRows, judged}
+use Rattle.paper.specs.declared.About.{About}
+use Rattle.paper.specs.declared.Answer.{Answer}
+use Rattle.paper.specs.declared.Answer.the-variants.{Done}
+use Rattle.paper.specs.declared.Refusal.the-variants.{Length, Trailer, Form, Range}
+use Rattle.paper.specs.declared.Counts.{Counts}
+use Rattle.paper.specs.declared.Kind.{Kind}
+use Rattle.paper.specs.declared.Kind.the-variants.{Z}
+use Rattle.laws.proofs.Outcomes.{both-done, cond-done, cond-rest}
+use Rattle.laws.proofs.Letters.{kind-of, same-order}
+use Rattle.laws.proofs.Tables.{row-field}
+use Rattle.laws.proofs.Decks.{In, kindIn, loads, Fits, Within, Deck}
+use Rattle.laws.proofs.Spans.{in-told, begins}
+
+-- ---- cards in turn: each is judged after the order and the rank of the one before it
+
+abbrev pub orderBefore : (ℕ → List ℕ) → ℕ → ℕ
+orderBefore row zero = 0
+orderBefore row (suc i) = orderOf (row i)
+
+abbrev pub rankBefore : (ℕ → List ℕ) → ℕ → ℕ
+rankBefore row zero = 0
+rankBefore row (suc i) = rank (row i)
+
+abbrev pub passes : Counts → (ℕ → List ℕ) → ℕ → Answer
+passes z row i = judgeCard z row i (orderBefore row i) (rankBefore row i)
+
+module _ (z : Counts) (row : ℕ → List ℕ) where
+  pub judge-each : (n i k : ℕ) → judgeFrom z row n i (orderBefore row i) (rankBefore row i) ≡ Done → i ≤ k → k < i + n → passes z row k ≡ Done
+  unfolding judgeFrom
+  judge-each zero i k e a b = absurd (omega arith)
+  judge-each (suc n) i k e a b =
+      let (here, rest) = both-done (passes z row i) (judgeFrom z row n (suc i) (orderOf (row i)) (rank (row i))) e in
+      go here (ℕ-discrete k i) (λ l. judge-each n (suc i) k rest l (omega arith))
+    where
+      go : passes z row i ≡ Done → Dec (k ≡ i) → (suc i ≤ k → passes z row k ≡ Done) → passes z row k ≡ Done
+      go h (yes q) later = rw q h
+      go h (no q) later = let q′ : k ≡ i → ⊥ = q in later (omega arith)
+
+  pub judge-all : (n i : ℕ) → ((k : ℕ) → i ≤ k → k < i + n → passes z row k ≡ Done) → judgeFrom z row n i (orderBefore row i) (rankBefore row i) ≡ Done
+  unfolding judgeFrom
+  judge-all zero i h = refl
+  judge-all (suc n) i h = rw (h i (omega arith) (omega arith)) (judge-all n (suc i) (λ k a b. h k (omega arith) (omega arith)))
+
+-- ---- ranges
+
+pub range-each : (cs : List Column) (card : List ℕ) (n k j : ℕ) → inRange cs card n k ≡ true → k ≤ j → j < k + n → within (getD cs j (0 ⋯ 0)) (getD card (suc j) 0) ≡ true
+unfolding inRange
+range-each cs card zero k j e a b = absurd (omega arith)
+range-each cs card (suc n) k j e a b =
+    let (here, rest) = and-told (within (getD cs k (0 ⋯ 0)) (getD card (suc k) 0)) (inRange cs card n (suc k)) e in
+    go here (ℕ-discrete j k) (λ l. range-each cs card n (suc k) j rest l (omega arith))
+  where
+    go : within (getD cs k (0 ⋯ 0)) (getD card (suc k) 0) ≡ true → Dec (j ≡ k) → (suc k ≤ j → within (getD cs j (0 ⋯ 0)) (getD card (suc j) 0) ≡ true)
+        → within (getD cs j (0 ⋯ 0)) (getD card (suc j) 0) ≡ true
+    go h (yes q) later = rw q h
+    go h (no q) later = let q′ : j ≡ k → ⊥ = q in later (omega arith)
+
+-- ---- one card
+
+pub record Passed (z : Counts) (row : ℕ → List ℕ) (i p key : ℕ) : Type 0 where
+  pub place : stands z i p (aboutOf (row i)) ≡ true
+  pub clear : clean (row i) ≡ true
+  pub range : inRange (columnsOf z (row i)) (row i) 5 0 ≡ true
+  pub rise : rises p key (aboutOf (row i)) (row i) ≡ true
+
+pub passed : (z : Counts) (row : ℕ → List ℕ) (i p key : ℕ) → judgeCard z row i p key ≡ Done → Passed z row i p key
+unfolding judgeCard formed ranged
+passed z row i p key e =
+    let a = aboutOf (row i) in
+    let (f, e₁) = cond-done _ _ (Form (suc i)) e in
+    let (g, _) = cond-done _ Done (Range (suc i)) e₁ in
+    let (s, c) = and-told (stands z i p a) (clean (row i)) f in
+    let (w, r) = and-told (inRange (columnsOf z (row i)) (row i) 5 0) (rises p key a (row i)) g in
+    record { place = s; clear = c; range = w; rise = r }
+
+pub passing : (z : Counts) (row : ℕ → List ℕ) (i p key : ℕ) → Passed z row i p key → judgeCard z row i p key ≡ Done
+unfolding judgeCard formed ranged
+passing z row i p key h = rw (h .place, h .clear, h .range, h .rise)
+
+-- a card stands within its section, and not before the group of the card before it
+pub record Stood (z : Counts) (i p : ℕ) (a : About) : Type 0 where
+  pub lo : before z (a .section) ≤ i
+  pub hi : i < before z (suc (a .section))
+  pub up : p ≤ a .order
+
+pub stands-told : (z : Counts) (i p : ℕ) (a : About) → stands z i p a ≡ true → Stood z i p a
+unfolding stands
+stands-told z i p a e =
+    let s = a .section in
+    let (w, u) = and-told (leb (before z s) i && ltb i (before z (suc s))) (leb p (a .order)) e in
+    let (l, h) = and-told (leb (before z s) i) (ltb i (before z (suc s))) w in
+    record { lo = leb-true (before z s) i l; hi = ltb-true i (before z (suc s)) h; up = leb-true p (a .order) u }
+
+-- of a kind that rises, after one of its own group
+rises-told : (p key : ℕ) (a : About) (card : List ℕ) → rises p key a card ≡ true → 1 ≤ a .keys → p ≡ a .order → key < rank card
+unfolding rises
+rises-told p key a card e h o =
+    let n : a .keys ≡ 0 → ⊥ = λ q. omega arith in
+    ltb-true key (rank card) (rw (ne-eqb (a .keys) 0 n, eq-eqb p (a .order) o) at e)
+
+-- ---- the whole table
+
+pub record Top (t : List ℕ) : Type 0 where
+  pub sixes : length t % 6 ≡ 0
+  pub least : 12 ≤ length t
+  pub most : length t ≤ mostRows * 6
+  pub zed : trailer (rowAt t (rows t - 1)) ≡ true
+  pub back : getD (rowAt t (rows t - 1)) 1 0 ≡ 42 * (rows t - 1)
+  pub each : (row : ℕ) → suc row < rows t → passes (countsAt t) (rowAt t) row ≡ Done
+
+pub top-told : (t : List ℕ) → judged t ≡ Done → Top t
+unfolding judged judgeRows
+top-told t e =
+    let n = rows t - 1 in
+    let (a, e₁) = cond-rest _ (judgeRows t n) Length e in
+    let (a₁, long) = nor-told (not (eqb (length t % 6) 0) || ltb (length t) 12) (ltb (mostRows * 6) (length t)) a in
+    let (six, short) = nor-told (not (eqb (length t % 6) 0)) (ltb (length t) 12) a₁ in
+    let (b, e₂) = cond-done (trailer (rowAt t n) && eqb (getD (rowAt t n) 1 0) (42 * n)) _ Trailer e₁ in
+    let (zd, bk) = and-told (trailer (rowAt t n)) (eqb (getD (rowAt t n) 1 0) (42 * n)) b in
+    record {
+      sixes = eqb-true (length t % 6) 0 (not-false (eqb (length t % 6) 0) six);
+      least = ltb-false (length t) 12 short;
+      most = ltb-false (mostRows * 6) (length t) long;
+      zed = zd;
+      back = eqb-true (getD (rowAt t n) 1 0) (42 * n) bk;
+      each = λ row h. judge-each (countsAt t) (rowAt t) n 0 row e₂ (omega arith) (omega arith);
+    }
+
+pub top-done : (t : List ℕ) → Top t → judged t ≡ Done
+unfolding judged judgeRows
+top-done t h =
+    let n = rows t - 1 in
+    rw (eq-eqb (length t % 6) 0 (h .sixes), le-ltb (length t) 12 (h .least), le-ltb (mostRows * 6) (length t) (h .most), h .zed, eq-eqb (getD (rowAt t n) 1 0) (42 * n) (h .back))
+    (judge-all (countsAt t) (rowAt t) n 0 (λ row a b. h .each row (omega arith)))
+
+-- ---- Z and the sizes
+
+module _ (t : List ℕ) (ok : judged t ≡ Done) where
+  tp : Top t
+  tp = top-told t ok
+
+  abbrev z : Counts
+  z = countsAt t
+
+  abbrev card : List ℕ
+  card = rowAt t (rows t - 1)
+
+  is-Z : kindIn t (rows t - 1) ≡ Z
+  unfolding trailer
+  is-Z =
+      let (l, _) = and-told (isA Z card) (inRange (columnsOf z card) card 5 0) (tp .zed) in
+      kind-of (letter t (rows t - 1)) Z (sym (row-field t (rows t - 1) 0 (omega arith)) ∙ eqb-true (getD card 0 0) (letterOf Z) l)
+
+  kind-row : (row : ℕ) → kindAt (rowAt t row) ≡ kindIn t row
+  kind-row row = ap kindOf (row-field t row 0 (omega arith))
+
+  -- a field that the judge found within its column
+  spans : (row k : ℕ) → inRange (columnsOf z (rowAt t row)) (rowAt t row) 5 0 ≡ true → k < 5 → Fits t row k
+  spans row k g l =
+      subst (λ (v : ℕ). within (getD (columns z (kindIn t row)) k (0 ⋯ 0)) v ≡ true) (row-field t row (suc k) (omega arith))
+      (subst (λ (q : Kind). within (getD (columns z q) k (0 ⋯ 0)) (getD (rowAt t row) (suc k) 0) ≡ true) (kind-row row)
+      (range-each (columnsOf z (rowAt t row)) (rowAt t row) 5 0 k g (omega arith) (omega arith)))
+
+  spanZ : (k : ℕ) → k < 5 → let c = getD (columns z Z) k (0 ⋯ 0) in In (c .least) (c .most) (field t (rows t - 1) (suc k))
+  unfolding trailer
+  spanZ k l =
+      let r = rows t - 1 in
+      let (_, g) = and-told (isA Z card) (inRange (columnsOf z card) card 5 0) (tp .zed) in
+      in-told (getD (columns z Z) k (0 ⋯ 0)) (field t r (suc k))
+      (subst (λ (q : Kind). within (getD (columns z q) k (0 ⋯ 0)) (field t r (suc k)) ≡ true) is-Z (spans r k g l))
+
+  count : rows t ≡ 2 + nodes t + materials t + elements t + loads t
+  unfolding columns
+  count = omega (arith, spanZ 0 (omega arith), tp .back, row-field t (rows t - 1) 1 (omega arith), begins t .atZ, tp .least)
+
+  nodes-in : In 3 96 (nodes t)
+  unfolding columns nodes
+  nodes-in = spanZ 1 (omega arith)
+
+  materials-in : In 1 8 (materials t)
+  unfolding columns materials
+  materials-in = spanZ 2 (omega arith)
+
+  elements-in : In 1 160 (elements t)
+  unfolding columns elements
+  elements-in = spanZ 3 (omega arith)
+
+  -- ---- places
+  told : (row : ℕ) → suc row < rows t → Passed z (rowAt t) row (orderBefore (rowAt t) row) (rankBefore (rowAt t) row)
+  told row h = passed z (rowAt t) row _ _ (tp .each row h)
+
+  place-of : (row : ℕ) → suc row < rows t → Stood z row (orderBefore (rowAt t) row) (about (kindIn t row))
+  place-of row h = stands-told z row _ (about (kindIn t row)) (ap (λ (k : Kind). stands z row (orderBefore (rowAt t) row) (about k)) (sym (kind-row row)) ∙ told row h .place)
+
+  last-section : Within t 5 (rows t - 1)
+  unfolding before sumN
+  last-section = let b = begins t in (omega (arith, b .atZ, count), omega (arith, b .atZ, count))
+
+  stand : (row : ℕ) → row < rows t → Within t (about (kindIn t row) .section) row
+  unfolding about
+  stand row h = go (ℕ-discrete row (rows t - 1))
+    where
+      go : Dec (row ≡ rows t - 1) → Within t (about (kindIn t row) .section) row
+      go (yes q) = rw (q, is-Z) last-section
+      go (no q) =
+          let q′ : row ≡ rows t - 1 → ⊥ = q in
+          let p = place-of row (omega arith) in
+          (p .lo, p .hi)
+
+  -- ---- keys rise
+  orderAt : ℕ → ℕ
+  orderAt row = about (kindIn t row) .order
+
+  -- from a row of a kind that rises to a later one
+  record Up (r s : ℕ) : Type 0 where
+    order : orderAt r ≤ orderAt s
+    key : 1 ≤ about (kindIn t r) .keys → orderAt r ≡ orderAt s → field t r 1 < field t s 1
+
+  next-up : (row : ℕ) → suc (suc row) < rows t → Up row (suc row)
+  unfolding orderAt
+  next-up row h = record {
+    order = omega (arith, place-of (suc row) h .up, was);
+    key = λ k q.
+        omega (
+          arith,
+          row-field t row 1 (omega arith),
+          row-field t (suc row) 1 (omega arith),
+          rises-told (orderOf (rowAt t row)) (rank (rowAt t row)) (aboutOf (rowAt t (suc row))) (rowAt t (suc row)) (told (suc row) h .rise)
+              (subst (λ (x : Kind). 1 ≤ about x .keys) (same-order (kindIn t row) (kindIn t (suc row)) q ∙ sym (kind-row (suc row))) k)
+              (was ∙ q ∙ ap (λ (x : Kind). about x .order) (sym (kind-row (suc row)))),
+        );
+  }
+    where
+      was : orderOf (rowAt t row) ≡ orderAt row
+      was = ap (λ (x : Kind). about x .order) (kind-row row)
+
+  up : (row n : ℕ) → suc (row + suc n) < rows t → Up row (row + suc n)
+  unfolding orderAt
+  up row zero h = let e : suc row ≡ row + 1 = omega arith in subst (Up row) e (next-up row (omega arith))
+  up row (suc n) h =
+      let e : suc (row + suc n) ≡ row + suc (suc n) = omega arith in
+      let a = up row n (omega arith) in
+      let b = next-up (row + suc n) (omega arith) in
+      subst (Up row) e
+      (record {
+        order = omega (arith, a .order, b .order);
+        key = λ k q.
+            let o : orderAt row ≡ orderAt (row + suc n) = omega (arith, a .order, b .order) in
+            let k′ = subst (λ (x : Kind). 1 ≤ about x .keys) (same-order (kindIn t row) (kindIn t (row + suc n)) o) k in
+            omega (arith, a .key k o, b .key k′ (omega arith));
+      })
+
+  rise : (r s : ℕ) → r < s → s < rows t → 1 ≤ about (kindIn t r) .keys → letter t r ≡ letter t s → field t r 1 < field t s 1
+  unfolding orderAt about
+  rise r s h k l e =
+      let q : r + suc (s - suc r) ≡ s = omega arith in
+      let i : suc s < rows t = inner (ℕ-discrete s (rows t - 1)) in
+      subst (Up r) q (up r (s - suc r) (rw q i)) .key l (ap (λ (x : ℕ). about (kindOf x) .order) e)
+    where
+      last : (s ≡ rows t - 1) → about (kindIn t r) .keys ≡ 0
+      last q = ap (λ (x : ℕ). about (kindOf x) .keys) e ∙ ap (λ (x : ℕ). about (kindIn t x) .keys) q ∙ ap (λ (x : Kind). about x .keys) is-Z
+
+      inner : Dec (s ≡ rows t - 1) → suc s < rows t
+      inner (yes q) = absurd (omega (arith, last q))
+      inner (no q) = let q′ : s ≡ rows t - 1 → ⊥ = q in omega arith
+
+  -- THEOREM. What the judge accepts is a deck.
+  pub deck : Deck t
+  deck = record {
+    whole = omega (arith, tp .sixes);
+    few = omega (arith, tp .most);
+    someN = nodes-in;
+    someM = materials-in;
+    someE = elements-in;
+    all = count;
+    stands = stand;
+    span = λ row k h l. spans row k (told row h .range) l;
+    rising = rise;
+  }

@@ -1,0 +1,144 @@
+-- The judge step by step: what a test passed or failed comes to, of a card, of cards in turn, of a table.
+use mathlib.Core.Path.{_≡_, refl, ap, _∙_}
+use mathlib.Core.Bool.{true, false}
+use mathlib.Core.List.{List}
+use Prim.Native.Nat.{ℕ, zero, suc, _+_, _-_, _*_, _%_, _≤_, _<_}
+use native.Mathlib.Numerals.{add-one}
+use native.Mathlib.Omega.{arith}
+use borrow.Author.Tests.{eq-eqb, ne-eqb, lt-ltb, le-ltb}
+use lib.ListN.{length, getD}
+use Rattle.paper.specs.Refusals.{andThen}
+use Rattle.paper.specs.Kinds.{kindAt, aboutOf}
+use Rattle.paper.specs.Cards.{used, columnsOf, zeros, inRange, orderOf, rank, countsAt, mostRows, rowAt, rows}
+use Rattle.paper.specs.Judge.{stands, rises, clean, formed, ranged, judgeCard, judgeFrom, trailer, judgeRows, judged}
+use Rattle.paper.specs.declared.Answer.{Answer}
+use Rattle.paper.specs.declared.Answer.the-variants.{Done, Refused}
+use Rattle.paper.specs.declared.Refusal.{Refusal}
+use Rattle.paper.specs.declared.Refusal.the-variants.{Length, Trailer, Form, Range}
+use Rattle.paper.specs.declared.Counts.{Counts}
+
+-- unused fields, number by number
+module _ (card : List ℕ) where
+  pub clean-start : (u : ℕ) → u ≡ used (kindAt card) → u ≤ 5 → clean card ≡ zeros card (6 - (1 + u)) (1 + u)
+  unfolding clean
+  clean-start u e l =
+      let s : 6 - (1 + u) ≡ 5 - u = omega arith in
+      rw (s, e)
+
+  pub zeros-on : (i : ℕ) → i < 6 → getD card i 0 ≡ 0 → zeros card (6 - i) i ≡ zeros card (6 - (i + 1)) (i + 1)
+  unfolding zeros
+  zeros-on i l e =
+      let m : 6 - i ≡ suc (6 - (i + 1)) = omega arith in
+      rw (m, add-one i) (simp (eq-eqb (getD card i 0) 0 e))
+
+  pub zeros-here : (i : ℕ) → i < 6 → (getD card i 0 ≡ 0 → ⊥) → false ≡ zeros card (6 - i) i
+  unfolding zeros
+  zeros-here i l e =
+      let m : 6 - i ≡ suc (6 - (i + 1)) = omega arith in
+      rw m (simp (ne-eqb (getD card i 0) 0 e))
+
+  pub zeros-end : (i : ℕ) → 6 ≤ i → true ≡ zeros card (6 - i) i
+  unfolding zeros
+  zeros-end i l =
+      let m : 6 - i ≡ 0 = omega arith in
+      rw m
+
+-- the two parts of a card's judgement
+module _ (z : Counts) (row : ℕ → List ℕ) (i p key : ℕ) where
+  pub formed-on : stands z i p (aboutOf (row i)) ≡ true → clean (row i) ≡ formed z row i p
+  unfolding formed
+  formed-on h = simp h
+
+  pub formed-not : stands z i p (aboutOf (row i)) ≡ false → false ≡ formed z row i p
+  unfolding formed
+  formed-not h = simp h
+
+  pub ranged-on : inRange (columnsOf z (row i)) (row i) 5 0 ≡ true → rises p key (aboutOf (row i)) (row i) ≡ ranged z row i p key
+  unfolding ranged
+  ranged-on h = simp h
+
+  pub ranged-not : inRange (columnsOf z (row i)) (row i) 5 0 ≡ false → false ≡ ranged z row i p key
+  unfolding ranged
+  ranged-not h = simp h
+
+  pub form-refused : formed z row i p ≡ false → Refused (Form (i + 1)) ≡ judgeCard z row i p key
+  unfolding judgeCard
+  form-refused h = rw add-one (simp h)
+
+  pub range-refused : formed z row i p ≡ true → ranged z row i p key ≡ false → Refused (Range (i + 1)) ≡ judgeCard z row i p key
+  unfolding judgeCard
+  range-refused h g = rw add-one (simp (h, g))
+
+  pub card-done : formed z row i p ≡ true → ranged z row i p key ≡ true → Done ≡ judgeCard z row i p key
+  unfolding judgeCard
+  card-done h g = simp (h, g)
+
+-- cards in turn
+module _ (z : Counts) (row : ℕ → List ℕ) (n i p key : ℕ) where
+  pub judge-on : i < n → judgeCard z row i p key ≡ Done → judgeFrom z row (n - i) i p key ≡ judgeFrom z row (n - (i + 1)) (i + 1) (orderOf (row i)) (rank (row i))
+  unfolding judgeFrom
+  judge-on l e =
+      let m : n - i ≡ suc (n - (i + 1)) = omega arith in
+      rw (m, add-one i) (simp e)
+
+  pub judge-here : (r : Refusal) → i < n → judgeCard z row i p key ≡ Refused r → Refused r ≡ judgeFrom z row (n - i) i p key
+  unfolding judgeFrom
+  judge-here r l e =
+      let m : n - i ≡ suc (n - (i + 1)) = omega arith in
+      rw m (simp e)
+
+  pub judge-end : n ≤ i → Done ≡ judgeFrom z row (n - i) i p key
+  unfolding judgeFrom
+  judge-end l =
+      let m : n - i ≡ 0 = omega arith in
+      rw m
+
+-- what a card, and the cards, are told by
+abbrev judgeOne : Counts → List ℕ → ℕ → ℕ → ℕ → Answer
+judgeOne z card = judgeCard z (λ (j : ℕ). card)
+
+pub card-same : (z : Counts) (f g : ℕ → List ℕ) (i p key : ℕ) → f i ≡ g i → judgeCard z f i p key ≡ judgeCard z g i p key
+unfolding judgeCard formed ranged
+card-same z f g i p key e = ap (λ (c : List ℕ). judgeOne z c i p key) e
+
+pub judge-same : (z : Counts) (f g : ℕ → List ℕ) (n i p key : ℕ) → ((j : ℕ) → i ≤ j → j < i + n → f j ≡ g j) → judgeFrom z f n i p key ≡ judgeFrom z g n i p key
+unfolding judgeFrom
+judge-same z f g zero i p key e = refl
+judge-same z f g (suc n) i p key e =
+    let r = judge-same z f g n (suc i) (orderOf (f i)) (rank (f i)) (λ j x y. e j (omega arith) (omega arith)) in
+    let h = e i (omega arith) (omega arith) in
+    ap (andThen (judgeCard z f i p key)) r
+    ∙ ap (λ (c : List ℕ). andThen (judgeCard z f i p key) (judgeFrom z g n (suc i) (orderOf c) (rank c))) h
+    ∙ ap (λ (a : Answer). andThen a (judgeFrom z g n (suc i) (orderOf (g i)) (rank (g i)))) (card-same z f g i p key h)
+
+-- a table of n cards and Z
+module _ (t : List ℕ) (n : ℕ) where
+  pub rows-trailer : trailer (rowAt t n) ≡ false → Refused Trailer ≡ judgeRows t n
+  unfolding judgeRows
+  rows-trailer h = simp h
+
+  pub rows-back : trailer (rowAt t n) ≡ true → (getD (rowAt t n) 1 0 ≡ 42 * n → ⊥) → Refused Trailer ≡ judgeRows t n
+  unfolding judgeRows
+  rows-back h b = simp (h, ne-eqb (getD (rowAt t n) 1 0) (42 * n) b)
+
+  pub rows-cards : trailer (rowAt t n) ≡ true → getD (rowAt t n) 1 0 ≡ 42 * n → judgeFrom (countsAt t) (rowAt t) n 0 0 0 ≡ judgeRows t n
+  unfolding judgeRows
+  rows-cards h b = simp (h, eq-eqb (getD (rowAt t n) 1 0) (42 * n) b)
+
+-- the lengths that refusal 1 names
+module _ (t : List ℕ) where
+  pub judged-sixes : (length t % 6 ≡ 0 → ⊥) → Refused Length ≡ judged t
+  unfolding judged
+  judged-sixes h = simp (ne-eqb (length t % 6) 0 h)
+
+  pub judged-short : length t % 6 ≡ 0 → length t < 12 → Refused Length ≡ judged t
+  unfolding judged
+  judged-short h a = simp (eq-eqb (length t % 6) 0 h, lt-ltb (length t) 12 a)
+
+  pub judged-long : length t % 6 ≡ 0 → 12 ≤ length t → mostRows * 6 < length t → Refused Length ≡ judged t
+  unfolding judged
+  judged-long h a b = simp (eq-eqb (length t % 6) 0 h, le-ltb (length t) 12 a, lt-ltb (mostRows * 6) (length t) b)
+
+  pub judged-rows : length t % 6 ≡ 0 → 12 ≤ length t → length t ≤ mostRows * 6 → judgeRows t (rows t - 1) ≡ judged t
+  unfolding judged
+  judged-rows h a b = simp (eq-eqb (length t % 6) 0 h, le-ltb (length t) 12 a, le-ltb (mostRows * 6) (length t) b)

@@ -1,0 +1,151 @@
+-- A card's letter and its kind tell each other, and what the table of kinds says of those that are replaced.
+use mathlib.Core.Path.{_≡_, refl, sym, ap, _∙_}
+use mathlib.Core.Bool.{Bool, true, false, cond}
+use mathlib.Core.List.{List, [], _∷_}
+use Prim.Native.Nat.{ℕ, _≤_, _<_}
+use native.Mathlib.Omega.{arith}
+use lib.Dec.{eqb}
+use lib.ListN.{getD}
+use borrow.Author.Tests.{eqb-true}
+use Rattle.paper.specs.Kinds.{about, letterOf, kindOf}
+use Rattle.paper.specs.declared.Kind.{Kind}
+use Rattle.paper.specs.declared.Kind.the-variants.{D, N, M, E, H, F, T, Z, Other}
+
+-- ---- a letter by its kind
+
+named : (l : ℕ) (k rest : Kind) → (about rest .order < 8 → letterOf rest ≡ l) → about (cond (eqb l (letterOf k)) k rest) .order < 8 → letterOf (cond (eqb l (letterOf k)) k rest) ≡ l
+named l k rest f h = go (eqb l (letterOf k)) refl h
+  where
+    go : (b : Bool) → eqb l (letterOf k) ≡ b → about (cond b k rest) .order < 8 → letterOf (cond b k rest) ≡ l
+    go true e h = sym (eqb-true l (letterOf k) e)
+    go false e h = f h
+
+-- THEOREM. Every letter but Other's is its kind's.
+pub known : (l : ℕ) → about (kindOf l) .order < 8 → letterOf (kindOf l) ≡ l
+unfolding kindOf about
+known l =
+    named l D _ (named l N _ (named l M _ (named l E _ (named l H _ (named l F _ (named l T _ (named l Z Other (λ h. absurd (omega arith)))))))))
+
+pub letter-of : (l : ℕ) (k : Kind) → kindOf l ≡ k → about k .order < 8 → l ≡ letterOf k
+letter-of l k e h = sym (known l (rw e h)) ∙ ap letterOf e
+
+pub kind-letter : (k : Kind) → kindOf (letterOf k) ≡ k
+unfolding kindOf about
+kind-letter D = refl
+kind-letter N = refl
+kind-letter M = refl
+kind-letter E = refl
+kind-letter H = refl
+kind-letter F = refl
+kind-letter T = refl
+kind-letter Z = refl
+kind-letter Other = refl
+
+pub kind-of : (l : ℕ) (k : Kind) → l ≡ letterOf k → kindOf l ≡ k
+kind-of l k e = ap kindOf e ∙ kind-letter k
+
+-- ---- the kinds of a section
+
+pub node-kind : (k : Kind) → about k .section ≡ 1 → k ≡ N
+unfolding about
+node-kind D e = absurd (omega arith)
+node-kind N e = refl
+node-kind M e = absurd (omega arith)
+node-kind E e = absurd (omega arith)
+node-kind H e = absurd (omega arith)
+node-kind F e = absurd (omega arith)
+node-kind T e = absurd (omega arith)
+node-kind Z e = absurd (omega arith)
+node-kind Other e = absurd (omega arith)
+
+-- elements
+pub data Body (k : Kind) : Type 0 where
+  flat : k ≡ E → Body k
+
+pub body-kind : (k : Kind) → about k .section ≡ 3 → Body k
+unfolding about
+body-kind D e = absurd (omega arith)
+body-kind N e = absurd (omega arith)
+body-kind M e = absurd (omega arith)
+body-kind E e = flat refl
+body-kind H e = absurd (omega arith)
+body-kind F e = absurd (omega arith)
+body-kind T e = absurd (omega arith)
+body-kind Z e = absurd (omega arith)
+body-kind Other e = absurd (omega arith)
+
+pub body-section : (k : Kind) → Body k → about k .section ≡ 3
+unfolding about
+body-section k (flat e) = rw e
+
+-- THEOREM. What is replaced stands among the elements or the loads.
+pub replaced-section : (k : Kind) → 1 ≤ about k .keeps → (3 ≤ about k .section) × (about k .section ≤ 4)
+unfolding about
+replaced-section D h = absurd (omega arith)
+replaced-section N h = absurd (omega arith)
+replaced-section M h = absurd (omega arith)
+replaced-section E h = (omega arith, omega arith)
+replaced-section H h = (omega arith, omega arith)
+replaced-section F h = (omega arith, omega arith)
+replaced-section T h = (omega arith, omega arith)
+replaced-section Z h = absurd (omega arith)
+replaced-section Other h = absurd (omega arith)
+
+-- THEOREM. What rises stands among the loads.
+pub rising-section : (k : Kind) → 1 ≤ about k .keys → about k .section ≡ 4
+unfolding about
+rising-section D h = absurd (omega arith)
+rising-section N h = absurd (omega arith)
+rising-section M h = absurd (omega arith)
+rising-section E h = absurd (omega arith)
+rising-section H h = refl
+rising-section F h = refl
+rising-section T h = refl
+rising-section Z h = absurd (omega arith)
+rising-section Other h = absurd (omega arith)
+
+-- what stands first, and what stands among the materials
+pub first-kind : (k : Kind) → about k .section ≡ 0 → k ≡ D
+unfolding about
+first-kind D e = refl
+first-kind N e = absurd (omega arith)
+first-kind M e = absurd (omega arith)
+first-kind E e = absurd (omega arith)
+first-kind H e = absurd (omega arith)
+first-kind F e = absurd (omega arith)
+first-kind T e = absurd (omega arith)
+first-kind Z e = absurd (omega arith)
+first-kind Other e = absurd (omega arith)
+
+pub material-kind : (k : Kind) → about k .section ≡ 2 → k ≡ M
+unfolding about
+material-kind D e = absurd (omega arith)
+material-kind N e = absurd (omega arith)
+material-kind M e = refl
+material-kind E e = absurd (omega arith)
+material-kind H e = absurd (omega arith)
+material-kind F e = absurd (omega arith)
+material-kind T e = absurd (omega arith)
+material-kind Z e = absurd (omega arith)
+material-kind Other e = absurd (omega arith)
+
+-- ---- a kind by its order
+
+abbrev inOrder : List Kind
+inOrder = D ∷ N ∷ M ∷ E ∷ H ∷ F ∷ T ∷ Z ∷ Other ∷ []
+
+by-order : (k : Kind) → getD inOrder (about k .order) Other ≡ k
+unfolding about
+by-order D = refl
+by-order N = refl
+by-order M = refl
+by-order E = refl
+by-order H = refl
+by-order F = refl
+by-order T = refl
+by-order Z = refl
+by-order Other = refl
+
+-- THEOREM. No two kinds have the same order.
+pub same-order : (k k′ : Kind) → about k .order ≡ about k′ .order → k ≡ k′
+same-order k k′ e = sym (by-order k) ∙ ap (λ (o : ℕ). getD inOrder o Other) e ∙ by-order k′

@@ -1,0 +1,158 @@
+-- What refusals 3, 13 and 4 of a new card tell, and that the deck with it in its place is accepted as well.
+use mathlib.Core.Path.{_≡_, refl, sym, ap, subst, _∙_}
+use mathlib.Core.Bool.{true, not, _&&_, _||_}
+use mathlib.Core.List.{List}
+use Prim.Native.Nat.{ℕ, zero, suc, _+_, _-_, _≤_, _<_}
+use native.Mathlib.Decide.{ℕ-discrete}
+use native.Mathlib.Omega.{arith}
+use borrow.Author.Tests.{leb-true, eqb-true}
+use lib.Dec.{eqb, leb, ltb}
+use lib.ListN.{length, getD}
+use Rattle.whole.proofs.Tests.{and-told}
+use Rattle.paper.specs.Kinds.{about, kindOf, kindAt}
+use Rattle.paper.specs.Cards.{columnsOf, inRange, agree, orderOf, rank, countsAt, rowAt, field, rows, put}
+use Rattle.paper.specs.Judge.{clean, stands, rises, judged, answers, newJudged}
+use Rattle.paper.specs.declared.Answer.the-variants.{Done}
+use Rattle.paper.specs.declared.Refusal.the-variants.{Form, Range, Replacement}
+use Rattle.paper.specs.declared.Kind.{Kind}
+use Rattle.paper.specs.declared.Kind.the-variants.{D, N, M, E, H, F, T, Z, Other}
+use Rattle.laws.proofs.Outcomes.{cond-done}
+use Rattle.laws.proofs.Tables.{row-field, length-put, row-here}
+use Rattle.laws.proofs.Decks.{kindIn, Deck, Change}
+use Rattle.laws.proofs.Kept.{room, other-row, last-row, counts-same, letter-same, key-same}
+use Rattle.laws.proofs.Judged.{orderBefore, rankBefore, passes, passed, passing, top-told, top-done, deck}
+
+pub agree-each : (x y : List ℕ) (n k : ℕ) → agree x y n ≡ true → k < n → getD x k 0 ≡ getD y k 0
+unfolding agree
+agree-each x y zero k e h = absurd (omega arith)
+agree-each x y (suc n) k e h =
+    let (here, rest) = and-told (eqb (getD x n 0) (getD y n 0)) (agree x y n) e in
+    go here (ℕ-discrete k n) (λ l. agree-each x y n k rest l)
+  where
+    go : eqb (getD x n 0) (getD y n 0) ≡ true → Dec (k ≡ n) → (k < n → getD x k 0 ≡ getD y k 0) → getD x k 0 ≡ getD y k 0
+    go at (yes q) later = rw q (eqb-true (getD x n 0) (getD y n 0) at)
+    go at (no q) later = let q′ : k ≡ n → ⊥ = q in later (omega arith)
+
+record Accepted (t : List ℕ) (card : ℕ) (new : List ℕ) : Type 0 where
+  lo : 1 ≤ card
+  hi : card ≤ rows t
+  some : 1 ≤ about (kindAt new) .keeps
+  kept : agree new (rowAt t (card - 1)) (1 + about (kindAt new) .keeps) ≡ true
+  clear : clean new ≡ true
+  range : inRange (columnsOf (countsAt t) new) new 5 0 ≡ true
+
+accepted : (t : List ℕ) (card : ℕ) (new : List ℕ) → newJudged t card new ≡ Done → Accepted t card new
+unfolding newJudged answers
+accepted t card new e =
+    let k = about (kindAt new) .keeps in
+    let (a, e₁) = cond-done (ltb (orderOf new) (about Other .order) && clean new) _ (Form card) e in
+    let (b, e₂) = cond-done _ _ (Replacement card) e₁ in
+    let (g, _) = cond-done _ Done (Range card) e₂ in
+    let (_, cl) = and-told (ltb (orderOf new) (about Other .order)) (clean new) a in
+    let (b₂, ag) = and-told (leb 1 card && leb card (rows t) && leb 1 k) (agree new (rowAt t (card - 1)) (1 + k)) b in
+    let (b₁, so) = and-told (leb 1 card && leb card (rows t)) (leb 1 k) b₂ in
+    let (b₀, hi) = and-told (leb 1 card) (leb card (rows t)) b₁ in
+    record { lo = leb-true 1 card b₀; hi = leb-true card (rows t) hi; some = leb-true 1 k so; kept = ag; clear = cl; range = g }
+
+pub new-place : (t : List ℕ) (card : ℕ) (new : List ℕ) → newJudged t card new ≡ Done → (1 ≤ card) × (card ≤ rows t)
+new-place t card new e = let q = accepted t card new e in (q .lo, q .hi)
+
+keeps-few : (k : Kind) → about k .keeps ≤ 4
+unfolding about
+keeps-few D = omega arith
+keeps-few N = omega arith
+keeps-few M = omega arith
+keeps-few E = omega arith
+keeps-few H = omega arith
+keeps-few F = omega arith
+keeps-few T = omega arith
+keeps-few Z = omega arith
+keeps-few Other = omega arith
+
+module _ (t : List ℕ) (card : ℕ) (new : List ℕ) (six : length new ≡ 6) (ok : judged t ≡ Done) (fit : newJudged t card new ≡ Done) where
+  ac : Accepted t card new
+  ac = accepted t card new fit
+
+  same : (k : ℕ) → k ≤ about (kindAt new) .keeps → getD new k 0 ≡ field t (card - 1) k
+  same k h =
+      agree-each new (rowAt t (card - 1)) (1 + about (kindAt new) .keeps) k (ac .kept) (omega arith)
+      ∙ row-field t (card - 1) k (omega (arith, keeps-few (kindAt new)))
+
+  kind : kindAt new ≡ kindIn t (card - 1)
+  kind = ap kindOf (same 0 (omega arith))
+
+  -- THEOREM. A new card that is accepted may take the card's place.
+  pub change : Change t (card - 1) new
+  change = record {
+    six = six;
+    inside = omega (arith, ac .lo, ac .hi);
+    some = rw kind at (ac .some);
+    kept = λ k h. same k (rw kind h);
+  }
+
+  dk : Deck t
+  dk = deck t ok
+
+  abbrev c : ℕ
+  c = card - 1
+
+  abbrev t′ : List ℕ
+  t′ = put t (card - 1) new
+
+  -- ---- what the judge reads of the other cards stays in every row
+  kinds-same : (r : ℕ) → kindAt (rowAt t′ r) ≡ kindAt (rowAt t r)
+  kinds-same r = ap kindOf (row-field t′ r 0 (omega arith) ∙ letter-same t c new dk change r ∙ sym (row-field t r 0 (omega arith)))
+
+  rank-same : (r : ℕ) → rank (rowAt t′ r) ≡ rank (rowAt t r)
+  rank-same r = row-field t′ r 1 (omega arith) ∙ key-same t c new dk change r ∙ sym (row-field t r 1 (omega arith))
+
+  order-before : (r : ℕ) → orderBefore (rowAt t′) r ≡ orderBefore (rowAt t) r
+  order-before zero = refl
+  order-before (suc r) = ap (λ (k : Kind). about k .order) (kinds-same r)
+
+  rank-before : (r : ℕ) → rankBefore (rowAt t′) r ≡ rankBefore (rowAt t) r
+  rank-before zero = refl
+  rank-before (suc r) = rank-same r
+
+  rises-same : (r : ℕ) → rises (orderBefore (rowAt t′) r) (rankBefore (rowAt t′) r) (about (kindAt (rowAt t′ r))) (rowAt t′ r)
+      ≡ rises (orderBefore (rowAt t) r) (rankBefore (rowAt t) r) (about (kindAt (rowAt t r))) (rowAt t r)
+  unfolding rises
+  rises-same r =
+      λ j. let a = about (kinds-same r j) in eqb (a .keys) 0 || not (eqb (order-before r j) (a .order)) || ltb (rank-before r j) (rank-same r j)
+
+  -- ---- each card passes where it stands
+  alone : (r : ℕ) → r < rows t → (P : List ℕ → Type 0) → P new → P (rowAt t r) → P (rowAt t′ r)
+  alone r h P p q = go (ℕ-discrete r c)
+    where
+      go : Dec (r ≡ c) → P (rowAt t′ r)
+      go (yes e) = subst P (sym (ap (rowAt t′) e ∙ row-here t c new six (room t c new dk change))) p
+      go (no e) = subst P (sym (other-row t c new dk change r h e)) q
+
+  each-passes : (r : ℕ) → suc r < rows t → passes (countsAt t) (rowAt t′) r ≡ Done
+  each-passes r h =
+      let z = countsAt t in
+      let i : r < rows t = omega arith in
+      let q = passed z (rowAt t) r _ _ (top-told t ok .each r h) in
+      passing z (rowAt t′) r _ _
+      (record {
+        place = (λ j. stands z r (order-before r j) (about (kinds-same r j))) ∙ q .place;
+        clear = alone r i (λ x. clean x ≡ true) (ac .clear) (q .clear);
+        range = alone r i (λ x. inRange (columnsOf z x) x 5 0 ≡ true) (ac .range) (q .range);
+        rise = rises-same r ∙ q .rise;
+      })
+
+  -- THEOREM. The deck with the new card in its place is accepted.
+  pub stays : judged (put t (card - 1) new) ≡ Done
+  stays =
+      let tp = top-told t ok in
+      let long = length-put t c new six (room t c new dk change) in
+      let last = last-row t c new dk change in
+      top-done t′
+      (record {
+        sixes = rw long (tp .sixes);
+        least = rw long (tp .least);
+        most = rw long (tp .most);
+        zed = rw last (tp .zed);
+        back = rw (last, long) (tp .back);
+        each = λ r h. rw (counts-same t c new dk change) (each-passes r (rw long at h));
+      })

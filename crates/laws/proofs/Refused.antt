@@ -1,0 +1,110 @@
+-- Which refusals are of the factor, 7 and 8: none of a deck's, a new card's or an element's, and every one of the factor's rows.
+use mathlib.Core.Path.{_≡_, refl}
+use mathlib.Core.Bool.{Bool, true, false, not, cond, _&&_, _||_}
+use mathlib.Core.List.{List, [], _∷_, _++_}
+use Prim.Native.Nat.{ℕ, zero, suc, _+_, _*_, _-_, _%_}
+use lib.Dec.{eqb, ltb, leb}
+use lib.IntN.{ℤ, pos}
+use lib.Signed.{leZ}
+use lib.ListN.{length, getD, set}
+use Rattle.whole.specs.Packed.{tri}
+use Rattle.paper.specs.Refusals.{Outcome, refused, done, when, then, andThen}
+use Rattle.paper.specs.Kinds.{about}
+use Rattle.paper.specs.Cards.{columnsOf, inRange, orderOf, rank, countsAt, mostRows, rowAt, rows, elementRow}
+use Rattle.paper.specs.Judge.{clean, formed, ranged, judgeCard, judgeFrom, trailer, judgeRows, judged, answers, newJudged}
+use Rattle.paper.specs.Elements.{Element, elementAt, fair, formJudged, elementJudged}
+use Rattle.paper.specs.Factor.{w, l, small, rowFrom, rowsFrom}
+use Rattle.paper.specs.Building.{elementsFrom}
+use Rattle.paper.specs.Calls.{inFactor}
+use Rattle.paper.specs.declared.Answer.{Answer}
+use Rattle.paper.specs.declared.Answer.the-variants.{Done, Refused}
+use Rattle.paper.specs.declared.Refusal.{Refusal}
+use Rattle.paper.specs.declared.Refusal.the-variants.{Pivot, Bound}
+use Rattle.paper.specs.declared.Kind.the-variants.{Other}
+use Rattle.paper.specs.declared.Counts.{Counts}
+
+-- an answer that is no refusal of the factor
+abbrev pub Plain : Answer → Type 0
+Plain Done = Unit {0}
+Plain (Refused r) = inFactor r ≡ false
+
+pub plain-told : (a : Answer) (r : Refusal) → Plain a → a ≡ Refused r → inFactor r ≡ false
+plain-told a r p e = rw e at p
+
+both : (a b : Answer) → Plain a → Plain b → Plain (andThen a b)
+both Done b p q = q
+both (Refused r) b p q = p
+
+either : (b : Bool) (x y : Answer) → Plain x → Plain y → Plain (cond b x y)
+either true x y p q = p
+either false x y p q = q
+
+card-plain : (z : Counts) (row : ℕ → List ℕ) (i p key : ℕ) → Plain (judgeCard z row i p key)
+unfolding judgeCard
+card-plain z row i p key = either (formed z row i p) _ _ (either (ranged z row i p key) _ _ tt refl) refl
+
+cards-plain : (z : Counts) (row : ℕ → List ℕ) (n i p key : ℕ) → Plain (judgeFrom z row n i p key)
+unfolding judgeFrom
+cards-plain z row zero i p key = tt
+cards-plain z row (suc n) i p key =
+    both (judgeCard z row i p key) _ (card-plain z row i p key) (cards-plain z row n (suc i) (orderOf (row i)) (rank (row i)))
+
+pub judged-plain : (t : List ℕ) → Plain (judged t)
+unfolding judged judgeRows
+judged-plain t =
+    let n = rows t - 1 in
+    either (not (eqb (length t % 6) 0) || ltb (length t) 12 || ltb (mostRows * 6) (length t)) _ _ refl
+    (either (trailer (rowAt t n) && eqb (getD (rowAt t n) 1 0) (42 * n)) _ _ (cards-plain (countsAt t) (rowAt t) n 0 0 0) refl)
+
+pub new-plain : (t : List ℕ) (card : ℕ) (new : List ℕ) → Plain (newJudged t card new)
+unfolding newJudged
+new-plain t card new =
+    either (ltb (orderOf new) (about Other .order) && clean new) _ _
+    (either (answers t card new) _ _ (either (inRange (columnsOf (countsAt t) new) new 5 0) _ _ tt refl) refl)
+    refl
+
+pub form-plain : (it : Element) (e : ℕ) → Plain (formJudged it e)
+unfolding formJudged
+form-plain it e = either (leb 1 (it .size)) _ _ (either (fair it) _ _ tt refl) refl
+
+pub element-plain : (t : List ℕ) (e : ℕ) → Plain (elementJudged t e)
+unfolding elementJudged
+element-plain t e = form-plain (elementAt t (elementRow t e)) e
+
+pub elements-plain : (n e : ℕ) (t : List ℕ) → Plain (elementsFrom n e t)
+unfolding elementsFrom
+elements-plain zero e t = tt
+elements-plain (suc n) e t = both (elementJudged t e) _ (element-plain t e) (elements-plain n (suc e) t)
+
+-- ---- the factor's own
+
+abbrev pub OfFactor : {X : Type 0} → Outcome X → Type 0
+OfFactor (refused r) = inFactor r ≡ true
+OfFactor (done x) = Unit {0}
+
+when-inside : {X : Type 0} (b : Bool) (r : Refusal) (o : Outcome X) → inFactor r ≡ true → OfFactor o → OfFactor (when b r o)
+when-inside true r o p q = q
+when-inside false r o p q = p
+
+then-inside : {X Y : Type 0} (o : Outcome X) (f : X → Outcome Y) → OfFactor o → ((x : X) → OfFactor (f x)) → OfFactor (then o f)
+then-inside (refused r) f p q = p
+then-inside (done x) f p q = q x
+
+row-inside : (r i j : ℕ) (xs ws : List ℤ) → OfFactor (rowFrom r i j xs ws)
+unfolding rowFrom
+row-inside zero i j xs ws =
+    let d = w xs (tri i) i ws in
+    when-inside (small 38 d) (Bound (suc i)) _ refl (when-inside (leZ (pos 16) d) (Pivot (suc i)) (done (set xs (tri i + i) d)) refl tt)
+row-inside (suc r) i j xs ws =
+    let q = set xs (tri i + j) (l xs (tri i) j ws) in
+    let v = ws ++ w xs (tri i) j ws ∷ [] in
+    when-inside (small 38 (w xs (tri i) j ws)) (Bound (suc i)) _ refl
+    (when-inside (small 24 (l xs (tri i) j ws)) (Bound (suc i)) (rowFrom r i (suc j) q v) refl (row-inside r i (suc j) q v))
+
+pub rows-inside : (r i : ℕ) (xs : List ℤ) → OfFactor (rowsFrom r i xs)
+unfolding rowsFrom
+rows-inside zero i xs = tt
+rows-inside (suc r) i xs = then-inside (rowFrom i i 0 xs []) (rowsFrom r (suc i)) (row-inside i i 0 xs []) (λ ys. rows-inside r (suc i) ys)
+
+pub inside-told : {X : Type 0} (o : Outcome X) (r : Refusal) → OfFactor o → o ≡ refused r → inFactor r ≡ true
+inside-told o r p e = rw e at p

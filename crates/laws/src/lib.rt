@@ -1,0 +1,1 @@
+// What follows of the definitions, as theorems alone: see proofs/.

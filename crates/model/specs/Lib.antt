@@ -1,2 +1,0 @@
--- What an accepted replacement asks.
-pub mod Asks

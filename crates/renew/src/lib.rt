@@ -1,0 +1,81 @@
+// A replacement that stirs, once it is admitted. Slices here are of the matrix length.
+use paper::Answer;
+use part::Corners;
+ghost use mathlib.Core.Path.{_≡_};
+ghost use lib.IntN.{pos};
+ghost use lib.ListN.{length, replicate, drop};
+ghost use Rattle.paper.specs.Cards.{put};
+ghost use Rattle.paper.specs.Building.{slices};
+ghost use Rattle.laws.proofs.Places.{addSquare};
+ghost use Rattle.triangle.specs.Forms.{numbers, at};
+ghost use Rattle.renew.specs.Asks.{storedSquare, Accepts, Open, Renewed};
+
+// The factor made in the work slice: `below` is the lower part of the factor, from the number at `start` on.
+fn accept(
+    table: &mut [u32],
+    p: &mut [i64],
+    a: &mut [i64],
+    below: &mut [i64],
+    work: &mut [i64],
+    start: usize,
+    row: usize,
+    new: [u32; 6],
+    c: Corners,
+    q: [[i64; 3]; 3],
+)
+    requires { ⌜ Accepts (now table) (now p) (now a) (now below) (now work) start row new c q ⌝ }
+    ensures { λ _. ⌜ now (table .exit) ≡ put (now (table .entry)) row new ⌝ }
+    ensures { λ _. ⌜ now (p .exit) ≡ addSquare (c .count) (now (p .entry)) (numbers (c .nodes)) (at (storedSquare (now (table .entry)) row new)) ⌝ }
+    ensures { λ _. ⌜ now (a .exit) ≡ addSquare (c .count) (now (a .entry)) (numbers (c .nodes)) (at q) ⌝ }
+    ensures { λ _. ⌜ now (below .exit) ≡ drop start (now (work .entry)) ⌝ }
+    ensures { λ _. ⌜ now (work .exit) ≡ replicate (length (now (work .entry))) (pos 0) ⌝ }
+{
+    let u = change::stored(&table[..], row, new);
+    work::hand_over(&mut below[..], &mut work[..], start);
+    change::matrices(&mut p[..], &mut a[..], c, u, q);
+    change::put(&mut table[..], row, new);
+}
+
+// The factor from the least corner's row on, and, once that is sure, the matrices and the card.
+pub fn renew(
+    table: &mut [u32],
+    p: &mut [i64],
+    a: &mut [i64],
+    factor: &mut [i64],
+    work: &mut [i64],
+    row: usize,
+    new: [u32; 6],
+) -> Answer
+    requires { ⌜ Open (now table) (now p) (now a) (now factor) (now work) row new ⌝ }
+    ensures { λ r. ⌜ Renewed r (now (table .entry)) (now (table .exit)) (slices (now (p .entry)) (now (a .entry)) (now (factor .entry))) (slices (now (p .exit)) (now (a .exit)) (now (factor .exit))) (now (work .exit)) row new ⌝ }
+{
+    let c = part::corners_of(&table[..], new);
+    let q = change::square(&table[..], row, new);
+    let m = part::least_row(c);
+    let s = whole::start(m);
+    let k = factor.len();
+    if let Answer::Refused(r) = work::refactored(
+        &table[..],
+        &a[..],
+        &factor[0..s],
+        &mut work[..],
+        c,
+        q,
+        m,
+    ) {
+        return Answer::Refused(r);
+    }
+    accept(
+        &mut table[..],
+        &mut p[..],
+        &mut a[..],
+        &mut factor[s..k],
+        &mut work[..],
+        s,
+        row,
+        new,
+        c,
+        q,
+    );
+    Answer::Done
+}
