@@ -15,11 +15,15 @@ use Rattle.whole.proofs.Largest.{Falls, squares-rise, climb-most, climb-largest
 use Rattle.paper.specs.Corners.{Shape, from}
 use Rattle.paper.specs.Edge.{length², reaches, edgeFilm}
 
--- the ranges of a G card's film and thickness, and of its nodes' coordinates
+-- two ends' coordinates in their range
+abbrev pub OnGrid : Shape → Type 0
+OnGrid s = (a : ℕ) → a < 2 → (getD (s .xs) a 0 ≤ 4095) × (getD (s .ys) a 0 ≤ 4095)
+
+-- and a G card's film and thickness
 pub record Ranges (film t : ℕ) (s : Shape) : Type 0 where
   pub film-most : film ≤ 100000
   pub t-most : t ≤ 4000
-  pub on-grid : (a : ℕ) → a < 2 → (getD (s .xs) a 0 ≤ 4095) × (getD (s .ys) a 0 ≤ 4095)
+  pub on-grid : OnGrid s
 
 -- the square of film·t·L, and that of n halves of g's unit
 abbrev pub reach : ℕ → ℕ → Shape → ℕ
@@ -30,7 +34,7 @@ halves n = squared (n * 60000000)
 
 -- ---- sizes
 
-along : (axis : List ℕ) → getD axis 0 0 ≤ 4095 → getD axis 1 0 ≤ 4095 → squared (natAbs (from axis 0 1)) ≤ 16769025
+pub along : (axis : List ℕ) → getD axis 0 0 ≤ 4095 → getD axis 1 0 ≤ 4095 → squared (natAbs (from axis 0 1)) ≤ 16769025
 along axis h k = squares-rise (natAbs (from axis 0 1)) 4095 (apart-size (getD axis 1 0) (getD axis 0 0) 4095 k h)
 
 pub product-most : {film t : ℕ} {s : Shape} → Ranges film t s → film * t ≤ 400000000
