@@ -93,6 +93,10 @@ a s = s .a
 abbrev factor : Slices → List ℤ
 factor s = s .factor
 
+-- g of the largest film and thickness from corner to corner of the grid, and between two nodes at one point
+abbrev far : ℕ → ℤ
+far n = pos (edgeFilm 100000 4000 (shapeOf (deck 1000 (node 0 0 ++ node 4095 4095 ++ node 0 0) 1 1 (element 1 2 3 1) [] 0) (1 ∷ n ∷ [])))
+
 pub record Case : Type 0 where
   pub name : ℕ
   pub got : List ℤ
@@ -121,7 +125,7 @@ cases =
     (numbers (4000000 ∷ 6 ∷ 1 ∷ []))
     ∷ case 11 (seen (built (deck 1000 (node 0 0 ++ node 50 50 ++ node 100 100) 1000 2400 (element 1 2 3 1000) [] 0)) a) (numbers (5 ∷ 1 ∷ []))
     ∷ case 12 (seen (replaceCall (built base .lent) 6 (element 1 2 3 2000)) a) (numbers (12000 ∷ 4000 ∷ 11000 ∷ 4000 ∷ 5000 ∷ 11000 ∷ 77 ∷ []))
-    -- [1]: g on both sides of a half, with L = 100, and of the longest edge; A, P and the loads of g = 2; a step from the ambient; a film changed
+    -- [1]: g on both sides of a half, with L = 100, and of a slanting edge; A, P and the loads of g = 2; a step from the ambient; a film changed; the most and the least
     ∷ case 13 (g (rim 1 2 599 1000) ∷ g (rim 1 2 600 1000) ∷ g (rim 1 2 1799 1000) ∷ g (rim 1 2 1800 1000) ∷ g (rim 2 3 100000 4000) ∷ [])
     (numbers (0 ∷ 1 ∷ 1 ∷ 2 ∷ 471 ∷ []))
     ∷ case 14 (let s = built (rimmed (rim 1 2 1800 1000)) .lent .slices in s .a ++ s .p)
@@ -130,6 +134,7 @@ cases =
     ∷ case 16 (stepOn (rimmed (rim 1 2 1800 1000))) (numbers (256 ∷ 19660800 ∷ 19660800 ∷ 19660800 ∷ 77 ∷ []))
     ∷ case 17 (seen (replaceCall (built (rimmed (rim 2 3 1 1)) .lent) 7 (rim 2 3 100000 4000)) a)
     (numbers (6000 ∷ 2000 ∷ 6442 ∷ 2000 ∷ 2971 ∷ 6442 ∷ 77 ∷ []))
+    ∷ case 18 (far 2 ∷ far 3 ∷ []) (numbers (19304 ∷ 0 ∷ []))
     ∷ []
 
 run : same (same eqZ) (map (λ (k : Case). k .got) cases) (map (λ (k : Case). k .want) cases) ≡ true
