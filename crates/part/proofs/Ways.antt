@@ -23,7 +23,7 @@ use Rattle.paper.specs.declared.Node.{Node}
 use Rattle.laws.proofs.Decks.{In}
 use Rattle.laws.proofs.Edge.{Ranges}
 use Rattle.laws.proofs.Places.{squareA}
-use Rattle.triangle.specs.Forms.{numbers, asShape, asBody, at, squareOf}
+use Rattle.triangle.specs.Forms.{asShape, asBody, at, squareOf}
 use Rattle.triangle.specs.Asks.{Small, Sized, Placed, Solid}
 use Rattle.triangle.proofs.Sizes.{mass-size}
 use Rattle.triangle.proofs.Squares.{small-square, square-at, square-ext}
