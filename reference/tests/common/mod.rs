@@ -279,6 +279,10 @@ impl Groups {
         ];
         groups.materials = vec![[k, k, chance.within(1, 200)]];
         groups.elements = vec![[1, 2, 3, 1, 1_000], [4, 2, 1, 1, chance.within(1, 1_000)]];
+        if chance.one_in(2) {
+            let (high, film) = (chance.within(2, 4), chance.within(1, 1_000));
+            groups.edges.push([1, high, film, 20_000_000, 1_000]);
+        }
         if chance.one_in(3) {
             groups.fixed.push([chance.within(1, 4), 20_000_000]);
         }
@@ -478,6 +482,24 @@ pub fn refused(number: u8, place: u32) -> Answer {
 
 pub fn step_refused(number: u8, place: u32) -> Stepped {
     Stepped::Refused(Refusal { number, place })
+}
+
+/// A table as bytes, whether it is a deck or not; each field has at most eight digits.
+pub fn text_of(table: &[u32]) -> Vec<u8> {
+    let mut text = String::new();
+    for card in table.chunks_exact(6) {
+        let used = match card[0] {
+            E | G | Z => 5,
+            D | M | F => 3,
+            _ => 2,
+        };
+        let fields: String = card[1..=used]
+            .iter()
+            .map(|field| format!("{field:8}"))
+            .collect();
+        text += &format!("{}{fields:40}\n", char::from(card[0] as u8));
+    }
+    text.into_bytes()
 }
 
 pub fn bytes_of(table: &[u32]) -> Vec<u8> {

@@ -214,22 +214,6 @@ fn wild_decks(record: &mut Record) {
 // ---- bytes that are no deck
 
 /// A table as bytes, whether it is a deck or not.
-fn text_of(table: &[u32]) -> Vec<u8> {
-    let mut text = String::new();
-    for card in table.chunks_exact(6) {
-        let used = match card[0] {
-            E | Z => 5,
-            D | M | F => 3,
-            _ => 2,
-        };
-        let fields: String = card[1..=used]
-            .iter()
-            .map(|field| format!("{field:8}"))
-            .collect();
-        text += &format!("{}{fields:40}\n", char::from(card[0] as u8));
-    }
-    text.into_bytes()
-}
 
 fn small() -> Vec<u8> {
     bytes_of(&Groups::one_of_each().table())
