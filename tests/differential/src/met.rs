@@ -45,11 +45,15 @@ impl Met {
     /// A call, the table or bytes that it was lent, and its answer.
     pub fn see(&mut self, call: Call, before: &Lent, after: &Lent, answer: u64) {
         let (number, place) = (answer & 255, (answer >> 16) as usize);
+        let unread;
         let table = match call {
             Call::Read if number == 0 => {
                 &after.table[..(after.part[1] - after.part[0]) as usize / 7]
             }
-            Call::Read => &cards_of(&before.bytes),
+            Call::Read => {
+                unread = cards_of(&before.bytes);
+                &unread[..]
+            }
             _ => &before.table[..],
         };
         let card = |number: usize| table.chunks_exact(6).nth(number.wrapping_sub(1));
