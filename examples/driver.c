@@ -1,11 +1,12 @@
 // SPDX-License-Identifier: GPL-2.0-only OR MIT
 /* driver DECK: an e-reader's page loop over Gormulast, as a panel driver has it.
  *
- * After each page the model takes one step. The reading light and the case are cards of the deck: switching the light
- * replaces the H cards, opening the case replaces the F cards, and the model redoes only what depends on them. Each line has
- * a page and the temperature of the panel at every corner of its zones, in degrees Celsius.
+ * After each page the model takes one step. The reading light, the case and the frame are cards of the deck: switching the
+ * light replaces the H cards, opening the case replaces the F cards, a hand that warms the frame replaces the G cards, and the
+ * model redoes only what depends on them. Each line has a page and the temperature of the panel at every corner of its zones,
+ * in degrees Celsius.
  *
- * panel_open, panel_page and the two switches are what would stand in a kernel; main and the printing are not.
+ * panel_open, panel_page and the three switches are what would stand in a kernel; main and the printing are not.
  */
 #include <gormulast.h>
 #include <stdio.h>
@@ -50,32 +51,46 @@ static uint64_t panel_page(struct panel *panel)
 			      panel->factor, MATRIX, panel->temperatures, panel->nodes);
 }
 
-/* Gives fields 2 and 3 of every card of a letter new values; stops at the first that is refused. */
-static uint64_t panel_set(struct panel *panel, char letter, uint32_t second, uint32_t third)
+/* Gives a field and the one after it new values, in every card of a letter; stops at the first that is refused. */
+static uint64_t panel_set(struct panel *panel, char letter, size_t field, uint32_t value, uint32_t after)
 {
+	uint32_t new[GORMULAST_CARD_NUMBERS];
 	uint64_t answer = 0;
-	size_t at;
+	size_t at, i;
 
-	for (at = 0; at < panel->length && !answer; at += GORMULAST_CARD_NUMBERS)
-		if (panel->table[at] == (uint32_t)letter)
-			answer = gormulast_replace(panel->table, panel->length, panel->p, MATRIX, panel->a, MATRIX,
-						   panel->factor, MATRIX, panel->work, MATRIX,
-						   (uint32_t)(at / GORMULAST_CARD_NUMBERS + 1), (uint32_t)letter,
-						   panel->table[at + 1], second, third, 0, 0);
+	for (at = 0; at < panel->length && !answer; at += GORMULAST_CARD_NUMBERS) {
+		if (panel->table[at] != (uint32_t)letter)
+			continue;
+		for (i = 0; i < GORMULAST_CARD_NUMBERS; i++)
+			new[i] = panel->table[at + i];
+		new[field] = value;
+		new[field + 1] = after;
+		answer = gormulast_replace(panel->table, panel->length, panel->p, MATRIX, panel->a, MATRIX,
+					   panel->factor, MATRIX, panel->work, MATRIX,
+					   (uint32_t)(at / GORMULAST_CARD_NUMBERS + 1),
+					   new[0], new[1], new[2], new[3], new[4], new[5]);
+	}
 	return answer;
 }
 
 /* The heat of each lit element, in microwatts. An H card can't be without any, so off is 1. */
 static uint64_t panel_light(struct panel *panel, int on)
 {
-	return panel_set(panel, 'H', on ? 750000 : 1, 0);
+	return panel_set(panel, 'H', 2, on ? 750000 : 1, 0);
 }
 
 /* The film over each element, in mW/(m2 K), and the air about it. */
 static uint64_t panel_case(struct panel *panel, int open)
 {
-	return open ? panel_set(panel, 'F', 40000, 278 * GORMULAST_KELVIN)
-		    : panel_set(panel, 'F', 12000, 298 * GORMULAST_KELVIN);
+	return open ? panel_set(panel, 'F', 2, 40000, 278 * GORMULAST_KELVIN)
+		    : panel_set(panel, 'F', 2, 12000, 298 * GORMULAST_KELVIN);
+}
+
+/* The film between the rim and the frame, in mW/(m2 K), and how warm the frame is. */
+static uint64_t panel_frame(struct panel *panel, int held)
+{
+	return held ? panel_set(panel, 'G', 3, 90000, 306 * GORMULAST_KELVIN)
+		    : panel_set(panel, 'G', 3, 60000, 298 * GORMULAST_KELVIN);
 }
 
 /* ---- the rest is for the eye */
@@ -136,19 +151,25 @@ int main(int count, char **words)
 			if (refused("light", panel_light(&panel, 1)))
 				return 1;
 		}
+		if (page == 6) {
+			printf("taken in the hand\n");
+			if (refused("frame", panel_frame(&panel, 1)))
+				return 1;
+		}
 		if (page == 9) {
 			printf("case opened\n");
 			if (refused("case", panel_case(&panel, 1)))
 				return 1;
 		}
 		if (page == 13) {
-			printf("case closed, light off\n");
-			if (refused("case", panel_case(&panel, 0)) || refused("light", panel_light(&panel, 0)))
+			printf("laid down, case closed, light off\n");
+			if (refused("frame", panel_frame(&panel, 0)) || refused("case", panel_case(&panel, 0)) ||
+			    refused("light", panel_light(&panel, 0)))
 				return 1;
 		}
 		/* A film of 0 is out of its range. The first card is refused, so all is as it was. */
 		if (page == 16)
-			refused("film of 0", panel_set(&panel, 'F', 0, 298 * GORMULAST_KELVIN));
+			refused("film of 0", panel_set(&panel, 'F', 2, 0, 298 * GORMULAST_KELVIN));
 		answer = panel_page(&panel);
 		if (refused("step", answer))
 			return 1;

@@ -72,7 +72,7 @@ static inline const char *gormulast_words(unsigned number)
 
 /* The most that a deck can need. */
 #define GORMULAST_MAX_BYTES 65536
-#define GORMULAST_MAX_TABLE 4092
+#define GORMULAST_MAX_TABLE 5052
 #define GORMULAST_MAX_NODES 96
 
 /* How many numbers a matrix of n nodes has: its lower triangle by rows. P, A, the factor and the work slice are matrices. */
@@ -106,9 +106,10 @@ uint64_t gormulast_build(const uint32_t *table, size_t table_length,
 			 int64_t *work, size_t work_length);
 
 /* One card of the deck anew, and what depends on it. Cards are numbered from 1, D being 1. An E card may change its material
- * and thickness, an H, F or T card its values.
+ * and thickness, a G card its film, ambient and thickness, an H, F or T card its values.
  *   0        the table holds the new card. After E and F also: six places of p and a and the factor's rows from the
- *            element's least corner on are those of the new deck; work is zero. After H and T all matrices stay
+ *            element's least corner on are those of the new deck; work is zero. After G also: three places of a and the
+ *            factor's rows from its lower node on; work is zero. After H and T all matrices stay
  *   7, 8     work is zero; all else stays
  *   else     all stay
  * Each over the matrix length: numbers past it stay. Refuses with any but 11 and 12. */

@@ -3,6 +3,7 @@
 use reference::{Answer, Card, MAX_ROWS};
 
 const E: u32 = b'E' as u32;
+const G: u32 = b'G' as u32;
 const H: u32 = b'H' as u32;
 
 pub struct Board {
@@ -54,28 +55,31 @@ impl Board {
         })
     }
 
+    /// The cards of a letter, each with its number.
+    fn cards(&self, letter: u32) -> impl Iterator<Item = (u32, Card)> + '_ {
+        let cards = (1..).zip(self.table.chunks_exact(6));
+        cards
+            .filter(move |(_, card)| card[0] == letter)
+            .map(|(number, card)| (number, card.try_into().unwrap()))
+    }
+
     /// The first H card: its number, the card.
     pub fn heat(&self) -> (u32, Card) {
-        let mut cards = (1..).zip(self.table.chunks_exact(6));
-        let (number, card) = cards
-            .find(|(_, card)| card[0] == H)
-            .expect("a board is heated");
-        (number, card.try_into().unwrap())
+        self.cards(H).next().expect("a board is heated")
     }
 
     /// The E card whose least corner is nearest to a node: that corner, the card's number, the card.
     pub fn element_near(&self, node: u32) -> (u32, u32, Card) {
-        let cards = (1..).zip(self.table.chunks_exact(6));
-        cards
-            .filter(|(_, card)| card[0] == E)
-            .map(|(number, card)| {
-                (
-                    card[1].min(card[2]).min(card[3]),
-                    number,
-                    card.try_into().unwrap(),
-                )
-            })
+        self.cards(E)
+            .map(|(number, card)| (card[1].min(card[2]).min(card[3]), number, card))
             .min_by_key(|(least, ..)| least.abs_diff(node))
             .expect("a deck has an element")
+    }
+
+    /// The G card whose lower node is nearest to a node: that node, the card's number, the card; none where the board has none.
+    pub fn edge_near(&self, node: u32) -> Option<(u32, u32, Card)> {
+        self.cards(G)
+            .map(|(number, card)| (card[1], number, card))
+            .min_by_key(|(low, ..)| low.abs_diff(node))
     }
 }

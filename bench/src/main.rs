@@ -24,7 +24,7 @@ fn main() {
         .map(|path| Board::read(&path))
         .collect();
     println!(
-        "{:14} {:>5} {:>12} {:>12} {:>7}",
+        "{:15} {:>5} {:>12} {:>12} {:>7}",
         "call", "nodes", "reference", "archive", "ratio"
     );
     for board in boards.iter().filter(|board| SHOWN.contains(&board.nodes)) {
@@ -38,6 +38,13 @@ fn main() {
                 &format!("replace at {least}"),
                 board,
                 replaces(board, card, even, 5),
+            );
+        }
+        if let Some((low, card, even)) = board.edge_near(board.nodes as u32 / 2) {
+            show(
+                &format!("replace G at {low}"),
+                board,
+                replaces(board, card, even, 3),
             );
         }
         let (card, even) = board.heat();
@@ -57,7 +64,7 @@ fn show(call: &str, board: &Board, times: Times) {
     let ratio = times.archive / times.reference;
     let mark = if ratio < 1.0 { "" } else { "  more" };
     let (nodes, Times { reference, archive }) = (board.nodes, times);
-    println!("{call:14} {nodes:>5} {reference:>9.0} ns {archive:>9.0} ns {ratio:>7.2}{mark}");
+    println!("{call:15} {nodes:>5} {reference:>9.0} ns {archive:>9.0} ns {ratio:>7.2}{mark}");
 }
 
 /// How the cost of a build rises: the power of n from each size to the next. Other work on the machine comes and goes, so
@@ -138,7 +145,7 @@ fn builds(board: &Board) -> Times {
     )
 }
 
-/// A field one more and back: an element's thickness, a heat.
+/// A field one more and back: an element's thickness, an edge's film, a heat.
 fn replaces(board: &Board, card: u32, even: Card, field: usize) -> Times {
     let mut odd = even;
     odd[field] += 1;

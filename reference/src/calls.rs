@@ -3,9 +3,9 @@
 use crate::answer::*;
 use crate::card::*;
 use crate::element::{change, Form};
-use crate::judge::{in_range, judge_card, well_formed, Counts, Deck};
+use crate::judge::{in_range, well_formed, Counts, Deck, Turn};
 use crate::step::{on_scale, Stepper};
-use crate::{factor as factoring, matrix, text};
+use crate::{edge, factor as factoring, matrix, text};
 
 /// Reads the deck at the end of the bytes into the table. Answers also the bounds
 /// of the part from D to Z, both whole; 0 and 0 on a refusal.
@@ -33,11 +33,9 @@ fn try_read(bytes: &[u8], table: &mut [u32]) -> Result<usize, Refusal> {
             .chunks_exact(CARD_BYTES)
             .map(text::scan)
     };
-    let mut before = [0; 6];
+    let mut turn = Turn::first(counts);
     for (index, card) in cards().enumerate() {
-        let card = card.ok_or(Refusal::at_index(FORM, index))?;
-        judge_card(&counts, index, &before, &card)?;
-        before = card;
+        turn.judge(&card.ok_or(Refusal::at_index(FORM, index))?)?;
     }
     if table.len() < 6 * counts.rows() {
         return Err(Refusal::whole(SHORT));
@@ -105,9 +103,7 @@ fn try_build(
     }
 
     work.fill(0);
-    for form in forms.iter() {
-        matrix::add(work, form.corners, form.total());
-    }
+    add_all(work, &deck, forms);
     matrix::fix(work, 0, n, &deck.fixed());
     let result = factoring::rows(&[], work, 0, n);
     if result.is_ok() {
@@ -116,11 +112,25 @@ fn try_build(
         a.fill(0);
         for form in forms.iter() {
             matrix::add(p, form.corners, form.capacity());
-            matrix::add(a, form.corners, form.total());
         }
+        add_all(a, &deck, forms);
     }
     work.fill(0);
     result
+}
+
+/// A of the elements' forms and of the deck's edges, into zeros.
+fn add_all(matrix: &mut [i64], deck: &Deck, forms: &[Form]) {
+    for form in forms {
+        matrix::add(matrix, form.corners, form.total());
+    }
+    for card in deck.loads().filter(|card| card[0] == G) {
+        matrix::add(
+            matrix,
+            edge::ends(&card),
+            edge::square(edge::share(deck, &card)),
+        );
+    }
 }
 
 /// Replaces one card of a deck, and of P, A and the factor what depends on it.
@@ -157,31 +167,61 @@ fn try_replace(
     ];
     judge_lent(n, p, a, factor)?;
 
-    if new[0] == E || new[0] == F {
-        let old = deck.card(index);
-        let (old_form, new_form) = forms_of_change(&deck, index, &old, &new)?;
-        let corners = new_form.corners;
-        let change_p = change(new_form.capacity(), old_form.capacity());
-        let change_a = change(new_form.total(), old_form.total());
-
-        // All six places are in the rows from the least corner on.
-        let first = corners[0].min(corners[1]).min(corners[2]);
-        let from = matrix::start(first);
-        work[from..].copy_from_slice(&a[from..]);
-        matrix::add(work, corners, change_a);
-        matrix::fix(work, first, n, &deck.fixed());
-        let (kept, lower) = factor.split_at_mut(from);
-        let result = factoring::rows(kept, &mut work[from..], first, n);
-        if result.is_ok() {
-            lower.copy_from_slice(&work[from..]);
-            matrix::add(p, corners, change_p);
-            matrix::add(a, corners, change_a);
+    let old = deck.card(index);
+    match new[0] {
+        E | F => {
+            let (old_form, new_form) = forms_of_change(&deck, index, &old, &new)?;
+            let change_p = change(new_form.capacity(), old_form.capacity());
+            let change_a = change(new_form.total(), old_form.total());
+            redo(
+                &deck,
+                [p, a, factor, work],
+                new_form.corners,
+                change_p,
+                change_a,
+            )?;
         }
-        work.fill(0);
-        result?;
+        G => {
+            // Of A alone, and no element is judged.
+            let more = edge::share(&deck, &new) - edge::share(&deck, &old);
+            redo(
+                &deck,
+                [p, a, factor, work],
+                edge::ends(&new),
+                [[0; 2]; 2],
+                edge::square(more),
+            )?;
+        }
+        _ => {}
     }
     table[6 * index..6 * index + 6].copy_from_slice(&new);
     Ok(())
+}
+
+/// P and A with a change at some nodes, and the factor redone from the least of them; or 7 or 8, and the work slice alone written.
+fn redo<const K: usize>(
+    deck: &Deck,
+    [p, a, factor, work]: [&mut [i64]; 4],
+    nodes: [usize; K],
+    change_p: [[i64; K]; K],
+    change_a: [[i64; K]; K],
+) -> Result<(), Refusal> {
+    let n = deck.counts.nodes;
+    // All places of the change are in the rows from the least node on.
+    let first = nodes.into_iter().fold(n, usize::min);
+    let from = matrix::start(first);
+    work[from..].copy_from_slice(&a[from..]);
+    matrix::add(work, nodes, change_a);
+    matrix::fix(work, first, n, &deck.fixed());
+    let (kept, lower) = factor.split_at_mut(from);
+    let result = factoring::rows(kept, &mut work[from..], first, n);
+    if result.is_ok() {
+        lower.copy_from_slice(&work[from..]);
+        matrix::add(p, nodes, change_p);
+        matrix::add(a, nodes, change_a);
+    }
+    work.fill(0);
+    result
 }
 
 /// 3, 13 and 4 of a new card; the index of the card that it replaces, D being 0.
@@ -194,9 +234,10 @@ fn judge_new(deck: &Deck, card: u32, new: &Card) -> Result<usize, Refusal> {
         .filter(|&index| index < deck.counts.rows())
         .ok_or(Refusal::at(REPLACEMENT, card))?;
     let old = deck.card(index);
-    // The letter and what must stay with it: E's corners, or the element or node named.
+    // The letter and what must stay with it: E's corners, G's ends, or the element or node named.
     let kept = match new[0] {
         E => 4,
+        G => 3,
         H | F | T => 2,
         _ => return Err(Refusal::at(REPLACEMENT, card)),
     };

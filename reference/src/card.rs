@@ -9,13 +9,16 @@ pub const M: u32 = b'M' as u32;
 pub const E: u32 = b'E' as u32;
 pub const H: u32 = b'H' as u32;
 pub const F: u32 = b'F' as u32;
+pub const G: u32 = b'G' as u32;
 pub const T: u32 = b'T' as u32;
 pub const Z: u32 = b'Z' as u32;
 
 pub const MAX_NODES: usize = 96;
 pub const MAX_MATERIALS: usize = 8;
 pub const MAX_ELEMENTS: usize = 160;
-pub const MAX_LOADS: usize = 416;
+pub const MAX_EDGES: usize = 160;
+/// H and F of every element, G of every edge, T of every node.
+pub const MAX_LOADS: usize = 2 * MAX_ELEMENTS + MAX_EDGES + MAX_NODES;
 /// D, every group full, and Z.
 pub const MAX_ROWS: usize = 2 + MAX_NODES + MAX_MATERIALS + MAX_ELEMENTS + MAX_LOADS;
 
@@ -25,12 +28,12 @@ pub const MAX_BYTES: usize = 65_536;
 /// The top of the temperature scale, in ticks of 1/65,536 K.
 pub const TOP: u32 = 33_554_432;
 
-/// How many fields a letter's card uses; None of a letter that is none of the eight.
+/// How many fields a letter's card uses; None of a letter that is none of the nine.
 pub fn fields_used(letter: u32) -> Option<usize> {
     match letter {
         N | H | T => Some(2),
         D | M | F => Some(3),
-        E | Z => Some(5),
+        E | G | Z => Some(5),
         _ => None,
     }
 }

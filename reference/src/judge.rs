@@ -61,7 +61,7 @@ fn within(value: u32, least: u32, most: u32) -> bool {
     least <= value && value <= most
 }
 
-/// A letter that is one of the eight, and nothing in its unused fields.
+/// A letter that is one of the nine, and nothing in its unused fields.
 pub fn well_formed(card: &Card) -> bool {
     match fields_used(card[0]) {
         Some(used) => card[1 + used..].iter().all(|&field| field == 0),
@@ -69,8 +69,8 @@ pub fn well_formed(card: &Card) -> bool {
     }
 }
 
-/// May this letter stand at this index, after that letter?
-fn allowed(counts: &Counts, index: usize, before: u32, letter: u32) -> bool {
+/// May this letter stand at this index, after that letter and so many G cards?
+fn allowed(counts: &Counts, index: usize, before: u32, edges: usize, letter: u32) -> bool {
     if index == 0 {
         letter == D
     } else if index < counts.first_material() {
@@ -82,7 +82,8 @@ fn allowed(counts: &Counts, index: usize, before: u32, letter: u32) -> bool {
     } else {
         match letter {
             H => before == E || before == H,
-            F => before != T,
+            F => before != G && before != T,
+            G => before != T && edges < MAX_EDGES,
             T => true,
             _ => false,
         }
@@ -106,30 +107,62 @@ pub fn in_range(counts: &Counts, card: &Card) -> bool {
         }
         H => within(a, 1, elements) && within(b, 1, 5_000_000),
         F => within(a, 1, elements) && within(b, 1, 100_000) && c <= TOP,
+        G => {
+            within(a, 1, nodes)
+                && within(b, a + 1, nodes)
+                && within(c, 1, 100_000)
+                && d <= TOP
+                && within(e, 1, 4_000)
+        }
         T => within(a, 1, nodes) && b <= TOP,
         _ => false,
     }
 }
 
-/// In H, F and T the first field rises strictly within the group.
+/// In H, F and T the first field rises strictly within the group, in G the two nodes as a pair.
 fn rising(before: &Card, card: &Card) -> bool {
-    !matches!(card[0], H | F | T) || before[0] != card[0] || before[1] < card[1]
+    before[0] != card[0]
+        || match card[0] {
+            H | F | T => before[1] < card[1],
+            G => before[1] < card[1] || (before[1] == card[1] && before[2] < card[2]),
+            _ => true,
+        }
 }
 
-/// One card before Z, after the card before it (anything, for D): 3, then 4.
-pub fn judge_card(
-    counts: &Counts,
+/// The cards before Z, one after another.
+pub struct Turn {
+    counts: Counts,
     index: usize,
-    before: &Card,
-    card: &Card,
-) -> Result<(), Refusal> {
-    if !well_formed(card) || !allowed(counts, index, before[0], card[0]) {
-        return Err(Refusal::at_index(FORM, index));
+    /// The card before it; of D, none.
+    before: Card,
+    /// The G cards so far.
+    edges: usize,
+}
+
+impl Turn {
+    pub fn first(counts: Counts) -> Turn {
+        Turn {
+            counts,
+            index: 0,
+            before: [0; 6],
+            edges: 0,
+        }
     }
-    if !in_range(counts, card) || !rising(before, card) {
-        return Err(Refusal::at_index(RANGE, index));
+
+    /// The next card: 3, then 4.
+    pub fn judge(&mut self, card: &Card) -> Result<(), Refusal> {
+        let (counts, index, before) = (&self.counts, self.index, &self.before);
+        if !well_formed(card) || !allowed(counts, index, before[0], self.edges, card[0]) {
+            return Err(Refusal::at_index(FORM, index));
+        }
+        if !in_range(counts, card) || !rising(before, card) {
+            return Err(Refusal::at_index(RANGE, index));
+        }
+        self.index += 1;
+        self.before = *card;
+        self.edges += usize::from(card[0] == G);
+        Ok(())
     }
-    Ok(())
 }
 
 /// A table that has been judged.
@@ -148,11 +181,9 @@ impl<'a> Deck<'a> {
         let counts = Counts::of(&card_of(table, last))
             .filter(|counts| counts.trailer() == last)
             .ok_or(Refusal::whole(TRAILER))?;
-        let mut before = [0; 6];
+        let mut turn = Turn::first(counts);
         for index in 0..last {
-            let card = card_of(table, index);
-            judge_card(&counts, index, &before, &card)?;
-            before = card;
+            turn.judge(&card_of(table, index))?;
         }
         Ok(Deck { table, counts })
     }
@@ -194,7 +225,7 @@ impl<'a> Deck<'a> {
         self.card(self.counts.first_element() + element)
     }
 
-    /// The H, F and T cards.
+    /// The H, F, G and T cards.
     pub fn loads(&self) -> impl Iterator<Item = Card> + 'a {
         let counts = self.counts;
         self.cards().skip(counts.first_load()).take(counts.loads)

@@ -1,5 +1,5 @@
-//! The board heat model of document 01 in plain Rust, written from that paper
-//! alone, to be compared with and measured against. No dependencies.
+//! The board heat model of document 01, with the requests of document 02 that have landed, in plain Rust, written
+//! from those papers alone, to be compared with and measured against. No dependencies.
 //!
 //! Every call takes slices of any length and numbers of any size and never
 //! panics. Only `main` uses the heap.
@@ -11,6 +11,7 @@
 pub mod answer;
 mod calls;
 mod card;
+mod edge;
 mod element;
 mod factor;
 mod judge;

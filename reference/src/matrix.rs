@@ -1,7 +1,6 @@
 //! Symmetric matrices as packed lower triangles: row i, from 0, has i + 1 numbers.
 
 use crate::card::MAX_NODES;
-use crate::element::Square;
 use crate::round::ONE;
 
 /// The greatest sum of magnitudes along a full row of a lent matrix.
@@ -21,11 +20,11 @@ fn rows(matrix: &[i64], n: usize) -> impl Iterator<Item = &[i64]> {
     (0..n).map(move |i| &matrix[start(i)..=start(i) + i])
 }
 
-/// Adds an element matrix at three corners that differ: six places.
-pub fn add(matrix: &mut [i64], corners: [usize; 3], square: Square) {
-    for i in 0..3 {
+/// Adds the matrix of an element or an edge at nodes that differ: six places of a triangle, three of an edge.
+pub fn add<const K: usize>(matrix: &mut [i64], nodes: [usize; K], square: [[i64; K]; K]) {
+    for i in 0..K {
         for j in 0..=i {
-            matrix[place(corners[i], corners[j])] += square[i][j];
+            matrix[place(nodes[i], nodes[j])] += square[i][j];
         }
     }
 }

@@ -1,7 +1,8 @@
 //! One implicit step.
 
 use crate::answer::*;
-use crate::card::{F, H, MAX_NODES, TOP};
+use crate::card::{F, G, H, MAX_NODES, TOP};
+use crate::edge;
 use crate::element::{corners, film_load, heat_load};
 use crate::factor::bound;
 use crate::judge::Deck;
@@ -36,14 +37,16 @@ impl<'a> Stepper<'a> {
         let fixed = deck.fixed();
 
         let mut constant = [0; MAX_NODES];
-        for card in deck.loads().filter(|card| card[0] == H || card[0] == F) {
-            let corners = corners(&deck.element(card[1] as usize - 1));
-            let share = match card[0] {
-                H => heat_load(card[2]),
-                _ => film_load(deck, corners, card[2], card[3]),
+        for card in deck.loads() {
+            let named = || corners(&deck.element(card[1] as usize - 1));
+            let mut load = |nodes: &[usize], share: i64| {
+                nodes.iter().for_each(|&node| constant[node] += share);
             };
-            for node in corners {
-                constant[node] += share;
+            match card[0] {
+                H => load(&named(), heat_load(card[2])),
+                F => load(&named(), film_load(deck, named(), card[2], card[3])),
+                G => load(&edge::ends(&card), edge::load(deck, &card)),
+                _ => {}
             }
         }
         // The columns cleared in A' go to the right side.

@@ -4,7 +4,7 @@ use crate::card::{fields_used, Card, CARD_BYTES};
 
 const COLUMNS: usize = 8;
 
-/// The card that the bytes spell; None if the letter is none of the eight, or
+/// The card that the bytes spell; None if the letter is none of the nine, or
 /// the columns or the newline are wrong. Ranges are the judge's.
 pub fn scan(bytes: &[u8]) -> Option<Card> {
     if bytes.len() != CARD_BYTES || bytes[CARD_BYTES - 1] != b'\n' {

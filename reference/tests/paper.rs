@@ -1,4 +1,4 @@
-//! The paper's checked numbers, P1 to P12, and its program.
+//! The paper's checked numbers, P1 to P12, those of the edge film, and the program.
 
 mod common;
 
@@ -106,6 +106,66 @@ fn p12_replacement() {
     assert_eq!(lent.replace(6, card(E, &[1, 2, 3, 1, 2_000])), Answer::Done);
     assert_eq!(lent.a[..6], [12_000, 4_000, 11_000, 4_000, 5_000, 11_000]);
     assert_eq!(lent.table[5 * 6 + 5], 2_000);
+}
+
+/// The base with one G card, and how A then differs from the base's.
+fn edged(fields: [u32; 5]) -> (Lent, Vec<i64>) {
+    let mut groups = Groups::base();
+    groups.edges.push(fields);
+    let lent = Lent::built(groups.table());
+    let more = (0..6).map(|i| lent.a[i] - base().a[i]).collect();
+    (lent, more)
+}
+
+#[test]
+fn an_edge_of_100() {
+    for (film, g) in [(599, 0), (600, 1), (1_799, 1), (1_800, 2)] {
+        let (lent, more) = edged([1, 2, film, 0, 1_000]);
+        assert_eq!(more, [2 * g, g, 2 * g, 0, 0, 0]);
+        assert_eq!(lent.p, base().p);
+    }
+}
+
+#[test]
+fn an_edge_aslant() {
+    let (lent, more) = edged([2, 3, 100_000, 0, 4_000]);
+    assert_eq!(more, [0, 0, 942, 0, 471, 942]);
+    assert_eq!(lent.p, base().p);
+}
+
+/// Ends that are as warm as the frame keep their temperature: 3g·ambient is what A's row takes.
+#[test]
+fn a_frame_as_warm_as_the_plate() {
+    let (mut lent, _) = edged([2, 3, 100_000, 19_660_800, 4_000]);
+    assert_eq!(lent.step(), Stepped::Settled(1));
+    assert_eq!(lent.temperatures[..3], [19_660_800; 3]);
+}
+
+/// Two nodes at one point are no refusal: g is 0, and the card does nothing.
+#[test]
+fn an_edge_of_no_length() {
+    let mut groups = Groups::base();
+    groups.nodes.push([0, 100]);
+    groups.fixed.push([4, 19_660_800]);
+    let without = Lent::built(groups.table());
+    groups.edges.push([3, 4, 100_000, 0, 4_000]);
+    let mut lent = Lent::built(groups.table());
+    assert_eq!(
+        [&lent.p, &lent.a, &lent.factor],
+        [&without.p, &without.a, &without.factor]
+    );
+    assert_eq!(lent.step(), Stepped::Settled(1));
+    assert_eq!(lent.temperatures[..4], [19_660_800; 4]);
+}
+
+#[test]
+fn an_edge_replaced() {
+    let (mut lent, _) = edged([1, 2, 600, 0, 1_000]);
+    let new = card(G, &[1, 2, 900, 5, 2_000]);
+    assert_eq!(lent.replace(7, new), Answer::Done);
+    let (fresh, more) = edged([1, 2, 900, 5, 2_000]);
+    assert_eq!(more, [4, 2, 4, 0, 0, 0]);
+    assert_eq!(lent, fresh);
 }
 
 /// What the stepping program prints.

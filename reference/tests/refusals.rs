@@ -25,15 +25,15 @@ fn table_refused(table: &[u32], number: u8, place: u32) {
     assert_eq!(lent.step(), step_refused(number, place));
     assert_eq!(lent.run(), Ran::Refused(Refusal { number, place }));
     assert_eq!(lent, before);
-    let mut bytes = vec![9; 30_000];
+    let mut bytes = vec![9; 40_000];
     assert_eq!(write(table, &mut bytes), refused(number, place));
-    assert_eq!(bytes, vec![9; 30_000]);
+    assert_eq!(bytes, vec![9; 40_000]);
 }
 
 fn bytes_refused(bytes: &[u8], number: u8, place: u32) {
-    let mut table = vec![9; 4_092];
+    let mut table = vec![9; 5_052];
     assert_eq!(read(bytes, &mut table), (refused(number, place), 0, 0));
-    assert_eq!(table, vec![9; 4_092]);
+    assert_eq!(table, vec![9; 5_052]);
 }
 
 /// A base with one of each load.
@@ -43,6 +43,7 @@ fn loaded() -> Groups {
     groups.elements.push([2, 4, 3, 1, 1_000]);
     groups.heats = vec![[1, 3], [2, 4]];
     groups.films = vec![[1, 500, 1_000_000], [2, 600, 2_000_000]];
+    groups.edges = vec![[1, 2, 700, 1_000_000, 900], [2, 4, 800, 2_000_000, 950]];
     groups.fixed = vec![[3, 5_000_000], [4, 6_000_000]];
     groups
 }
@@ -56,11 +57,11 @@ fn r1_length() {
     table_refused(&[], 1, 0);
     table_refused(&[0; 6], 1, 0);
     table_refused(&[0; 13], 1, 0);
-    table_refused(&[0; 4_091], 1, 0);
-    table_refused(&[0; 4_098], 1, 0);
+    table_refused(&[0; 5_051], 1, 0);
+    table_refused(&[0; 5_058], 1, 0);
     // The ends of the lengths allowed come to the trailer.
     table_refused(&[0; 12], 2, 0);
-    table_refused(&[0; 4_092], 2, 0);
+    table_refused(&[0; 5_052], 2, 0);
     bytes_refused(&[b' '; 42], 2, 0);
     bytes_refused(&[b' '; 65_536], 2, 0);
 }
@@ -101,7 +102,7 @@ fn r2_trailer() {
     many.nodes = vec![[0, 0]; 97];
     table_refused(&many.table(), 2, 0);
     let mut many = Groups::base();
-    many.heats = vec![[1, 1]; 417];
+    many.heats = vec![[1, 1]; 577];
     table_refused(&many.table(), 2, 0);
 
     let bytes = bytes_of(&table);
@@ -139,6 +140,7 @@ fn r3_form() {
             E,
             H,
             F,
+            G,
             T,
             Z,
             0,
@@ -150,7 +152,7 @@ fn r3_form() {
             // Another letter of the same width may still stand here, as an H after an E.
             let stands = matches!(
                 (before, letter),
-                (E | H, H) | (E | H | F, F) | (E | H | F | T, T)
+                (E | H, H) | (E | H | F, F) | (E | H | F | G, G) | (E | H | F | G | T, T)
             ) && row >= 8;
             if letter != table[6 * row] && !stands {
                 let mut table = table.clone();
@@ -160,7 +162,7 @@ fn r3_form() {
         }
         let used = match table[6 * row] {
             D | M | F => 3,
-            E => 5,
+            E | G => 5,
             _ => 2,
         };
         for field in used + 1..6 {
@@ -185,7 +187,7 @@ fn r3_form() {
             bytes_refused(&bytes, 3, row as u32 + 1);
         }
     }
-    // H after F, F after T.
+    // H after F, F after G, G after T.
     let mut groups = loaded();
     let swap = |groups: &Groups, i: usize, j: usize| {
         let mut table = groups.table();
@@ -197,6 +199,8 @@ fn r3_form() {
     table_refused(&swap(&groups, 9, 10), 3, 11);
     groups.films.pop();
     table_refused(&swap(&groups, 10, 11), 3, 12);
+    groups.edges.pop();
+    table_refused(&swap(&groups, 11, 12), 3, 13);
     // A leading zero and a number broken by a blank.
     let bytes = bytes_of(&loaded().table());
     for spelled in [
@@ -235,9 +239,16 @@ fn r4_range() {
         (10, 2, 1, 100_000),
         (10, 3, 0, TOP),
         (11, 1, 2, 2),
-        (12, 1, 1, 3),
-        (13, 1, 4, 4),
-        (13, 2, 0, TOP),
+        (12, 1, 1, 1),
+        (12, 2, 2, 4),
+        (13, 1, 1, 3),
+        (13, 2, 3, 4),
+        (13, 3, 1, 100_000),
+        (13, 4, 0, TOP),
+        (13, 5, 1, 4_000),
+        (14, 1, 1, 3),
+        (15, 1, 4, 4),
+        (15, 2, 0, TOP),
     ];
     for (row, field, least, most) in ranges {
         for (value, good) in [
@@ -258,13 +269,13 @@ fn r4_range() {
                 table_refused(
                     &table,
                     4,
-                    row as u32 + 1 + u32::from((row, field) == (12, 1) && value == 4),
+                    row as u32 + 1 + u32::from((row, field) == (14, 1) && value == 4),
                 );
                 if value <= 99_999_999 {
                     let mut bytes = bytes_of(&loaded().table());
                     bytes[42 * row + 8 * field - 7..=42 * row + 8 * field]
                         .copy_from_slice(format!("{value:8}").as_bytes());
-                    let place = row as u32 + 1 + u32::from((row, field) == (12, 1) && value == 4);
+                    let place = row as u32 + 1 + u32::from((row, field) == (14, 1) && value == 4);
                     bytes_refused(&bytes, 4, place);
                 }
             }
@@ -280,6 +291,82 @@ fn r4_range() {
     // Rising starts again in the next group: loaded() has element 1 in H and in F.
     assert_eq!(table[6 * 9 + 1], 2);
     assert_eq!(table[6 * 10 + 1], 1);
+}
+
+/// A deck of twenty nodes in a line, some pairs of them edges.
+fn edged(pairs: &[(u32, u32)]) -> Groups {
+    let mut groups = Groups::base();
+    groups.nodes.extend((1..=17).map(|x| [x, 0]));
+    groups.edges = pairs
+        .iter()
+        .map(|&(low, high)| [low, high, 9, 9, 9])
+        .collect();
+    groups
+}
+
+#[test]
+fn pairs_of_nodes() {
+    let first = 24;
+    for (pairs, wrong) in [
+        (vec![(1, 2)], None),
+        (vec![(1, 1)], Some(0)),
+        (vec![(2, 1)], Some(0)),
+        (vec![(20, 20)], Some(0)),
+        (vec![(20, 21)], Some(0)),
+        (vec![(0, 1)], Some(0)),
+        (vec![(19, 20)], None),
+        (vec![(1, 2), (1, 3), (1, 20)], None),
+        (vec![(1, 3), (1, 2)], Some(1)),
+        (vec![(1, 3), (1, 3)], Some(1)),
+        (vec![(1, 20), (2, 3)], None),
+        (vec![(2, 3), (1, 20)], Some(1)),
+        (vec![(1, 2), (2, 3), (2, 3)], Some(2)),
+    ] {
+        let table = edged(&pairs).table();
+        match wrong {
+            None => assert_eq!(bytes_of(&table).len(), 7 * table.len()),
+            Some(at) => table_refused(&table, 4, first + at),
+        }
+    }
+}
+
+#[test]
+fn the_161st_edge() {
+    let pairs: Vec<(u32, u32)> = (1..20)
+        .flat_map(|low| (low + 1..=20).map(move |high| (low, high)))
+        .collect();
+    let mut groups = edged(&pairs[..160]);
+    groups.fixed.push([1, 9]);
+    let table = groups.table();
+    assert_eq!(bytes_of(&table).len(), 7 * table.len());
+    // Its letter is what its place doesn't allow, whatever its fields are.
+    for (low, high, film) in [(pairs[160].0, pairs[160].1, 9), (1, 1, 9), (20, 21, 0)] {
+        groups.edges.push([low, high, film, 9, 9]);
+        table_refused(&groups.table(), 3, 24 + 160);
+        groups.edges.pop();
+    }
+    // A card before it comes first.
+    let mut two = groups.clone();
+    two.edges.extend([[1, 1, 9, 9, 9]; 2]);
+    two.edges[159][2] = 0;
+    table_refused(&two.table(), 4, 24 + 159);
+}
+
+#[test]
+fn the_largest_deck() {
+    let groups = Groups::largest(&mut Chance::seeded(14));
+    let table = groups.table();
+    assert_eq!(table.len(), 5_052);
+    let mut lent = Lent::built(table.clone());
+    assert!(matches!(lent.step(), Stepped::Settled(_)));
+    let bytes = bytes_of(&table);
+    let mut again = vec![0; 5_052];
+    assert_eq!(read(&bytes, &mut again), (Answer::Done, 0, 35_364));
+    assert_eq!(again, table);
+    // One row more, whatever it is, has no trailer that may say so.
+    let mut longer = groups.clone();
+    longer.fixed.push([97, 9]);
+    table_refused(&longer.table(), 1, 0);
 }
 
 #[test]
@@ -408,7 +495,8 @@ fn r9_short() {
         (7, card(E, &[1, 2, 3, 1, 2_000])),
         (9, card(H, &[1, 9])),
         (11, card(F, &[1, 9, 9])),
-        (13, card(T, &[3, 9])),
+        (13, card(G, &[1, 2, 9, 9, 9])),
+        (15, card(T, &[3, 9])),
     ];
     for slice in 0..5 {
         // Just long enough.
@@ -466,7 +554,8 @@ fn r10_lent() {
     let both = |before: &Lent, good: bool| {
         for (number, new) in [
             (9, card(H, &[1, 9])),
-            (13, card(T, &[3, 9])),
+            (15, card(T, &[3, 9])),
+            (13, card(G, &[1, 2, 700, 1_000_000, 900])),
             (7, card(E, &[1, 2, 3, 1, 1_000])),
         ] {
             let mut lent = before.clone();
@@ -639,25 +728,34 @@ fn r13_replacement() {
         assert_eq!(lent.replace(number, new), answer, "{number} {new:?}");
         assert!(answer == Answer::Done || lent == own);
     };
-    // 1 D, 2-5 N, 6 M, 7-8 E, 9-10 H, 11-12 F, 13-14 T, 15 Z.
+    // 1 D, 2-5 N, 6 M, 7-8 E, 9-10 H, 11-12 F, 13-14 G, 15-16 T, 17 Z.
     check(9, card(H, &[1, 9]), Answer::Done);
-    for number in [0, 1, 2, 6, 7, 10, 11, 13, 15, 16, u32::MAX] {
+    for number in [0, 1, 2, 6, 7, 10, 11, 13, 15, 17, 18, u32::MAX] {
         check(number, card(H, &[1, 9]), refused(13, number));
+    }
+    let edge = card(G, &[1, 2, 9, 9, 9]);
+    check(13, edge, Answer::Done);
+    for number in [0, 1, 2, 6, 7, 9, 11, 14, 15, 17, 18, u32::MAX] {
+        check(number, edge, refused(13, number));
     }
     check(9, card(H, &[2, 9]), refused(13, 9));
     check(11, card(F, &[2, 9, 9]), refused(13, 11));
-    check(13, card(T, &[4, 9]), refused(13, 13));
+    check(13, card(G, &[1, 3, 9, 9, 9]), refused(13, 13));
+    check(13, card(G, &[2, 4, 9, 9, 9]), refused(13, 13));
+    check(13, card(G, &[2, 1, 9, 9, 9]), refused(13, 13));
+    check(13, card(G, &[2, 2, 9, 9, 9]), refused(13, 13));
+    check(15, card(T, &[4, 9]), refused(13, 15));
     check(7, card(E, &[2, 3, 1, 1, 1_000]), refused(13, 7));
     check(7, card(E, &[1, 3, 2, 1, 1_000]), refused(13, 7));
     // The very card itself, of the letters that may not be replaced.
-    for number in [1, 2, 6, 15] {
+    for number in [1, 2, 6, 17] {
         let at = 6 * (number as usize - 1);
         let mut same = [0; 6];
         same.copy_from_slice(&own.table[at..at + 6]);
         check(number, same, refused(13, number));
     }
     // 3 comes first, wherever it is put.
-    for number in [0, 9, 15, u32::MAX] {
+    for number in [0, 9, 17, u32::MAX] {
         check(number, [0; 6], refused(3, number));
         check(number, [u32::MAX; 6], refused(3, number));
         check(number, [H, 1, 9, 0, 0, 1], refused(3, number));
@@ -669,7 +767,12 @@ fn r13_replacement() {
     check(9, card(H, &[1, 5_000_001]), refused(4, 9));
     check(11, card(F, &[1, 0, 9]), refused(4, 11));
     check(11, card(F, &[1, 1, TOP + 1]), refused(4, 11));
-    check(13, card(T, &[3, TOP + 1]), refused(4, 13));
+    check(13, card(G, &[1, 2, 0, 9, 9]), refused(4, 13));
+    check(13, card(G, &[1, 2, 100_001, 9, 9]), refused(4, 13));
+    check(13, card(G, &[1, 2, 9, TOP + 1, 9]), refused(4, 13));
+    check(13, card(G, &[1, 2, 9, 9, 0]), refused(4, 13));
+    check(13, card(G, &[1, 2, 9, 9, 4_001]), refused(4, 13));
+    check(15, card(T, &[3, TOP + 1]), refused(4, 15));
     check(7, card(E, &[1, 2, 3, 2, 1_000]), refused(4, 7));
     check(7, card(E, &[1, 2, 3, 1, 0]), refused(4, 7));
     // 5 and 6 of the element that an F names, which no build has judged.
@@ -694,6 +797,13 @@ fn r13_replacement() {
     lent.a[..10].fill(0);
     let answer = lent.replace(8, card(E, &[2, 4, 3, 1, 1]));
     assert_ne!(answer, refused(6, 2));
+    // A G judges no element, flat or stiff.
+    for groups in [&flat, &stiff] {
+        lent = own.clone();
+        lent.table = groups.table();
+        assert_eq!(lent.replace(13, edge), Answer::Done);
+        assert_eq!(lent.p, own.p);
+    }
     // H and T write nothing but the card.
     let mut lent = own.clone();
     lent.work.fill(MARK);
@@ -701,8 +811,8 @@ fn r13_replacement() {
     after.table[6 * 8 + 2] = 9;
     assert_eq!(lent.replace(9, card(H, &[1, 9])), Answer::Done);
     assert_eq!(lent, after);
-    after.table[6 * 12 + 2] = 9;
-    assert_eq!(lent.replace(13, card(T, &[3, 9])), Answer::Done);
+    after.table[6 * 14 + 2] = 9;
+    assert_eq!(lent.replace(15, card(T, &[3, 9])), Answer::Done);
     assert_eq!(lent, after);
 }
 

@@ -20,6 +20,11 @@ fn another(chance: &mut Chance, table: &[u32], index: usize) -> [u32; 6] {
             new[2] = chance.within(1, 100_000);
             new[3] = chance.within(0, TOP);
         }
+        G => {
+            new[3] = chance.within(1, 100_000);
+            new[4] = chance.within(0, TOP);
+            new[5] = chance.within(1, 4_000);
+        }
         _ => new[2] = chance.within(0, TOP),
     }
     new
@@ -27,7 +32,7 @@ fn another(chance: &mut Chance, table: &[u32], index: usize) -> [u32; 6] {
 
 fn many(seed: u64, decks: usize, replacements: usize, widest: u32, tallest: u32) {
     let mut chance = Chance::seeded(seed);
-    let (mut done, mut undone) = (0, 0);
+    let (mut done, mut undone, mut edges) = (0, 0, 0);
     for _ in 0..decks {
         let (columns, rows) = (chance.within(2, widest), chance.within(2, tallest));
         let groups = Groups::sheet(&mut chance, columns, rows);
@@ -49,6 +54,7 @@ fn many(seed: u64, decks: usize, replacements: usize, widest: u32, tallest: u32)
                 assert_eq!(built, Answer::Done);
                 assert_eq!(lent, fresh);
                 done += 1;
+                edges += usize::from(new[0] == G);
             } else {
                 // The rest of the deck builds, so the two meet the same refusal.
                 assert_eq!(answer, built);
@@ -58,6 +64,7 @@ fn many(seed: u64, decks: usize, replacements: usize, widest: u32, tallest: u32)
         }
     }
     assert!(done >= decks * replacements / 2, "{done} {undone}");
+    assert!(edges > 0);
 }
 
 #[test]

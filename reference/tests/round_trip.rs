@@ -52,9 +52,9 @@ fn read_bytes_are_written_again() {
             let mut bytes = bytes.clone();
             for _ in 0..chance.within(1, 2) {
                 let at = chance.index(bytes.len());
-                bytes[at] = chance.pick(b"0123456789 \nDNMEHFTZ\0\xff");
+                bytes[at] = chance.pick(b"0123456789 \nDNMEHFGTZ\0\xff");
             }
-            let mut table = vec![9; 4_092];
+            let mut table = vec![9; 5_052];
             let (answer, start, end) = read(&bytes, &mut table);
             match answer {
                 Answer::Done => {
@@ -64,7 +64,7 @@ fn read_bytes_are_written_again() {
                 }
                 Answer::Refused(refusal) => {
                     assert_eq!((start, end), (0, 0));
-                    assert_eq!(table, vec![9; 4_092]);
+                    assert_eq!(table, vec![9; 5_052]);
                     refusals[refusal.number as usize] += 1;
                 }
             }

@@ -78,6 +78,19 @@ impl Words<'_> {
         rounded(f[1] * self.s(e), 9_600_000)
     }
 
+    /// g of a G card: the largest whole number whose square test holds.
+    fn g(&self, edge: &[i128]) -> i128 {
+        let nodes = self.cards(N);
+        let (from, to) = (&nodes[edge[0] as usize - 1], &nodes[edge[1] as usize - 1]);
+        let square = (from[0] - to[0]).pow(2) + (from[1] - to[1]).pow(2);
+        let most = (edge[2] * edge[4]).pow(2) * square;
+        let mut g = 0;
+        while ((2 * (g + 1) - 1) * 60_000_000_i128).pow(2) <= most {
+            g += 1;
+        }
+        g
+    }
+
     fn fixed(&self, node: usize) -> Option<i128> {
         self.cards(T)
             .iter()
@@ -126,6 +139,14 @@ impl Words<'_> {
                 }
             }
         }
+        for edge in self.cards(G) {
+            for i in 0..2 {
+                for j in 0..2 {
+                    a[edge[i] as usize - 1][edge[j] as usize - 1] +=
+                        self.g(&edge) * if i == j { 2 } else { 1 };
+                }
+            }
+        }
         let factor = factor(&self.fix(&a), 0, vec![vec![0; n]; n])?;
         Ok([p, a, factor])
     }
@@ -145,6 +166,22 @@ impl Words<'_> {
         let mut table = self.0.to_vec();
         table[6 * index..6 * index + 6].copy_from_slice(new);
         let after = Words(&table);
+        if new[0] == G {
+            let [old, new] = [self, &after].map(|words| {
+                words.0[6 * index + 1..6 * index + 6]
+                    .iter()
+                    .map(|&field| i128::from(field))
+                    .collect::<Vec<i128>>()
+            });
+            let more = after.g(&new) - self.g(&old);
+            let (low, high) = (new[0] as usize - 1, new[1] as usize - 1);
+            a[low][low] += 2 * more;
+            a[high][high] += 2 * more;
+            a[low][high] += more;
+            a[high][low] += more;
+            let factor = factor(&after.fix(&a), low, old_factor)?;
+            return Ok([p, a, factor]);
+        }
         let first_element = 1 + self.nodes() + self.cards(M).len();
         let element = if new[0] == E {
             index - first_element
@@ -202,6 +239,11 @@ impl Words<'_> {
         for f in self.cards(F) {
             for &node in &elements[f[0] as usize - 1][..3] {
                 right[node as usize - 1] += 4 * self.v(&f) * f[2];
+            }
+        }
+        for edge in self.cards(G) {
+            for &node in &edge[..2] {
+                right[node as usize - 1] += 3 * self.g(&edge) * edge[3];
             }
         }
         for i in 0..n {
@@ -431,12 +473,13 @@ fn replacements() {
                 new[5] = chance.within(1, 4_000);
             }
             F => new[2] = chance.within(1, 100_000),
+            G => (new[3], new[5]) = (chance.within(1, 100_000), chance.within(1, 4_000)),
             _ => new[2] = chance.within(1, 1_000_000),
         }
         let mut lent = before.clone();
         let answer = lent.replace(index as u32 + 1, new);
         let mut expected = before.clone();
-        let redone = new[0] == E || new[0] == F;
+        let redone = [E, F, G].contains(&new[0]);
         match words.replace(squares(&before), index, &new) {
             Ok(squares) => {
                 assert_eq!(answer, Answer::Done);

@@ -1,7 +1,7 @@
 /* stack DECK: how much stack each call takes, by painting it.
  *
  * Each call runs on a stack of its own that was painted before; what is no longer painted after it was used. An empty call
- * says how much of that is not the call's. The deck has E, H, F and T cards and builds.
+ * says how much of that is not the call's. The deck has E, H, F, G and T cards and builds.
  */
 #include <gormulast.h>
 #include <stdio.h>
@@ -90,7 +90,7 @@ static void measure(const char *name, void (*call)(void), size_t most)
 /* Replaces the last card of each letter. */
 static void measure_replaces(void)
 {
-	static const char letters[] = "EHFT";
+	static const char letters[] = "EHFGT";
 	char name[] = "replace ?";
 	const char *letter;
 

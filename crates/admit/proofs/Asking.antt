@@ -14,9 +14,9 @@ use Rattle.whole.proofs.Sums.{any-ext, any-each, any-none}
 use Rattle.whole.proofs.Packed.{tri-below, tri-le, length-lower}
 use Rattle.whole.proofs.Tests.{nor-told}
 use Rattle.paper.specs.Refusals.{Outcome, refused, done, then, andThen, after, answerOf}
-use Rattle.paper.specs.Kinds.{about, kindOf, kindAt}
+use Rattle.paper.specs.Kinds.{about, aboutOf, edge, kindOf, kindAt}
 use Rattle.paper.specs.Cards.{columnsOf, inRange, orderOf, rowAt, rows, nodes, elements, countsAt, put}
-use Rattle.paper.specs.Judge.{judged, newJudged, answers, clean}
+use Rattle.paper.specs.Judge.{judged, newJudged, nameAt, answers, clean}
 use Rattle.paper.specs.Parts.{partOf, partFor, least}
 use Rattle.paper.specs.Matrices.{addsP, addsA, fixed, cleared}
 use Rattle.paper.specs.Factor.{small, rowsFrom}
@@ -62,6 +62,10 @@ lent-plain : (n : ℕ) (s : Slices) (b : Bool) → Plain (lentJudged n s b)
 unfolding lentJudged
 lent-plain n s b = plain-cond (enough n s && b) _ _ (plain-cond (foreign n (opened n s)) _ _ refl tt) refl
 
+form-of-plain : (t : List ℕ) (row : ℕ) → Plain (formOf t row)
+unfolding formOf
+form-of-plain t row = plain-cond (edge (aboutOf (rowAt t row))) Done _ tt (element-plain t (nameAt (countsAt t) (rowAt t) row))
+
 -- in turn, as code tells them
 module _ (t : List ℕ) (s : Slices) (w : List ℤ) (card : ℕ) (new : List ℕ) where
   form : Answer
@@ -82,7 +86,7 @@ module _ (t : List ℕ) (s : Slices) (w : List ℤ) (card : ℕ) (new : List ℕ
       plain-and (judged t) _ (judged-plain t)
       (plain-and (newJudged t card new) _ (new-plain t card new)
       (plain-and (lentJudged (nodes t) s (roomy (nodes t) w)) _ (lent-plain (nodes t) s (roomy (nodes t) w))
-      (plain-cond (stirs t (card - 1)) _ Done (element-plain (put t (card - 1) new) _) tt)))
+      (plain-cond (stirs t (card - 1)) _ Done (form-of-plain (put t (card - 1) new) (card - 1)) tt)))
 
 -- ---- what they let pass
 

@@ -1,23 +1,23 @@
 -- A card's own tests, step by step as the code makes them, and what the judge says of it.
 use mathlib.Core.Path.{_≡_, sym, ap, _∙_}
-use mathlib.Core.Bool.{true, false}
+use mathlib.Core.Bool.{Bool, true, false}
 use mathlib.Core.List.{List}
-use Prim.Native.Nat.{ℕ, suc, _+_, _≤_, _<_}
+use Prim.Native.Nat.{ℕ, suc, _+_, _-_, _*_, _≤_, _<_}
 use native.Mathlib.Numerals.{add-one}
 use native.Mathlib.Omega.{arith}
 use borrow.Author.Tests.{eq-eqb, ne-eqb, lt-ltb, le-ltb, le-leb, lt-leb}
-use lib.Dec.{leb, ltb}
+use lib.Dec.{eqb, leb, ltb}
 use lib.ListN.{getD}
-use Rattle.paper.specs.Kinds.{about, aboutOf, letterOf, kindAt}
-use Rattle.paper.specs.Cards.{before, columnsOf, inRange, rank, countsOf}
-use Rattle.paper.specs.Judge.{stands, rises, clean, formed, ranged, judgeCard, trailer}
+use Rattle.paper.specs.Kinds.{about, aboutOf, letterOf, kindAt, edge}
+use Rattle.paper.specs.Cards.{before, columnsOf, inRange, ranked, countsOf}
+use Rattle.paper.specs.Judge.{stands, rises, ordered, full, clean, formed, judgeOne, trailer}
 use Rattle.paper.specs.declared.Answer.the-variants.{Done, Refused}
 use Rattle.paper.specs.declared.Refusal.the-variants.{Form, Range}
 use Rattle.paper.specs.declared.About.{About}
 use Rattle.paper.specs.declared.Counts.{Counts}
 use Rattle.paper.specs.declared.Kind.the-variants.{Z}
 use Rattle.laws.proofs.Letters.{kind-of}
-use Rattle.laws.proofs.Judging.{formed-on, formed-not, ranged-on, ranged-not, form-refused, range-refused, card-done}
+use Rattle.laws.proofs.Judging.{formed-on, formed-not, formed-crowded, ranged-on, ranged-not, ranged-unordered, form-refused, range-refused, card-done}
 
 -- where it stands
 module _ (z : Counts) (i p : ℕ) (a : About) where
@@ -52,35 +52,67 @@ module _ (p key : ℕ) (a : About) (card : List ℕ) where
     unfolding rises
     rises-first m = simp (ne-eqb (a .keys) 0 n, ne-eqb p (a .order) m)
 
-    pub rises-next : p ≡ a .order → ltb key (rank card) ≡ rises p key a card
+    pub rises-next : p ≡ a .order → ltb key (ranked a card) ≡ rises p key a card
     unfolding rises
     rises-next e = simp (ne-eqb (a .keys) 0 n, eq-eqb p (a .order) e)
 
--- what the judge says of it
-module _ (z : Counts) (card : List ℕ) (i p key : ℕ) where
-  abbrev row : ℕ → List ℕ
-  row j = card
+-- its rank
+pub ranked-edge : (a : About) (card : List ℕ) → edge a ≡ true → 128 * getD card 1 0 + getD card 2 0 ≡ ranked a card
+unfolding ranked
+ranked-edge a card e = simp e
 
-  pub misplaced : stands z i p (aboutOf card) ≡ false → Refused (Form (i + 1)) ≡ judgeCard z row i p key
-  misplaced h = form-refused z row i p key (sym (formed-not z row i p key h))
+pub ranked-key : (a : About) (card : List ℕ) → edge a ≡ false → getD card 1 0 ≡ ranked a card
+unfolding ranked
+ranked-key a card e = simp e
+
+-- an edge's nodes
+pub ordered-free : (a : About) (card : List ℕ) → edge a ≡ false → true ≡ ordered a card
+unfolding ordered
+ordered-free a card e = simp e
+
+pub ordered-edge : (a : About) (card : List ℕ) → edge a ≡ true → ltb (getD card 1 0) (getD card 2 0) ≡ ordered a card
+unfolding ordered
+ordered-edge a card e = simp e
+
+-- one too many of a kind
+pub full-early : (row : ℕ → List ℕ) (i : ℕ) (a : About) → i < a .most → false ≡ full row i a
+unfolding full
+full-early row i a h = simp (lt-leb (a .most) i h)
+
+pub full-late : (row : ℕ → List ℕ) (i : ℕ) (a : About) → a .most ≤ i → eqb (getD (row (i - a .most)) 0 0) (a .letter) ≡ full row i a
+unfolding full
+full-late row i a h = simp (le-leb (a .most) i h)
+
+-- what the judge says of it
+module _ (z : Counts) (card : List ℕ) (i p key : ℕ) (crowded : Bool) where
+  pub misplaced : stands z i p (aboutOf card) ≡ false → Refused (Form (i + 1)) ≡ judgeOne z i p key crowded card
+  misplaced h = form-refused z i p key crowded card (sym (formed-not z i p key crowded card h))
 
   module _ (h : stands z i p (aboutOf card) ≡ true) where
-    pub unclean : clean card ≡ false → Refused (Form (i + 1)) ≡ judgeCard z row i p key
-    unclean q = form-refused z row i p key (sym (formed-on z row i p key h) ∙ q)
+    pub one-too-many : crowded ≡ true → Refused (Form (i + 1)) ≡ judgeOne z i p key crowded card
+    one-too-many k = form-refused z i p key crowded card (sym (formed-crowded z i p key crowded card h k))
 
-    module _ (q : clean card ≡ true) where
-      made : formed z row i p ≡ true
-      made = sym (formed-on z row i p key h) ∙ q
+    module _ (k : crowded ≡ false) where
+      pub unclean : clean card ≡ false → Refused (Form (i + 1)) ≡ judgeOne z i p key crowded card
+      unclean q = form-refused z i p key crowded card (sym (formed-on z i p key crowded card h k) ∙ q)
 
-      pub out-of-range : inRange (columnsOf z card) card 5 0 ≡ false → Refused (Range (i + 1)) ≡ judgeCard z row i p key
-      out-of-range g = range-refused z row i p key made (sym (ranged-not z row i p key g))
+      module _ (q : clean card ≡ true) where
+        made : formed z i p crowded card ≡ true
+        made = sym (formed-on z i p key crowded card h k) ∙ q
 
-      module _ (g : inRange (columnsOf z card) card 5 0 ≡ true) where
-        pub unrisen : rises p key (aboutOf card) card ≡ false → Refused (Range (i + 1)) ≡ judgeCard z row i p key
-        unrisen r = range-refused z row i p key made (sym (ranged-on z row i p key g) ∙ r)
+        pub out-of-range : inRange (columnsOf z card) card 5 0 ≡ false → Refused (Range (i + 1)) ≡ judgeOne z i p key crowded card
+        out-of-range g = range-refused z i p key crowded card made (sym (ranged-not z i p key crowded card g))
 
-        pub in-order : rises p key (aboutOf card) card ≡ true → Done ≡ judgeCard z row i p key
-        in-order r = card-done z row i p key made (sym (ranged-on z row i p key g) ∙ r)
+        module _ (g : inRange (columnsOf z card) card 5 0 ≡ true) where
+          pub unordered : ordered (aboutOf card) card ≡ false → Refused (Range (i + 1)) ≡ judgeOne z i p key crowded card
+          unordered o = range-refused z i p key crowded card made (sym (ranged-unordered z i p key crowded card g o))
+
+          module _ (o : ordered (aboutOf card) card ≡ true) where
+            pub unrisen : rises p key (aboutOf card) card ≡ false → Refused (Range (i + 1)) ≡ judgeOne z i p key crowded card
+            unrisen r = range-refused z i p key crowded card made (sym (ranged-on z i p key crowded card g o) ∙ r)
+
+            pub in-order : rises p key (aboutOf card) card ≡ true → Done ≡ judgeOne z i p key crowded card
+            in-order r = card-done z i p key crowded card made (sym (ranged-on z i p key crowded card g o) ∙ r)
 
 -- a Z card
 module _ (card : List ℕ) where

@@ -1,15 +1,16 @@
 -- A row of a table, as the code lends it and reads it.
 use mathlib.Core.Path.{_≡_, sym, ap, _∙_}
+use mathlib.Core.Bool.{Bool}
 use mathlib.Core.List.{List}
 use Prim.Native.Nat.{ℕ, _+_, _-_, _*_, _<_}
 use native.Mathlib.Omega.{arith}
 use lib.ListN.{getD, take, drop}
-use Rattle.paper.specs.Kinds.{kindOf, kindAt}
+use Rattle.paper.specs.Kinds.{kindOf, kindAt, aboutOf}
 use Rattle.paper.specs.Cards.{rowAt, field}
-use Rattle.paper.specs.Judge.{judgeCard}
+use Rattle.paper.specs.Judge.{full, judgeOne, judgeCard}
+use Rattle.paper.specs.declared.About.{About}
 use Rattle.paper.specs.declared.Counts.{Counts}
 use Rattle.laws.proofs.Tables.{row-field}
-use Rattle.laws.proofs.Judging.{card-same}
 
 -- the part that the code lends is row i
 pub lent : (t : List ℕ) (i : ℕ) → take (i * 6 + 6 - i * 6) (drop (i * 6) t) ≡ rowAt t i
@@ -22,12 +23,16 @@ pub at-row : (t : List ℕ) (i k : ℕ) → k < 6 → getD t (i * 6 + k) 0 ≡ g
 unfolding field
 at-row t i k l = sym (row-field t i k l)
 
-pub letter-at : (t : List ℕ) (i : ℕ) → kindOf (getD t (i * 6) 0) ≡ kindAt (rowAt t i)
-letter-at t i =
+pub first-at : (t : List ℕ) (i : ℕ) → getD t (i * 6) 0 ≡ getD (rowAt t i) 0 0
+first-at t i =
     let e : i * 6 ≡ i * 6 + 0 = omega arith in
-    ap (λ (k : ℕ). kindOf (getD t k 0)) e ∙ ap kindOf (at-row t i 0 (omega arith))
+    ap (λ (k : ℕ). getD t k 0) e ∙ at-row t i 0 (omega arith)
+
+pub letter-at : (t : List ℕ) (i : ℕ) → kindOf (getD t (i * 6) 0) ≡ kindAt (rowAt t i)
+letter-at t i = ap kindOf (first-at t i)
 
 -- the judge of the part is the judge of the row
-pub lent-card : (z : Counts) (t : List ℕ) (i p key : ℕ)
-    → judgeCard z (λ (j : ℕ). take (i * 6 + 6 - i * 6) (drop (i * 6) t)) i p key ≡ judgeCard z (rowAt t) i p key
-lent-card z t i p key = card-same z (λ (j : ℕ). take (i * 6 + 6 - i * 6) (drop (i * 6) t)) (rowAt t) i p key (lent t i)
+pub lent-card : (z : Counts) (t : List ℕ) (i p key : ℕ) {crowded : Bool} {a : About} → crowded ≡ full (rowAt t) i a → a ≡ aboutOf (rowAt t i)
+    → judgeOne z i p key crowded (take (i * 6 + 6 - i * 6) (drop (i * 6) t)) ≡ judgeCard z (rowAt t) i p key
+lent-card z t i p key f e =
+    (λ j. judgeOne z i p key (f j) (lent t i j)) ∙ ap (λ (a : About). judgeOne z i p key (full (rowAt t) i a) (rowAt t i)) e

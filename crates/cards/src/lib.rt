@@ -8,12 +8,12 @@ ghost use mathlib.Core.Path.{_≡_};
 ghost use mathlib.Core.List.{List};
 ghost use Prim.Native.Nat.{ℕ, _+_, _-_, _*_, _/_, _≤_, _<_};
 ghost use lib.ListN.{length, getD};
-ghost use Rattle.paper.specs.Kinds.{kindAt, aboutOf};
+ghost use Rattle.paper.specs.Kinds.{kindAt, aboutOf, edge};
 ghost use Rattle.paper.specs.Cards as paper;
-ghost use Rattle.paper.specs.Judge.{stands, rises, judgeCard, judgeFrom, trailer, judgeRows, judged, answers, newJudged};
+ghost use Rattle.paper.specs.Judge.{stands, rises, ordered, full, judgeOne, judgeFrom, trailer, judgeRows, judged, answers, newJudged};
 
 // The rows of the longest table.
-pub const MOST_ROWS: usize = 682;
+pub const MOST_ROWS: usize = 842;
 
 // ---- a card
 
@@ -31,15 +31,25 @@ fn stands_at(counts: Counts, i: usize, group: u32, a: About) -> bool
     group <= a.order
 }
 
-// What rises within a group.
-pub fn rank(card: &[u32]) -> u32
-    requires { ⌜ length (now card) ≡ 6 ⌝ }
-    ensures { λ r. ⌜ r ≡ paper.rank (now (card .entry)) ⌝ }
+// Whether its kind has two nodes for keys.
+fn is_edge(a: About) -> bool
+    ensures { λ r. ⌜ r ≡ edge a ⌝ }
 {
-    card[1]
+    a.keys == 2
 }
 
-fn rises_from(group: u32, key: u32, a: About, card: &[u32]) -> bool
+// What rises within a group.
+pub fn rank(a: About, card: &[u32]) -> u64
+    requires { ⌜ length (now card) ≡ 6 ⌝ }
+    ensures { λ r. ⌜ r ≡ paper.ranked a (now (card .entry)) ⌝ }
+{
+    if is_edge(a) {
+        return 128 * card[1] as u64 + card[2] as u64;
+    }
+    card[1] as u64
+}
+
+fn rises_from(group: u32, key: u64, a: About, card: &[u32]) -> bool
     requires { ⌜ length (now card) ≡ 6 ⌝ }
     ensures { λ r. ⌜ r ≡ rises group key a (now (card .entry)) ⌝ }
 {
@@ -49,18 +59,52 @@ fn rises_from(group: u32, key: u32, a: About, card: &[u32]) -> bool
     if group != a.order {
         return true;
     }
-    key < rank(card)
+    key < rank(a, card)
+}
+
+// Whether an edge names its lower node first.
+fn is_ordered(a: About, card: &[u32]) -> bool
+    requires { ⌜ length (now card) ≡ 6 ⌝ }
+    ensures { λ r. ⌜ r ≡ ordered a (now (card .entry)) ⌝ }
+{
+    if !is_edge(a) {
+        return true;
+    }
+    card[1] < card[2]
+}
+
+// Whether as many cards of a kind as there may be stand before row i.
+fn is_full(t: &[u32], i: usize, a: About) -> bool
+    requires { ⌜ i * 6 + 6 ≤ length (now t) ⌝ }
+    ensures { λ r. ⌜ r ≡ full (paper.rowAt (now (t .entry))) i a ⌝ }
+{
+    if i < a.most {
+        return false;
+    }
+    t[(i - a.most) * 6] == a.letter
 }
 
 // ---- the judge
 
-// A card of kind k that stands after i cards, the last of them of the group of this order and of this key.
-pub fn judge_card(counts: Counts, i: usize, group: u32, key: u32, k: Kind, card: &[u32]) -> Answer
+// A card of kind k that stands after i cards, the last of them of the group of this order and of this key; crowded where it is one
+// too many of its kind.
+pub fn judge_card(
+    counts: Counts,
+    i: usize,
+    group: u32,
+    key: u64,
+    crowded: bool,
+    k: Kind,
+    card: &[u32],
+) -> Answer
     requires { ⌜ (length (now card) ≡ 6) × (k ≡ kindAt (now card)) × (i ≤ paper.mostRows) ⌝ }
-    ensures { λ r. ⌜ r ≡ judgeCard counts (λ (j : ℕ). now (card .entry)) i group key ⌝ }
+    ensures { λ r. ⌜ r ≡ judgeOne counts i group key crowded (now (card .entry)) ⌝ }
 {
     let a = kinds::about(k);
     if !stands_at(counts, i, group, a) {
+        return Answer::Refused(Refusal::Form((i + 1) as u32));
+    }
+    if crowded {
         return Answer::Refused(Refusal::Form((i + 1) as u32));
     }
     let columns = kinds::columns_of(counts, k);
@@ -68,6 +112,9 @@ pub fn judge_card(counts: Counts, i: usize, group: u32, key: u32, k: Kind, card:
         return Answer::Refused(Refusal::Form((i + 1) as u32));
     }
     if !kinds::in_range(columns, card) {
+        return Answer::Refused(Refusal::Range((i + 1) as u32));
+    }
+    if !is_ordered(a, card) {
         return Answer::Refused(Refusal::Range((i + 1) as u32));
     }
     if !rises_from(group, key, a, card) {
@@ -82,17 +129,18 @@ fn judge_cards(counts: Counts, t: &[u32], rows: usize) -> Answer
 {
     let mut i = 0;
     let mut group: u32 = 0;
-    let mut key: u32 = 0;
+    let mut key: u64 = 0;
     while i < rows {
         let at = i * 6;
         let end = at + 6;
         let k = kinds::kind(t[at]);
-        let a = judge_card(counts, i, group, key, k, &t[at..end]);
-        let Answer::Done = a else {
-            return a;
+        let a = kinds::about(k);
+        let answer = judge_card(counts, i, group, key, is_full(t, i, a), k, &t[at..end]);
+        let Answer::Done = answer else {
+            return answer;
         };
-        group = kinds::about(k).order;
-        key = rank(&t[at..end]);
+        group = a.order;
+        key = rank(a, &t[at..end]);
         i += 1;
     }
     Answer::Done

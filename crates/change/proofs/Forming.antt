@@ -16,13 +16,13 @@ use Rattle.paper.specs.Replacing.{formOf, stirs}
 use Rattle.paper.specs.declared.Answer.{Answer}
 use Rattle.paper.specs.declared.Answer.the-variants.{Done}
 use Rattle.paper.specs.declared.Kind.{Kind}
-use Rattle.paper.specs.declared.Kind.the-variants.{D, N, M, E, H, F, T, Z, Other}
+use Rattle.paper.specs.declared.Kind.the-variants.{D, N, M, E, H, F, G, T, Z, Other}
 use Rattle.laws.proofs.Decks.{In, Deck, Change, kindIn}
 use Rattle.laws.proofs.Letters.{flat, body-section}
 use Rattle.laws.proofs.Tables.{row-field}
 use Rattle.laws.proofs.Spans.{in-bodies, names-F}
 use Rattle.laws.proofs.Kept.{place}
-use Rattle.laws.proofs.Changed.{kind-here, form-element, form-load}
+use Rattle.laws.proofs.Changed.{kind-here, form-element, form-edge, form-load}
 use Rattle.laws.proofs.Elements.{Formed, sound-one}
 use Rattle.element.specs.Asks.{ElementCard}
 use Rattle.part.specs.Forms.{doesBy, does}
@@ -31,7 +31,7 @@ use Rattle.part.specs.declared.Does.{Does}
 use Rattle.part.proofs.Parts.{as-kind, card-at, conducting}
 use Rattle.change.specs.Asks.{InBodies, Changes, Renews}
 
--- what conducts is an E, and what films an F
+-- what conducts is an E; what films is an F, or a G where it names no element
 conducts-is : (kind : Kind) → doesBy kind .conducts ≡ true → kind ≡ E
 unfolding doesBy
 conducts-is D q = never q
@@ -40,11 +40,12 @@ conducts-is M q = never q
 conducts-is E q = refl
 conducts-is H q = never q
 conducts-is F q = never q
+conducts-is G q = never q
 conducts-is T q = never q
 conducts-is Z q = never q
 conducts-is Other q = never q
 
-films-is : (kind : Kind) → doesBy kind .films ≡ true → kind ≡ F
+films-is : (kind : Kind) → doesBy kind .films ≡ true → kind ≡ cond (doesBy kind .named) F G
 unfolding doesBy
 films-is D q = never q
 films-is N q = never q
@@ -52,6 +53,7 @@ films-is M q = never q
 films-is E q = never q
 films-is H q = never q
 films-is F q = refl
+films-is G q = refl
 films-is T q = never q
 films-is Z q = never q
 films-is Other q = never q
@@ -100,23 +102,33 @@ module _ (t : List ℕ) (row : ℕ) (new : List ℕ) (h : Changes t row new) whe
           ∙ ap (λ (b : Bool). cond b (formOf (put t row new) row) Done) (sym (stirs-by q refl))
 
     module _ (c : it .conducts ≡ false) (q : it .films ≡ true) where
-      is-F : kindIn t row ≡ F
-      is-F = same-kind ∙ films-is (kindAt new) (ap (λ (d : Does). d .films) (sym e) ∙ q)
+      film-kind : {b : Bool} → it .named ≡ b → kindIn t row ≡ cond b F G
+      film-kind n = same-kind ∙ films-is (kindAt new) (ap (λ (d : Does). d .films) (sym e) ∙ q) ∙ ap (λ (b : Bool). cond b F G) (ap (λ (d : Does). d .named) (sym e) ∙ n)
 
-      key : getD new 1 0 ≡ field t row 1
-      key = h .change .kept 1 (omega (arith, h .change .some))
+      module _ (n : it .named ≡ true) where
+        is-F : kindIn t row ≡ F
+        is-F = film-kind n
 
-      pub named : In 1 (elements t) (getD new 1 0)
-      named = rw key (names-F t (h .deck) row (h .change .inside) is-F)
+        key : getD new 1 0 ≡ field t row 1
+        key = h .change .kept 1 (omega (arith, h .change .some))
 
-      pub few-named : getD new 1 0 < 256
-      few-named = omega (arith, named, h .deck .someE)
+        pub named : In 1 (elements t) (getD new 1 0)
+        named = rw key (names-F t (h .deck) row (h .change .inside) is-F)
 
-      pub judged-named : {r : Answer} {n : ℕ} → r ≡ elementJudged t n → n ≡ getD new 1 0 → r ≡ cond (stirs t row) (formOf (put t row new) row) Done
+        pub few-named : getD new 1 0 < 256
+        few-named = omega (arith, named, h .deck .someE)
+
+        pub judged-named : {r : Answer} {n : ℕ} → r ≡ elementJudged t n → n ≡ getD new 1 0 → r ≡ cond (stirs t row) (formOf (put t row new) row) Done
+        unfolding about
+        judged-named p m =
+            p ∙ ap (elementJudged t) (m ∙ key) ∙ sym (form-load t row new (h .deck) (h .change) (rw is-F) (rw is-F) (names-F t (h .deck) row (h .change .inside) is-F))
+            ∙ ap (λ (b : Bool). cond b (formOf (put t row new) row) Done) (sym (stirs-by c q))
+
+      pub judged-edge : it .named ≡ false → Done ≡ cond (stirs t row) (formOf (put t row new) row) Done
       unfolding about
-      judged-named p m =
-          p ∙ ap (elementJudged t) (m ∙ key) ∙ sym (form-load t row new (h .deck) (h .change) (rw is-F) (names-F t (h .deck) row (h .change .inside) is-F))
-          ∙ ap (λ (b : Bool). cond b (formOf (put t row new) row) Done) (sym (stirs-by c q))
+      judged-edge n =
+          let is-G : kindIn t row ≡ G = film-kind n in
+          sym (form-edge t row new (h .deck) (h .change) (rw is-G)) ∙ ap (λ (b : Bool). cond b (formOf (put t row new) row) Done) (sym (stirs-by c q))
 
     pub judged-none : it .conducts ≡ false → it .films ≡ false → Done ≡ cond (stirs t row) (formOf (put t row new) row) Done
     judged-none p q = ap (λ (b : Bool). cond b (formOf (put t row new) row) Done) (sym (stirs-by p q))

@@ -16,8 +16,8 @@ use Rattle.whole.proofs.Packed.{lower-eta, lower-within}
 use Rattle.paper.specs.Refusals.{Outcome, done, then, after}
 use Rattle.paper.specs.Kinds.{about, kindOf, kindAt}
 use Rattle.paper.specs.Cards.{rowAt, field, rows, nodes, elements, elementRow, put}
-use Rattle.paper.specs.Corners.{mass, spread}
-use Rattle.paper.specs.Elements.{elementOf, elementAt, elementJudged}
+use Rattle.paper.specs.Corners.{shapeOf, mass, spread}
+use Rattle.paper.specs.Elements.{bodyOf, elementOf, elementAt, elementJudged}
 use Rattle.paper.specs.Parts.{Part, namedRow, partOf, partFor, partAt, least, leastRow}
 use Rattle.paper.specs.Matrices.{addsP, addsA, fixed, cleared}
 use Rattle.paper.specs.Factor.{rowsFrom}
@@ -26,14 +26,14 @@ use Rattle.paper.specs.Replacing.{formOf, moved, firstRow, redone, replaced, st
 use Rattle.paper.specs.declared.Answer.{Answer}
 use Rattle.paper.specs.declared.Answer.the-variants.{Done}
 use Rattle.paper.specs.declared.Kind.{Kind}
-use Rattle.paper.specs.declared.Kind.the-variants.{D, N, M, E, H, F, T, Z, Other}
+use Rattle.paper.specs.declared.Kind.the-variants.{D, N, M, E, H, F, G, T, Z, Other}
 use Rattle.laws.proofs.Decks.{In, Deck, kindIn}
 use Rattle.laws.proofs.Tables.{row-field}
-use Rattle.laws.proofs.Spans.{Inside, part-corners, names-F}
+use Rattle.laws.proofs.Spans.{Inside, part-corners, names-F, lower-first}
 use Rattle.laws.proofs.Sizes.{Distinct, spread-row}
 use Rattle.laws.proofs.Square.{Sound, part-sound}
 use Rattle.laws.proofs.Least.{least-in, least-each, least-most}
-use Rattle.laws.proofs.Elements.{Formed, sound-one, distinct}
+use Rattle.laws.proofs.Elements.{Formed, sound-one, two-distinct, distinct}
 use Rattle.laws.proofs.Changed.{part-here, corners-here, fixed-same, form-load, kind-here}
 use Rattle.laws.proofs.Places.{addSquare, squareP, squareA, moved-P, moved-A}
 use Rattle.triangle.specs.Forms.{numbers, at, squareOf}
@@ -41,7 +41,7 @@ use Rattle.triangle.proofs.Sizes.{mass-size}
 use Rattle.part.specs.Forms.{cornersOf, doesBy, does}
 use Rattle.part.specs.Asks.{Card, Solid, Full}
 use Rattle.part.specs.declared.Corners.{Corners}
-use Rattle.part.proofs.Parts.{count-three, stored-size, film-size, conductance-small}
+use Rattle.part.proofs.Parts.{stored-size, film-size, conductance-small}
 use Rattle.packed.specs.Asks.{Bounded, Takes}
 use Rattle.packed.proofs.Squares.{takes, gives}
 use Rattle.change.specs.Asks.{Changes, Renews}
@@ -83,7 +83,8 @@ adds-size t card h s d few i j =
     )
 
 three : (t card : List ℕ) → 1 ≤ length (elementOf t card .shape .corners)
-three t card = omega (arith, count-three t card)
+unfolding elementOf bodyOf shapeOf
+three t card = omega arith
 
 least-some : (ns : List ℕ) (m n : ℕ) → Inside n ns → 1 ≤ m → 1 ≤ least ns m
 unfolding least
@@ -119,17 +120,25 @@ module _ (t : List ℕ) (row : ℕ) (new : List ℕ) (h : Renews t row new) wher
   unfolding elementJudged about
   named-some e =
       let key : getD new 1 0 ≡ field t row 1 = h .changes .change .kept 1 (omega (arith, h .changes .change .some)) in
-      let f = form-load t row new (h .changes .deck) (h .changes .change) (rw e) (names-F t (h .changes .deck) row (h .changes .change .inside) e) in
+      let f = form-load t row new (h .changes .deck) (h .changes .change) (rw e) (rw e) (names-F t (h .changes .deck) row (h .changes .change .inside) e) in
       subst (λ (k : ℕ). 1 ≤ elementAt t (elementRow t k) .size) (sym key) (sound-one (elementAt t (elementRow t (field t row 1))) (field t row 1) (sym f ∙ h .form) .some)
 
+  -- an edge's nodes are the old ones
+  lower-new : kindIn t row ≡ G → getD new 1 0 < getD new 2 0
+  unfolding about
+  lower-new e =
+      let k : (n : ℕ) → n ≤ 2 → getD new n 0 ≡ field t row n = λ n l. h .changes .change .kept n (rw e l) in
+      omega (arith, k 1 (omega arith), k 2 (omega arith), lower-first t (h .changes .deck) row (h .changes .change .inside) e)
+
   distinct-by : (kind : Kind) → kindAt new ≡ kind → partOf t new kind .stirs ≡ true → Distinct (partOf t new kind .corners)
-  unfolding partOf
+  unfolding partOf shapeOf
   distinct-by D e q = never q
   distinct-by N e q = never q
   distinct-by M e q = never q
   distinct-by E e q = distinct t new (some-new t row new h e)
   distinct-by H e q = never q
   distinct-by F e q = distinct t (rowAt t (namedRow t new)) (named-some (same-kind t row new (h .changes) ∙ e))
+  distinct-by G e q = two-distinct (getD new 1 0) (getD new 2 0) (lower-new (same-kind t row new (h .changes) ∙ e))
   distinct-by T e q = never q
   distinct-by Z e q = never q
   distinct-by Other e q = never q
@@ -159,6 +168,7 @@ module _ (t : List ℕ) (row : ℕ) (new : List ℕ) (h : Renews t row new) wher
         any-by E z q = unfold partOf in three t new
         any-by H z q = unfold partOf in never q
         any-by F z q = unfold partOf in three t (rowAt t (namedRow t new))
+        any-by G z q = unfold partOf in unfold shapeOf in omega arith
         any-by T z q = unfold partOf in never q
         any-by Z z q = unfold partOf in never q
         any-by Other z q = unfold partOf in never q

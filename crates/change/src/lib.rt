@@ -26,7 +26,7 @@ fn element_in(table: &[u32], row: usize) -> Element
     element::element((row + 1 - first) as u32)
 }
 
-// Refusals 5 and 6 of the element that a new card makes or is of, before anything is written.
+// Refusals 5 and 6 of the element that a new card makes or is of, before anything is written. An edge is of none.
 pub fn judge_form(table: &[u32], row: usize, new: [u32; 6]) -> Answer
     requires { ⌜ Changes (now table) row new ⌝ }
     ensures { λ r. ⌜ r ≡ cond (stirs (now (table .entry)) row) (formOf (put (now (table .entry)) row new) row) Done ⌝ }
@@ -35,7 +35,10 @@ pub fn judge_form(table: &[u32], row: usize, new: [u32; 6]) -> Answer
     if it.conducts {
         return element::judge_card(table, new, element_in(table, row));
     }
-    if it.films {
+    if !it.films {
+        return Answer::Done;
+    }
+    if it.named {
         return element::judge_element(table, element::element(new[1]));
     }
     Answer::Done

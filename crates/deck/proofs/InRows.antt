@@ -1,5 +1,6 @@
 -- Pieces of one width, written one after the other; and a card's 42 bytes as the code lends them.
 use mathlib.Core.Path.{_≡_, sym, ap, _∙_}
+use mathlib.Core.Bool.{Bool}
 use mathlib.Core.List.{List, _++_, append-nil}
 use Prim.Native.Nat.{ℕ, suc, _+_, _-_, _*_, _≤_, _<_}
 use native.Mathlib.Numerals.{add-one}
@@ -7,11 +8,12 @@ use native.Mathlib.Omega.{arith}
 use borrow.Rule.Slice.PartMut.{putMid}
 use lib.ListN.{length, take, drop, take-append-drop}
 use Rattle.whole.proofs.Lists.{put-next}
+use Rattle.paper.specs.Kinds.{aboutOf}
 use Rattle.paper.specs.Text.{cardOf}
-use Rattle.paper.specs.Judge.{judgeCard}
+use Rattle.paper.specs.Judge.{full, judgeOne, judgeCard}
 use Rattle.paper.specs.Calls.{joined, cardAt}
+use Rattle.paper.specs.declared.About.{About}
 use Rattle.paper.specs.declared.Counts.{Counts}
-use Rattle.laws.proofs.Judging.{card-same}
 
 pub lent : (b : List ℕ) (start i : ℕ) → cardOf (take (start + i * 42 + 42 - (start + i * 42)) (drop (start + i * 42) b)) ≡ cardAt b start i
 lent b start i =
@@ -19,9 +21,10 @@ lent b start i =
     rw e
 
 -- the judge of a card that was read is the judge of the text's
-pub read-card : (z : Counts) (b : List ℕ) (start i p key : ℕ) {card : List ℕ} → card ≡ cardAt b start i
-    → judgeCard z (λ (j : ℕ). card) i p key ≡ judgeCard z (cardAt b start) i p key
-read-card z b start i p key {card} e = card-same z (λ (j : ℕ). card) (cardAt b start) i p key e
+pub read-card : (z : Counts) (b : List ℕ) (start i p key : ℕ) {card : List ℕ} {crowded : Bool} {a : About} → card ≡ cardAt b start i
+    → crowded ≡ full (cardAt b start) i a → a ≡ aboutOf (cardAt b start i) → judgeOne z i p key crowded card ≡ judgeCard z (cardAt b start) i p key
+read-card z b start i p key e f q =
+    (λ j. judgeOne z i p key (f j) (e j)) ∙ ap (λ (a : About). judgeOne z i p key (full (cardAt b start) i a) (cardAt b start i)) q
 
 module _ (piece : ℕ → List ℕ) (w n i : ℕ) where
   pub rows-more : (out ys whole : List ℕ) → i < n → i * w + w ≤ length out → length ys ≡ w → ys ≡ piece i → (i + 1) * w ≡ i * w + w

@@ -1,4 +1,5 @@
 // The reader and the writer of a deck.
+use paper::About;
 use paper::Answer;
 use paper::Counts;
 use paper::Refusal;
@@ -8,7 +9,7 @@ ghost use Prim.Native.Nat.{ℕ, _+_, _*_, _≤_, _<_};
 ghost use lib.ListN.{length, drop};
 ghost use denote.Ref.{ptr};
 ghost use Rattle.paper.specs.Cards.{mostRows};
-ghost use Rattle.paper.specs.Judge.{judgeFrom};
+ghost use Rattle.paper.specs.Judge.{full, judgeFrom};
 ghost use Rattle.paper.specs.Calls as paper;
 
 // The most bytes that are read.
@@ -53,6 +54,21 @@ pub fn write(table: &[u32], bytes: &mut [u8]) -> Answer
 
 // ---- the reader
 
+// Whether as many cards of a kind as there may be stand before card i of a text: the card so many before it is read again.
+fn is_full(s: &[u8], start: usize, i: usize, a: About) -> bool
+    requires { ⌜ start + i * 42 + 42 ≤ length (now s) ⌝ }
+    ensures { λ r. ⌜ r ≡ full (paper.cardAt (now (s .entry)) start) i a ⌝ }
+{
+    if i < a.most {
+        return false;
+    }
+    let mut card = [0u32; 6];
+    let at = start + (i - a.most) * 42;
+    let end = at + 42;
+    text::card_of(&s[at..end], &mut card);
+    card[0] == a.letter
+}
+
 // The cards of a text in turn.
 fn judge_text(counts: Counts, s: &[u8], start: usize, rows: usize) -> Answer
     requires { ⌜ (start + rows * 42 ≤ length (now s)) × (rows ≤ mostRows) ⌝ }
@@ -61,18 +77,19 @@ fn judge_text(counts: Counts, s: &[u8], start: usize, rows: usize) -> Answer
     let mut card = [0u32; 6];
     let mut i = 0;
     let mut group: u32 = 0;
-    let mut key: u32 = 0;
+    let mut key: u64 = 0;
     while i < rows {
         let at = start + i * 42;
         let end = at + 42;
         text::card_of(&s[at..end], &mut card);
         let k = kinds::kind(card[0]);
-        let a = cards::judge_card(counts, i, group, key, k, &card);
-        let Answer::Done = a else {
-            return a;
+        let a = kinds::about(k);
+        let answer = cards::judge_card(counts, i, group, key, is_full(s, start, i, a), k, &card);
+        let Answer::Done = answer else {
+            return answer;
         };
-        group = kinds::about(k).order;
-        key = cards::rank(&card);
+        group = a.order;
+        key = cards::rank(a, &card);
         i += 1;
     }
     Answer::Done

@@ -1,4 +1,4 @@
--- The ranges of a judged deck's fields are what an element's numbers are asked to have.
+-- The ranges of a judged deck's fields are what the numbers of an element and of an edge are asked to have.
 use mathlib.Core.Path.{_≡_, refl, sym, ap, _∙_}
 use mathlib.Core.List.{List, [], _∷_}
 use Prim.Native.Nat.{ℕ, suc, zero, _+_, _*_, _-_, _≤_, _<_}
@@ -8,13 +8,15 @@ use lib.Seq.{length-take-le, getD-drop, ext-getD}
 use Rattle.paper.specs.Cards.{field, rowAt, rows, nodes, elements, elementRow, stepOf}
 use Rattle.paper.specs.Corners.{Body, shapeOf}
 use Rattle.paper.specs.Elements.{bodyOf, elementOf}
+use Rattle.paper.specs.Parts.{edgeShape}
 use Rattle.laws.proofs.Letters as kinds
 use Rattle.laws.proofs.Decks.{Deck, In, kindIn}
 use Rattle.laws.proofs.Tables.{row-field, row-ext}
+use Rattle.laws.proofs.Edge.{OnGrid}
 use Rattle.laws.proofs.Spans.{coordinate, step-in, kx-in, ky-in, capacity-in, body-corners, body-material, thickness-in, is-body}
 use Rattle.triangle.specs.Asks.{Placed, Sized, Step}
 use Rattle.triangle.specs.Forms.{madeOf}
-use Rattle.element.specs.Asks.{ElementCard}
+use Rattle.element.specs.Asks.{ElementCard, EdgeCard}
 
 pub placed-of : (t card : List ℕ) → ElementCard t card → Placed (bodyOf t card .shape)
 unfolding bodyOf shapeOf
@@ -35,6 +37,13 @@ sized-of t card h = record {
   capacity = capacity-in t (h .deck) (getD card 4 0) (h .material) .1;
   thickness = h .thickness;
 }
+
+-- the ends of an edge
+pub on-grid-of : (t card : List ℕ) → EdgeCard t card → OnGrid (edgeShape t card)
+unfolding shapeOf
+on-grid-of t card h zero m = let n = getD card 1 0 in (coordinate t (h .deck) n 0 (h .ends .0) (omega arith), coordinate t (h .deck) n 1 (h .ends .0) (omega arith))
+on-grid-of t card h (suc zero) m = let n = getD card 2 0 in (coordinate t (h .deck) n 0 (h .ends .1 .0) (omega arith), coordinate t (h .deck) n 1 (h .ends .1 .0) (omega arith))
+on-grid-of t card h (suc (suc a)) m = absurd (omega arith)
 
 pub step-of : (t : List ℕ) → Deck t → Step (stepOf t)
 step-of t d = record { least = step-in t d .0; most = step-in t d .1 }
@@ -75,6 +84,10 @@ row-within t e d h = omega (arith, d .whole, d .all, h .1)
 -- so does a field of a node
 pub node-field : {v : ℕ} (t : List ℕ) (n j : ℕ) → Deck t → In 1 (nodes t) n → j < 6 → v ≡ n → v * 6 + j < length t
 node-field t n j d h l e = omega (arith, h, d .whole, d .all)
+
+-- and is read by the row that its number makes
+pub field-at : {v r : ℕ} (t : List ℕ) (n k : ℕ) → r ≡ field t v k → v ≡ n → r ≡ field t n k
+field-at t n k p q = p ∙ ap (λ (z : ℕ). field t z k) q
 
 pub few-nodes : (t : List ℕ) (n : ℕ) → Deck t → In 1 (nodes t) n → n < 256
 few-nodes t n d h = omega (arith, h, d .someN)

@@ -1,4 +1,5 @@
-// The elements of a judged deck, by keys made of its cards' fields.
+// The elements and edges of a judged deck, by keys made of its cards' fields.
+use edge::Edge;
 use paper::Answer;
 use paper::Element;
 use paper::Material;
@@ -10,10 +11,12 @@ ghost use Prim.Native.Nat.{_+_, _*_, _<_, _≤_};
 ghost use lib.ListN.{length, getD};
 ghost use Rattle.paper.specs.Cards.{field, rowAt, nodes, materials, elements, materialRow, elementRow};
 ghost use Rattle.paper.specs.Elements.{bodyOf, elementOf, formJudged, elementJudged};
+ghost use Rattle.paper.specs.Parts.{edgeShape};
 ghost use Rattle.paper.specs.Building.{elementsFrom};
 ghost use Rattle.laws.proofs.Decks.{Deck, In};
 ghost use Rattle.triangle.specs.Forms.{asShape, asBody};
-ghost use Rattle.element.specs.Asks.{ElementCard};
+ghost use Rattle.edge.specs.Forms.{asShape as asEdge};
+ghost use Rattle.element.specs.Asks.{ElementCard, EdgeCard};
 
 // ---- keys: each is made here alone
 
@@ -145,6 +148,23 @@ pub fn triangle_of(table: &[u32], card: [u32; 6]) -> Triangle
         ky: field(table, row, 2),
         capacity: field(table, row, 3),
         thickness: card[5],
+    }
+}
+
+// ---- the edge that a card makes
+
+pub fn edge_of(table: &[u32], card: [u32; 6]) -> Edge
+    requires { ⌜ EdgeCard (now table) card ⌝ }
+    ensures { λ r. ⌜ asEdge r ≡ edgeShape (now (table .entry)) card ⌝ }
+{
+    let a = node(card[1]);
+    let b = node(card[2]);
+    let i = node_row(a);
+    let j = node_row(b);
+    Edge {
+        ends: [a, b],
+        x: [field(table, i, 1), field(table, j, 1)],
+        y: [field(table, i, 2), field(table, j, 2)],
     }
 }
 

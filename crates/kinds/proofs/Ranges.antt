@@ -13,7 +13,7 @@ use Rattle.paper.specs.Judge.{clean}
 use Rattle.laws.proofs.Judging.{clean-start}
 use Rattle.paper.specs.declared.Counts.{Counts}
 use Rattle.paper.specs.declared.Kind.{Kind}
-use Rattle.paper.specs.declared.Kind.the-variants.{D, N, M, E, H, F, T, Z, Other}
+use Rattle.paper.specs.declared.Kind.the-variants.{D, N, M, E, H, F, G, T, Z, Other}
 use Rattle.kinds.specs.Laid.{columnsAs, laid, inBounds}
 use Rattle.kinds.specs.declared.Columns.{Columns}
 
@@ -21,9 +21,9 @@ module _ (z : Counts) where
   pub laid-as : {k k′ : Kind} → k ≡ k′ → laid (columns z k′) ≡ laid (columns z k)
   laid-as e = ap (λ (k : Kind). laid (columns z k)) (sym e)
 
-  pub laid-Z : {b : ℕ} → b ≡ before z ends → columnsAs 5 (42 * b ∷ 3 ∷ 1 ∷ 1 ∷ 0 ∷ []) (42 * b ∷ 96 ∷ 8 ∷ 160 ∷ 416 ∷ []) ≡ laid (columns z Z)
+  pub laid-Z : {b : ℕ} → b ≡ before z ends → columnsAs 5 (42 * b ∷ 3 ∷ 1 ∷ 1 ∷ 0 ∷ []) (42 * b ∷ 96 ∷ 8 ∷ 160 ∷ 576 ∷ []) ≡ laid (columns z Z)
   unfolding laid columns
-  laid-Z e = ap (λ (b : ℕ). columnsAs 5 (42 * b ∷ 3 ∷ 1 ∷ 1 ∷ 0 ∷ []) (42 * b ∷ 96 ∷ 8 ∷ 160 ∷ 416 ∷ [])) e
+  laid-Z e = ap (λ (b : ℕ). columnsAs 5 (42 * b ∷ 3 ∷ 1 ∷ 1 ∷ 0 ∷ []) (42 * b ∷ 96 ∷ 8 ∷ 160 ∷ 576 ∷ [])) e
 
 pub laid-used : (b : Columns) (cs : List Column) → b ≡ laid cs → b .used ≡ length cs
 unfolding laid
@@ -38,6 +38,7 @@ used-any z M = refl
 used-any z E = refl
 used-any z H = refl
 used-any z F = refl
+used-any z G = refl
 used-any z T = refl
 used-any z Z = refl
 used-any z Other = refl
@@ -50,6 +51,7 @@ used-few M = omega arith
 used-few E = omega arith
 used-few H = omega arith
 used-few F = omega arith
+used-few G = omega arith
 used-few T = omega arith
 used-few Z = omega arith
 used-few Other = omega arith

@@ -25,6 +25,8 @@ const H: u32 = 72;
 
 const F: u32 = 70;
 
+const G: u32 = 71;
+
 const T: u32 = 84;
 
 const Z: u32 = 90;
@@ -36,6 +38,9 @@ const LOADS: usize = 4;
 
 const ENDS: usize = 5;
 
+// More than any table has rows.
+const MANY: usize = 2_000;
+
 pub fn kind(letter: u32) -> Kind
     ensures { λ r. ⌜ r ≡ kinds.kindOf letter ⌝ }
 {
@@ -46,14 +51,15 @@ pub fn kind(letter: u32) -> Kind
         E => Kind::E,
         H => Kind::H,
         F => Kind::F,
+        G => Kind::G,
         T => Kind::T,
         Z => Kind::Z,
         _ => Kind::Other,
     }
 }
 
-fn line(letter: u32, order: u32, section: usize, keeps: usize, keys: u32) -> About
-    ensures { λ r. ⌜ r ≡ kinds.line letter order section keeps keys ⌝ }
+fn line(letter: u32, order: u32, section: usize, keeps: usize, keys: u32, most: usize) -> About
+    ensures { λ r. ⌜ r ≡ kinds.line letter order section keeps keys most ⌝ }
 {
     About {
         letter: letter,
@@ -61,23 +67,25 @@ fn line(letter: u32, order: u32, section: usize, keeps: usize, keys: u32) -> Abo
         section: section,
         keeps: keeps,
         keys: keys,
+        most: most,
     }
 }
 
-// Letter, order, section, keeps, keys.
+// Letter, order, section, keeps, keys, most.
 pub fn about(k: Kind) -> About
     ensures { λ r. ⌜ r ≡ kinds.about k ⌝ }
 {
     match k {
-        Kind::D => line(D, 0, 0, 0, 0),
-        Kind::N => line(N, 1, 1, 0, 0),
-        Kind::M => line(M, 2, 2, 0, 0),
-        Kind::E => line(E, 3, BODIES, 3, 0),
-        Kind::H => line(H, 4, LOADS, 1, 1),
-        Kind::F => line(F, 5, LOADS, 1, 1),
-        Kind::T => line(T, 6, LOADS, 1, 1),
-        Kind::Z => line(Z, 7, ENDS, 0, 0),
-        Kind::Other => line(0, 8, 6, 0, 0),
+        Kind::D => line(D, 0, 0, 0, 0, MANY),
+        Kind::N => line(N, 1, 1, 0, 0, MANY),
+        Kind::M => line(M, 2, 2, 0, 0, MANY),
+        Kind::E => line(E, 3, BODIES, 3, 0, MANY),
+        Kind::H => line(H, 4, LOADS, 1, 1, MANY),
+        Kind::F => line(F, 5, LOADS, 1, 1, MANY),
+        Kind::G => line(G, 6, LOADS, 2, 2, 160),
+        Kind::T => line(T, 7, LOADS, 1, 1, MANY),
+        Kind::Z => line(Z, 8, ENDS, 0, 0, MANY),
+        Kind::Other => line(0, 9, 6, 0, 0, MANY),
     }
 }
 
@@ -135,10 +143,11 @@ pub fn columns_of(counts: Counts, k: Kind) -> Columns
         Kind::E => laid_out(5, [1, 1, 1, 1, 1], [n, n, n, m, 4_000]),
         Kind::H => laid_out(2, [1, 1, 0, 0, 0], [e, 5_000_000, 0, 0, 0]),
         Kind::F => laid_out(3, [1, 1, 0, 0, 0], [e, 100_000, top, 0, 0]),
+        Kind::G => laid_out(5, [1, 1, 1, 0, 1], [n, n, 100_000, top, 4_000]),
         Kind::T => laid_out(2, [1, 0, 0, 0, 0], [n, top, 0, 0, 0]),
         Kind::Z => {
             let b = 42 * cards_before(counts, ENDS) as u64;
-            laid_out(5, [b, 3, 1, 1, 0], [b, 96, 8, 160, 416])
+            laid_out(5, [b, 3, 1, 1, 0], [b, 96, 8, 160, 576])
         }
         Kind::Other => laid_out(0, [0, 0, 0, 0, 0], [0, 0, 0, 0, 0]),
     }

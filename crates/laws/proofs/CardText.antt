@@ -9,7 +9,7 @@ use lib.Dec.{ltb, eqb}
 use lib.ListN.{length, getD, take, drop, set, length-set, replicate, length-append, length-drop, take-append-drop, drop-of-length-le}
 use lib.Seq.{take-at, drop-append-add, getD-at, drop-cons, drop-drop, length-take-le}
 use Rattle.paper.specs.declared.Kind.{Kind}
-use Rattle.paper.specs.declared.Kind.the-variants.{D, N, M, E, H, F, T, Z, Other}
+use Rattle.paper.specs.declared.Kind.the-variants.{D, N, M, E, H, F, G, T, Z, Other}
 use Rattle.paper.specs.declared.Field.{Field}
 use Rattle.paper.specs.declared.Field.the-variants.{Number, Malformed}
 use Rattle.paper.specs.Kinds.{about, kindOf, letterOf}
@@ -65,7 +65,7 @@ length-textOf card =
     ap suc (length-append (textFrom u card 5 0) (10 ∷ [])) ∙ omega (arith, length-text u card 5 0)
 
 -- ---- a letter that is one of the eight
-used-order : (k : Kind) → (used k ≡ 0 → ⊥) → about k .order < 8
+used-order : (k : Kind) → (used k ≡ 0 → ⊥) → about k .order < 9
 unfolding used columns about
 used-order D h = omega arith
 used-order N h = omega arith
@@ -73,6 +73,7 @@ used-order M h = omega arith
 used-order E h = omega arith
 used-order H h = omega arith
 used-order F h = omega arith
+used-order G h = omega arith
 used-order T h = omega arith
 used-order Z h = omega arith
 used-order Other h = absurd (h refl)

@@ -11,21 +11,23 @@ use lib.ListN.{length, getD}
 use Rattle.whole.specs.Sums.{sum, sumN, any}
 use Rattle.whole.proofs.Tests.{never}
 use Rattle.whole.proofs.Sums.{sum-change, any-ext}
-use Rattle.paper.specs.Kinds.{about, bodies, kindOf, kindAt, letterOf}
+use Rattle.paper.specs.Kinds.{about, aboutOf, bodies, edge, kindOf, kindAt, letterOf}
 use Rattle.paper.specs.Cards.{before, field, letter, rowAt, rows, countsAt, nodes, materials, elements, materialRow, elementRow, stepOf, put}
 use Rattle.paper.specs.Judge.{nameAt}
 use Rattle.paper.specs.Corners.{Shape, shapeOf}
 use Rattle.paper.specs.Triangle.{S, pair, u, faceFilm}
+use Rattle.paper.specs.Edge.{edgeFilm}
 use Rattle.paper.specs.Elements.{Element, bodyOf, elementOf, elementAt, formJudged, elementJudged}
 use Rattle.paper.specs.Parts.{Part, bulk, filmed, loaded, heatShare, namedShape, partOf, partFor, partAt}
 use Rattle.paper.specs.Matrices.{addsP, addsA, P, A, fixes, fixed}
 use Rattle.paper.specs.Replacing.{formOf}
+use Rattle.paper.specs.declared.Answer.the-variants.{Done}
 use Rattle.paper.specs.declared.Kind.{Kind}
-use Rattle.paper.specs.declared.Kind.the-variants.{D, N, M, E, H, F, T, Z, Other}
+use Rattle.paper.specs.declared.Kind.the-variants.{D, N, M, E, H, F, G, T, Z, Other}
 use Rattle.laws.proofs.Letters.{Body, flat, body-section}
 use Rattle.laws.proofs.Tables.{row-field, row-here}
 use Rattle.laws.proofs.Decks.{In, kindIn, Deck, Change}
-use Rattle.laws.proofs.Spans.{Inside, nodes-are, materials-are, is-body, in-bodies, cornersAt, body-corners, body-material, names-H, names-F, element-shape}
+use Rattle.laws.proofs.Spans.{Inside, nodes-are, materials-are, is-body, in-bodies, cornersAt, body-corners, body-material, names-H, names-F, ends-G, element-shape}
 use Rattle.laws.proofs.Kept.{low, room, other, here, other-row, rows-same, nodes-same, materials-same, elements-same, row-same, letter-same, kind-same, key-same, kind-keeps, step-same}
 
 -- what a card adds to the matrices: all of its part but the loads
@@ -46,6 +48,7 @@ Names n m e card M = Unit {0}
 Names n m e card E = Based n m card
 Names n m e card H = In 1 e (getD card 1 0)
 Names n m e card F = In 1 e (getD card 1 0)
+Names n m e card G = Inside n (getD card 1 0 ∷ getD card 2 0 ∷ [])
 Names n m e card T = Unit {0}
 Names n m e card Z = Unit {0}
 Names n m e card Other = Unit {0}
@@ -70,6 +73,7 @@ names t row d h = go (kindIn t row) refl
     go E e = based t row d h (flat e)
     go H e = rw (row-field t row 1 (omega arith)) (names-H t d row h e)
     go F e = rw (row-field t row 1 (omega arith)) (names-F t d row h e)
+    go G e = rw (row-field t row 1 (omega arith), row-field t row 2 (omega arith)) (ends-G t d row h e)
     go T e = tt
     go Z e = tt
     go Other e = tt
@@ -151,6 +155,7 @@ module _ (t : List ℕ) (c : ℕ) (card : List ℕ) (d : Deck t) (g : Change t c
   part-of x E h = ap bulk (element-of x h)
   part-of x H h = λ i. let s = named-same x h i in loaded (s .corners) (λ a. heatShare (length (s .corners)) (getD x 2 0))
   part-of x F h = λ i. let s = named-same x h i in filmed (s .corners) (faceFilm (getD x 2 0) s) (getD x 3 0)
+  part-of x G h = λ i. let s = shape-same (getD x 1 0 ∷ getD x 2 0 ∷ []) h i in filmed (s .corners) (edgeFilm (getD x 3 0) (getD x 5 0) s) (getD x 4 0)
   part-of x T h = refl
   part-of x Z h = refl
   part-of x Other h = refl
@@ -184,11 +189,18 @@ module _ (t : List ℕ) (c : ℕ) (card : List ℕ) (d : Deck t) (g : Change t c
   pub element-here : Deck t′ → kindIn t c ≡ E → elementAt t′ c ≡ elementOf t card
   element-here d′ e = ap (elementOf t′) card-here ∙ element-of card (subst (NamesIn t card) e (names-here d′))
 
+  own-key : getD (rowAt t′ c) 1 0 ≡ getD (rowAt t c) 1 0
+  own-key = row-field t′ c 1 (omega arith) ∙ key-same t c card d g c ∙ sym (row-field t c 1 (omega arith))
+
+  -- an edge's other node
+  own-end : kindIn t c ≡ G → getD (rowAt t′ c) 2 0 ≡ getD (rowAt t c) 2 0
+  unfolding about
+  own-end e = row-field t′ c 2 (omega arith) ∙ kind-keeps t c card d g c 2 G e (omega arith) (omega arith) ∙ sym (row-field t c 2 (omega arith))
+
   -- the element that the changed card names, by its key
   own-shape : In 1 (elements t) (field t c 1) → namedShape t′ (rowAt t′ c) ≡ namedShape t (rowAt t c)
   own-shape h =
-      let e : getD (rowAt t′ c) 1 0 ≡ getD (rowAt t c) 1 0 = row-field t′ c 1 (omega arith) ∙ key-same t c card d g c ∙ sym (row-field t c 1 (omega arith)) in
-      ap (λ (k : ℕ). elementAt t′ (elementRow t′ k) .shape) e ∙ named-same (rowAt t c) (rw (row-field t c 1 (omega arith)) h)
+      ap (λ (k : ℕ). elementAt t′ (elementRow t′ k) .shape) own-key ∙ named-same (rowAt t c) (rw (row-field t c 1 (omega arith)) h)
 
   -- where its kind stirs nothing, it adds to the matrices what the old one did
   idle-by : (kind : Kind) → kindIn t c ≡ kind → partOf t (rowAt t c) kind .stirs ≡ false → still (partOf t′ (rowAt t′ c) kind) ≡ still (partOf t (rowAt t c) kind)
@@ -199,6 +211,7 @@ module _ (t : List ℕ) (c : ℕ) (card : List ℕ) (d : Deck t) (g : Change t c
   idle-by E e s = never (sym s)
   idle-by H e s = ap (λ (s : Shape). still (loaded (s .corners) (λ a. pos 0))) (own-shape (names-H t d c (g .inside) e))
   idle-by F e s = never (sym s)
+  idle-by G e s = never (sym s)
   idle-by T e s = refl
   idle-by Z e s = refl
   idle-by Other e s = refl
@@ -208,13 +221,14 @@ module _ (t : List ℕ) (c : ℕ) (card : List ℕ) (d : Deck t) (g : Change t c
 
   -- ---- the corners of every card, the changed one too
   corners-by : (kind : Kind) → kindIn t c ≡ kind → partOf t′ (rowAt t′ c) kind .corners ≡ partOf t (rowAt t c) kind .corners
-  unfolding partOf
+  unfolding partOf shapeOf
   corners-by D e = refl
   corners-by N e = refl
   corners-by M e = refl
   corners-by E e = ap (λ (s : Shape). s .corners) (element-shape-same c (g .inside) (flat e))
   corners-by H e = ap (λ (s : Shape). s .corners) (own-shape (names-H t d c (g .inside) e))
   corners-by F e = ap (λ (s : Shape). s .corners) (own-shape (names-F t d c (g .inside) e))
+  corners-by G e = λ i. own-key i ∷ own-end e i ∷ []
   corners-by T e = refl
   corners-by Z e = refl
   corners-by Other e = refl
@@ -265,18 +279,30 @@ module _ (t : List ℕ) (c : ℕ) (card : List ℕ) (d : Deck t) (g : Change t c
       name-is t′ c
       ∙ (λ i. cond (eqb (about (kind-same t c card d g c i) .section) bodies) (suc c - (1 + nodes-same t c card d g i + materials-same t c card d g i)) (key-same t c card d g c i))
 
-  -- THEOREMS. What a replacement judges: an element's new card, or the element that a film is of.
+  edge-here : edge (aboutOf (rowAt t′ c)) ≡ edge (about (kindIn t c))
+  edge-here = ap (λ (l : ℕ). edge (about (kindOf l))) (row-field t′ c 0 (omega arith) ∙ letter-same t c card d g c)
+
+  -- THEOREMS. What a replacement judges: of an edge nothing; else an element's new card, or the element that a film is of.
+  pub form-edge : edge (about (kindIn t c)) ≡ true → formOf t′ c ≡ Done
+  unfolding formOf
+  form-edge e = rw (edge-here ∙ e)
+
+  pub form-named : edge (about (kindIn t c)) ≡ false → formOf t′ c ≡ elementJudged t′ (nameAt (countsAt t′) (rowAt t′) c)
+  unfolding formOf
+  form-named e = rw (edge-here ∙ e)
+
   pub form-element : Deck t′ → kindIn t c ≡ E → formOf t′ c ≡ formJudged (elementOf t card) (c - (nodes t + materials t))
   unfolding elementJudged about
   form-element d′ e =
       let (lo, hi) = in-bodies t d c (g .inside) (body-section (kindIn t c) (flat e)) in
       let is : nameAt (countsAt t′) (rowAt t′) c ≡ c - (nodes t + materials t) = new-name ∙ rw e (omega arith) in
       let at : elementRow t′ (c - (nodes t + materials t)) ≡ c = row-same t c card d g (c - (nodes t + materials t)) ∙ omega arith in
-      ap (elementJudged t′) is
+      form-named (rw e)
+      ∙ ap (elementJudged t′) is
       ∙ ap (λ (r : ℕ). formJudged (elementAt t′ r) (c - (nodes t + materials t))) at
       ∙ ap (λ (x : Element). formJudged x (c - (nodes t + materials t))) (element-here d′ e)
 
-  pub form-load : about (kindIn t c) .section ≡ 4 → In 1 (elements t) (field t c 1) → formOf t′ c ≡ elementJudged t (field t c 1)
-  form-load s h =
+  pub form-load : about (kindIn t c) .section ≡ 4 → edge (about (kindIn t c)) ≡ false → In 1 (elements t) (field t c 1) → formOf t′ c ≡ elementJudged t (field t c 1)
+  form-load s n h =
       let is : nameAt (countsAt t′) (rowAt t′) c ≡ field t c 1 = new-name ∙ rw s in
-      ap (elementJudged t′) is ∙ judged-same (field t c 1) h (λ e. omega (arith, s, body-section (kindIn t (elementRow t (field t c 1))) (is-body t d (field t c 1) h), ap (λ (r : ℕ). about (kindIn t r) .section) e))
+      form-named n ∙ ap (elementJudged t′) is ∙ judged-same (field t c 1) h (λ e. omega (arith, s, body-section (kindIn t (elementRow t (field t c 1))) (is-body t d (field t c 1) h), ap (λ (r : ℕ). about (kindIn t r) .section) e))

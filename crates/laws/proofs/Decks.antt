@@ -4,8 +4,8 @@ use mathlib.Core.Bool.{true}
 use mathlib.Core.List.{List}
 use Prim.Native.Nat.{ℕ, suc, _+_, _-_, _*_, _≤_, _<_}
 use lib.ListN.{length, getD}
-use Rattle.paper.specs.Kinds.{about, kindOf}
-use Rattle.paper.specs.Cards.{_⋯_, within, before, columns, field, letter, mostRows, rows, nodes, materials, elements, countsAt}
+use Rattle.paper.specs.Kinds.{about, kindOf, edge}
+use Rattle.paper.specs.Cards.{_⋯_, within, before, columns, rank, field, letter, mostRows, rowAt, rows, nodes, materials, elements, countsAt}
 use Rattle.paper.specs.declared.Kind.{Kind}
 
 -- lo to hi, both in it
@@ -40,8 +40,10 @@ pub record Deck (t : List ℕ) : Type 0 where
   pub stands : (row : ℕ) → row < rows t → Within t (about (kindIn t row) .section) row
   -- every field of a card before Z is within its column
   pub span : (row k : ℕ) → suc row < rows t → k < 5 → Fits t row k
-  -- of two cards of a kind that rises, the later has the higher key
-  pub rising : (r s : ℕ) → r < s → s < rows t → 1 ≤ about (kindIn t r) .keys → letter t r ≡ letter t s → field t r 1 < field t s 1
+  -- of two cards of a kind that rises, the later has the higher rank
+  pub rising : (r s : ℕ) → r < s → s < rows t → 1 ≤ about (kindIn t r) .keys → letter t r ≡ letter t s → rank (rowAt t r) < rank (rowAt t s)
+  -- an edge has its lower node first
+  pub lower : (row : ℕ) → row < rows t → edge (about (kindIn t row)) ≡ true → field t row 1 < field t row 2
 
 -- the card in a row may become this one: its letter and the fields that its kind keeps are the same
 pub record Change (t : List ℕ) (row : ℕ) (card : List ℕ) : Type 0 where

@@ -24,12 +24,12 @@ use Rattle.paper.specs.Building.{elementsFrom}
 use Rattle.paper.specs.declared.Answer.the-variants.{Done}
 use Rattle.paper.specs.declared.Refusal.the-variants.{Flat, Stiff}
 use Rattle.paper.specs.declared.Kind.{Kind}
-use Rattle.paper.specs.declared.Kind.the-variants.{D, N, M, E, H, F, T, Z, Other}
+use Rattle.paper.specs.declared.Kind.the-variants.{D, N, M, E, H, F, G, T, Z, Other}
 use Rattle.laws.proofs.Outcomes.{cond-done}
 use Rattle.laws.proofs.Letters as kinds
 use Rattle.laws.proofs.Tables.{row-field}
 use Rattle.laws.proofs.Decks.{In, kindIn, Deck}
-use Rattle.laws.proofs.Spans.{is-body, in-bodies, names-H, names-F}
+use Rattle.laws.proofs.Spans.{is-body, in-bodies, names-H, names-F, lower-first}
 use Rattle.laws.proofs.Square.{between-symmetric}
 use Rattle.laws.proofs.InTurn.{elements-each}
 use Rattle.laws.proofs.Sizes.{Distinct}
@@ -111,6 +111,15 @@ distinct-by ns f a b ha hb e = go (decLt a b) (decLt b a)
         let m′ : b < a → ⊥ = m in
         omega arith
 
+pub two-distinct : (x y : ℕ) → x < y → Distinct (x ∷ y ∷ [])
+two-distinct x y h = distinct-by (x ∷ y ∷ []) apart
+  where
+    apart : (a b : ℕ) → a < b → b < 2 → getD (x ∷ y ∷ []) a 0 ≡ getD (x ∷ y ∷ []) b 0 → ⊥
+    apart zero zero l k e = omega arith
+    apart zero (suc zero) l k e = omega arith
+    apart zero (suc (suc b)) l k e = omega arith
+    apart (suc a) b l k e = omega arith
+
 -- THEOREM. An element of some area, of whatever card, has no two corners the same.
 pub distinct : (t card : List ℕ) → 1 ≤ elementOf t card .size → Distinct (elementOf t card .shape .corners)
 unfolding elementOf bodyOf shapeOf
@@ -183,13 +192,16 @@ module _ (t : List ℕ) (d : Deck t) (pass : elementsFrom (elements t) 1 t ≡ D
   nothing-distinct a b ha hb e = absurd (omega arith)
 
   distinct-kind : (row : ℕ) (kind : Kind) → row < rows t → kindIn t row ≡ kind → Distinct (partOf t (rowAt t row) kind .corners)
-  unfolding partOf
+  unfolding partOf shapeOf
   distinct-kind row D h e = nothing-distinct
   distinct-kind row N h e = nothing-distinct
   distinct-kind row M h e = nothing-distinct
   distinct-kind row E h e = distinct t (rowAt t row) (sound t row d pass h (kinds.flat e) .some)
   distinct-kind row H h e = named-at row (names-H t d row h e)
   distinct-kind row F h e = named-at row (names-F t d row h e)
+  distinct-kind row G h e =
+      two-distinct (getD (rowAt t row) 1 0) (getD (rowAt t row) 2 0)
+      (omega (arith, row-field t row 1 (omega arith), row-field t row 2 (omega arith), lower-first t d row h e))
   distinct-kind row T h e = nothing-distinct
   distinct-kind row Z h e = nothing-distinct
   distinct-kind row Other h e = nothing-distinct

@@ -1,18 +1,18 @@
 -- What the judge of a table tells of a deck that it accepts: places by section, fields by column, for all kinds at once.
 use mathlib.Core.Path.{_≡_, refl, sym, ap, subst, _∙_}
-use mathlib.Core.Bool.{true, not, _&&_, _||_}
+use mathlib.Core.Bool.{true, false, not, _&&_, _||_}
 use mathlib.Core.List.{List}
 use Prim.Native.Nat.{ℕ, zero, suc, _+_, _*_, _-_, _%_, _≤_, _<_}
 use native.Mathlib.Decide.{ℕ-discrete}
 use native.Mathlib.Omega.{arith}
-use borrow.Author.Tests.{leb-true, ltb-true, ltb-false, le-ltb, eqb-true, eq-eqb, ne-eqb, not-false}
+use borrow.Author.Tests.{leb-true, ltb-true, ltb-false, le-ltb, eqb-true, eq-eqb, ne-eqb, not-false, not-true}
 use lib.Dec.{eqb, leb, ltb}
 use lib.ListN.{length, getD}
 use Rattle.whole.specs.Sums.{sumN}
-use Rattle.whole.proofs.Tests.{and-told, nor-told}
-use Rattle.paper.specs.Kinds.{about, aboutOf, letterOf, kindOf, kindAt, isA}
-use Rattle.paper.specs.Cards.{Column, _⋯_, within, before, columns, columnsOf, inRange, orderOf, rank, countsAt, mostRows, rowAt, field, letter, rows, nodes, materials, elements}
-use Rattle.paper.specs.Judge.{stands, clean, rises, formed, ranged, judgeCard, judgeFrom, trailer, judgeRows, judged}
+use Rattle.whole.proofs.Tests.{never, and-told, nor-told}
+use Rattle.paper.specs.Kinds.{about, aboutOf, letterOf, kindOf, kindAt, isA, edge}
+use Rattle.paper.specs.Cards.{Column, _⋯_, within, before, columns, columnsOf, inRange, orderOf, ranked, rank, countsAt, mostRows, rowAt, field, letter, rows, nodes, materials, elements}
+use Rattle.paper.specs.Judge.{stands, clean, rises, ordered, full, formed, ranged, judgeOne, judgeCard, judgeFrom, trailer, judgeRows, judged}
 use Rattle.paper.specs.declared.About.{About}
 use Rattle.paper.specs.declared.Answer.{Answer}
 use Rattle.paper.specs.declared.Answer.the-variants.{Done}
@@ -74,23 +74,27 @@ range-each cs card (suc n) k j e a b =
 
 pub record Passed (z : Counts) (row : ℕ → List ℕ) (i p key : ℕ) : Type 0 where
   pub place : stands z i p (aboutOf (row i)) ≡ true
+  pub spare : full row i (aboutOf (row i)) ≡ false
   pub clear : clean (row i) ≡ true
   pub range : inRange (columnsOf z (row i)) (row i) 5 0 ≡ true
+  pub order : ordered (aboutOf (row i)) (row i) ≡ true
   pub rise : rises p key (aboutOf (row i)) (row i) ≡ true
 
 pub passed : (z : Counts) (row : ℕ → List ℕ) (i p key : ℕ) → judgeCard z row i p key ≡ Done → Passed z row i p key
-unfolding judgeCard formed ranged
+unfolding judgeOne formed ranged
 passed z row i p key e =
     let a = aboutOf (row i) in
     let (f, e₁) = cond-done _ _ (Form (suc i)) e in
     let (g, _) = cond-done _ Done (Range (suc i)) e₁ in
-    let (s, c) = and-told (stands z i p a) (clean (row i)) f in
-    let (w, r) = and-told (inRange (columnsOf z (row i)) (row i) 5 0) (rises p key a (row i)) g in
-    record { place = s; clear = c; range = w; rise = r }
+    let (sn, c) = and-told (stands z i p a && not (full row i a)) (clean (row i)) f in
+    let (s, n) = and-told (stands z i p a) (not (full row i a)) sn in
+    let (wo, r) = and-told (inRange (columnsOf z (row i)) (row i) 5 0 && ordered a (row i)) (rises p key a (row i)) g in
+    let (w, o) = and-told (inRange (columnsOf z (row i)) (row i) 5 0) (ordered a (row i)) wo in
+    record { place = s; spare = not-true (full row i a) n; clear = c; range = w; order = o; rise = r }
 
 pub passing : (z : Counts) (row : ℕ → List ℕ) (i p key : ℕ) → Passed z row i p key → judgeCard z row i p key ≡ Done
-unfolding judgeCard formed ranged
-passing z row i p key h = rw (h .place, h .clear, h .range, h .rise)
+unfolding judgeOne formed ranged
+passing z row i p key h = rw (h .place, h .spare, h .clear, h .range, h .order, h .rise)
 
 -- a card stands within its section, and not before the group of the card before it
 pub record Stood (z : Counts) (i p : ℕ) (a : About) : Type 0 where
@@ -107,11 +111,15 @@ stands-told z i p a e =
     record { lo = leb-true (before z s) i l; hi = ltb-true i (before z (suc s)) h; up = leb-true p (a .order) u }
 
 -- of a kind that rises, after one of its own group
-rises-told : (p key : ℕ) (a : About) (card : List ℕ) → rises p key a card ≡ true → 1 ≤ a .keys → p ≡ a .order → key < rank card
+rises-told : (p key : ℕ) (a : About) (card : List ℕ) → rises p key a card ≡ true → 1 ≤ a .keys → p ≡ a .order → key < ranked a card
 unfolding rises
 rises-told p key a card e h o =
     let n : a .keys ≡ 0 → ⊥ = λ q. omega arith in
-    ltb-true key (rank card) (rw (ne-eqb (a .keys) 0 n, eq-eqb p (a .order) o) at e)
+    ltb-true key (ranked a card) (rw (ne-eqb (a .keys) 0 n, eq-eqb p (a .order) o) at e)
+
+ordered-told : (a : About) (card : List ℕ) → ordered a card ≡ true → edge a ≡ true → getD card 1 0 < getD card 2 0
+unfolding ordered
+ordered-told a card e h = ltb-true (getD card 1 0) (getD card 2 0) (rw h at e)
 
 -- ---- the whole table
 
@@ -229,21 +237,16 @@ module _ (t : List ℕ) (ok : judged t ≡ Done) where
   -- from a row of a kind that rises to a later one
   record Up (r s : ℕ) : Type 0 where
     order : orderAt r ≤ orderAt s
-    key : 1 ≤ about (kindIn t r) .keys → orderAt r ≡ orderAt s → field t r 1 < field t s 1
+    key : 1 ≤ about (kindIn t r) .keys → orderAt r ≡ orderAt s → rank (rowAt t r) < rank (rowAt t s)
 
   next-up : (row : ℕ) → suc (suc row) < rows t → Up row (suc row)
   unfolding orderAt
   next-up row h = record {
     order = omega (arith, place-of (suc row) h .up, was);
     key = λ k q.
-        omega (
-          arith,
-          row-field t row 1 (omega arith),
-          row-field t (suc row) 1 (omega arith),
-          rises-told (orderOf (rowAt t row)) (rank (rowAt t row)) (aboutOf (rowAt t (suc row))) (rowAt t (suc row)) (told (suc row) h .rise)
-              (subst (λ (x : Kind). 1 ≤ about x .keys) (same-order (kindIn t row) (kindIn t (suc row)) q ∙ sym (kind-row (suc row))) k)
-              (was ∙ q ∙ ap (λ (x : Kind). about x .order) (sym (kind-row (suc row)))),
-        );
+        rises-told (orderOf (rowAt t row)) (rank (rowAt t row)) (aboutOf (rowAt t (suc row))) (rowAt t (suc row)) (told (suc row) h .rise)
+        (subst (λ (x : Kind). 1 ≤ about x .keys) (same-order (kindIn t row) (kindIn t (suc row)) q ∙ sym (kind-row (suc row))) k)
+        (was ∙ q ∙ ap (λ (x : Kind). about x .order) (sym (kind-row (suc row))));
   }
     where
       was : orderOf (rowAt t row) ≡ orderAt row
@@ -265,7 +268,7 @@ module _ (t : List ℕ) (ok : judged t ≡ Done) where
             omega (arith, a .key k o, b .key k′ (omega arith));
       })
 
-  rise : (r s : ℕ) → r < s → s < rows t → 1 ≤ about (kindIn t r) .keys → letter t r ≡ letter t s → field t r 1 < field t s 1
+  rise : (r s : ℕ) → r < s → s < rows t → 1 ≤ about (kindIn t r) .keys → letter t r ≡ letter t s → rank (rowAt t r) < rank (rowAt t s)
   unfolding orderAt about
   rise r s h k l e =
       let q : r + suc (s - suc r) ≡ s = omega arith in
@@ -279,6 +282,17 @@ module _ (t : List ℕ) (ok : judged t ≡ Done) where
       inner (yes q) = absurd (omega (arith, last q))
       inner (no q) = let q′ : s ≡ rows t - 1 → ⊥ = q in omega arith
 
+  lower : (row : ℕ) → row < rows t → edge (about (kindIn t row)) ≡ true → field t row 1 < field t row 2
+  unfolding about
+  lower row h e = go (ℕ-discrete row (rows t - 1))
+    where
+      go : Dec (row ≡ rows t - 1) → field t row 1 < field t row 2
+      go (yes q) = never (sym (ap (λ (k : Kind). edge (about k)) (ap (kindIn t) q ∙ is-Z)) ∙ e)
+      go (no q) =
+          let q′ : row ≡ rows t - 1 → ⊥ = q in
+          let l = ordered-told (aboutOf (rowAt t row)) (rowAt t row) (told row (omega arith) .order) (ap (λ (k : Kind). edge (about k)) (kind-row row) ∙ e) in
+          omega (arith, row-field t row 1 (omega arith), row-field t row 2 (omega arith))
+
   -- THEOREM. What the judge accepts is a deck.
   pub deck : Deck t
   deck = record {
@@ -291,4 +305,5 @@ module _ (t : List ℕ) (ok : judged t ≡ Done) where
     stands = stand;
     span = λ row k h l. spans row k (told row h .range) l;
     rising = rise;
+    lower = lower;
   }

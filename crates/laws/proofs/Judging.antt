@@ -1,16 +1,18 @@
 -- The judge step by step: what a test passed or failed comes to, of a card, of cards in turn, of a table.
 use mathlib.Core.Path.{_≡_, refl, ap, _∙_}
-use mathlib.Core.Bool.{true, false}
+use mathlib.Core.Bool.{Bool, true, false, _&&_}
 use mathlib.Core.List.{List}
 use Prim.Native.Nat.{ℕ, zero, suc, _+_, _-_, _*_, _%_, _≤_, _<_}
 use native.Mathlib.Numerals.{add-one}
 use native.Mathlib.Omega.{arith}
 use borrow.Author.Tests.{eq-eqb, ne-eqb, lt-ltb, le-ltb}
+use lib.Dec.{eqb, leb}
 use lib.ListN.{length, getD}
 use Rattle.paper.specs.Refusals.{andThen}
 use Rattle.paper.specs.Kinds.{kindAt, aboutOf}
 use Rattle.paper.specs.Cards.{used, columnsOf, zeros, inRange, orderOf, rank, countsAt, mostRows, rowAt, rows}
-use Rattle.paper.specs.Judge.{stands, rises, clean, formed, ranged, judgeCard, judgeFrom, trailer, judgeRows, judged}
+use Rattle.paper.specs.Judge.{stands, rises, ordered, full, clean, formed, ranged, judgeOne, judgeCard, judgeFrom, trailer, judgeRows, judged}
+use Rattle.paper.specs.declared.About.{About}
 use Rattle.paper.specs.declared.Answer.{Answer}
 use Rattle.paper.specs.declared.Answer.the-variants.{Done, Refused}
 use Rattle.paper.specs.declared.Refusal.{Refusal}
@@ -44,33 +46,41 @@ module _ (card : List ℕ) where
       rw m
 
 -- the two parts of a card's judgement
-module _ (z : Counts) (row : ℕ → List ℕ) (i p key : ℕ) where
-  pub formed-on : stands z i p (aboutOf (row i)) ≡ true → clean (row i) ≡ formed z row i p
+module _ (z : Counts) (i p key : ℕ) (crowded : Bool) (card : List ℕ) where
+  pub formed-on : stands z i p (aboutOf card) ≡ true → crowded ≡ false → clean card ≡ formed z i p crowded card
   unfolding formed
-  formed-on h = simp h
+  formed-on h k = simp (h, k)
 
-  pub formed-not : stands z i p (aboutOf (row i)) ≡ false → false ≡ formed z row i p
+  pub formed-not : stands z i p (aboutOf card) ≡ false → false ≡ formed z i p crowded card
   unfolding formed
   formed-not h = simp h
 
-  pub ranged-on : inRange (columnsOf z (row i)) (row i) 5 0 ≡ true → rises p key (aboutOf (row i)) (row i) ≡ ranged z row i p key
-  unfolding ranged
-  ranged-on h = simp h
+  pub formed-crowded : stands z i p (aboutOf card) ≡ true → crowded ≡ true → false ≡ formed z i p crowded card
+  unfolding formed
+  formed-crowded h k = simp (h, k)
 
-  pub ranged-not : inRange (columnsOf z (row i)) (row i) 5 0 ≡ false → false ≡ ranged z row i p key
+  pub ranged-on : inRange (columnsOf z card) card 5 0 ≡ true → ordered (aboutOf card) card ≡ true → rises p key (aboutOf card) card ≡ ranged z p key card
+  unfolding ranged
+  ranged-on h o = simp (h, o)
+
+  pub ranged-not : inRange (columnsOf z card) card 5 0 ≡ false → false ≡ ranged z p key card
   unfolding ranged
   ranged-not h = simp h
 
-  pub form-refused : formed z row i p ≡ false → Refused (Form (i + 1)) ≡ judgeCard z row i p key
-  unfolding judgeCard
+  pub ranged-unordered : inRange (columnsOf z card) card 5 0 ≡ true → ordered (aboutOf card) card ≡ false → false ≡ ranged z p key card
+  unfolding ranged
+  ranged-unordered h o = simp (h, o)
+
+  pub form-refused : formed z i p crowded card ≡ false → Refused (Form (i + 1)) ≡ judgeOne z i p key crowded card
+  unfolding judgeOne
   form-refused h = rw add-one (simp h)
 
-  pub range-refused : formed z row i p ≡ true → ranged z row i p key ≡ false → Refused (Range (i + 1)) ≡ judgeCard z row i p key
-  unfolding judgeCard
+  pub range-refused : formed z i p crowded card ≡ true → ranged z p key card ≡ false → Refused (Range (i + 1)) ≡ judgeOne z i p key crowded card
+  unfolding judgeOne
   range-refused h g = rw add-one (simp (h, g))
 
-  pub card-done : formed z row i p ≡ true → ranged z row i p key ≡ true → Done ≡ judgeCard z row i p key
-  unfolding judgeCard
+  pub card-done : formed z i p crowded card ≡ true → ranged z p key card ≡ true → Done ≡ judgeOne z i p key crowded card
+  unfolding judgeOne
   card-done h g = simp (h, g)
 
 -- cards in turn
@@ -93,23 +103,25 @@ module _ (z : Counts) (row : ℕ → List ℕ) (n i p key : ℕ) where
       let m : n - i ≡ 0 = omega arith in
       rw m
 
--- what a card, and the cards, are told by
-abbrev judgeOne : Counts → List ℕ → ℕ → ℕ → ℕ → Answer
-judgeOne z card = judgeCard z (λ (j : ℕ). card)
+-- what a card, and the cards, are told by: those up to it
+pub full-same : (f g : ℕ → List ℕ) (i : ℕ) (a : About) → getD (f (i - a .most)) 0 0 ≡ getD (g (i - a .most)) 0 0 → full f i a ≡ full g i a
+unfolding full
+full-same f g i a e = ap (λ (l : ℕ). leb (a .most) i && eqb l (a .letter)) e
 
-pub card-same : (z : Counts) (f g : ℕ → List ℕ) (i p key : ℕ) → f i ≡ g i → judgeCard z f i p key ≡ judgeCard z g i p key
-unfolding judgeCard formed ranged
-card-same z f g i p key e = ap (λ (c : List ℕ). judgeOne z c i p key) e
+pub card-same : (z : Counts) (f g : ℕ → List ℕ) (i p key : ℕ) → ((j : ℕ) → j ≤ i → f j ≡ g j) → judgeCard z f i p key ≡ judgeCard z g i p key
+card-same z f g i p key e =
+    ap (λ (b : Bool). judgeOne z i p key b (f i)) (full-same f g i (aboutOf (f i)) (ap (λ (c : List ℕ). getD c 0 0) (e (i - aboutOf (f i) .most) (omega arith))))
+    ∙ ap (λ (c : List ℕ). judgeOne z i p key (full g i (aboutOf c)) c) (e i (omega arith))
 
-pub judge-same : (z : Counts) (f g : ℕ → List ℕ) (n i p key : ℕ) → ((j : ℕ) → i ≤ j → j < i + n → f j ≡ g j) → judgeFrom z f n i p key ≡ judgeFrom z g n i p key
+pub judge-same : (z : Counts) (f g : ℕ → List ℕ) (n i p key : ℕ) → ((j : ℕ) → j < i + n → f j ≡ g j) → judgeFrom z f n i p key ≡ judgeFrom z g n i p key
 unfolding judgeFrom
 judge-same z f g zero i p key e = refl
 judge-same z f g (suc n) i p key e =
-    let r = judge-same z f g n (suc i) (orderOf (f i)) (rank (f i)) (λ j x y. e j (omega arith) (omega arith)) in
-    let h = e i (omega arith) (omega arith) in
+    let r = judge-same z f g n (suc i) (orderOf (f i)) (rank (f i)) (λ j x. e j (omega arith)) in
+    let h = e i (omega arith) in
     ap (andThen (judgeCard z f i p key)) r
     ∙ ap (λ (c : List ℕ). andThen (judgeCard z f i p key) (judgeFrom z g n (suc i) (orderOf c) (rank c))) h
-    ∙ ap (λ (a : Answer). andThen a (judgeFrom z g n (suc i) (orderOf (g i)) (rank (g i)))) (card-same z f g i p key h)
+    ∙ ap (λ (a : Answer). andThen a (judgeFrom z g n (suc i) (orderOf (g i)) (rank (g i)))) (card-same z f g i p key (λ j l. e j (omega arith)))
 
 -- a table of n cards and Z
 module _ (t : List ℕ) (n : ℕ) where

@@ -9,24 +9,24 @@ use lib.ListN.{getD}
 use borrow.Author.Tests.{eqb-true}
 use Rattle.paper.specs.Kinds.{about, letterOf, kindOf}
 use Rattle.paper.specs.declared.Kind.{Kind}
-use Rattle.paper.specs.declared.Kind.the-variants.{D, N, M, E, H, F, T, Z, Other}
+use Rattle.paper.specs.declared.Kind.the-variants.{D, N, M, E, H, F, G, T, Z, Other}
 
 -- ---- a letter by its kind
 
-named : (l : ℕ) (k rest : Kind) → (about rest .order < 8 → letterOf rest ≡ l) → about (cond (eqb l (letterOf k)) k rest) .order < 8 → letterOf (cond (eqb l (letterOf k)) k rest) ≡ l
+named : (l : ℕ) (k rest : Kind) → (about rest .order < 9 → letterOf rest ≡ l) → about (cond (eqb l (letterOf k)) k rest) .order < 9 → letterOf (cond (eqb l (letterOf k)) k rest) ≡ l
 named l k rest f h = go (eqb l (letterOf k)) refl h
   where
-    go : (b : Bool) → eqb l (letterOf k) ≡ b → about (cond b k rest) .order < 8 → letterOf (cond b k rest) ≡ l
+    go : (b : Bool) → eqb l (letterOf k) ≡ b → about (cond b k rest) .order < 9 → letterOf (cond b k rest) ≡ l
     go true e h = sym (eqb-true l (letterOf k) e)
     go false e h = f h
 
 -- THEOREM. Every letter but Other's is its kind's.
-pub known : (l : ℕ) → about (kindOf l) .order < 8 → letterOf (kindOf l) ≡ l
+pub known : (l : ℕ) → about (kindOf l) .order < 9 → letterOf (kindOf l) ≡ l
 unfolding kindOf about
 known l =
-    named l D _ (named l N _ (named l M _ (named l E _ (named l H _ (named l F _ (named l T _ (named l Z Other (λ h. absurd (omega arith)))))))))
+    named l D _ (named l N _ (named l M _ (named l E _ (named l H _ (named l F _ (named l G _ (named l T _ (named l Z Other (λ h. absurd (omega arith))))))))))
 
-pub letter-of : (l : ℕ) (k : Kind) → kindOf l ≡ k → about k .order < 8 → l ≡ letterOf k
+pub letter-of : (l : ℕ) (k : Kind) → kindOf l ≡ k → about k .order < 9 → l ≡ letterOf k
 letter-of l k e h = sym (known l (rw e h)) ∙ ap letterOf e
 
 pub kind-letter : (k : Kind) → kindOf (letterOf k) ≡ k
@@ -37,6 +37,7 @@ kind-letter M = refl
 kind-letter E = refl
 kind-letter H = refl
 kind-letter F = refl
+kind-letter G = refl
 kind-letter T = refl
 kind-letter Z = refl
 kind-letter Other = refl
@@ -54,6 +55,7 @@ node-kind M e = absurd (omega arith)
 node-kind E e = absurd (omega arith)
 node-kind H e = absurd (omega arith)
 node-kind F e = absurd (omega arith)
+node-kind G e = absurd (omega arith)
 node-kind T e = absurd (omega arith)
 node-kind Z e = absurd (omega arith)
 node-kind Other e = absurd (omega arith)
@@ -70,6 +72,7 @@ body-kind M e = absurd (omega arith)
 body-kind E e = flat refl
 body-kind H e = absurd (omega arith)
 body-kind F e = absurd (omega arith)
+body-kind G e = absurd (omega arith)
 body-kind T e = absurd (omega arith)
 body-kind Z e = absurd (omega arith)
 body-kind Other e = absurd (omega arith)
@@ -87,6 +90,7 @@ replaced-section M h = absurd (omega arith)
 replaced-section E h = (omega arith, omega arith)
 replaced-section H h = (omega arith, omega arith)
 replaced-section F h = (omega arith, omega arith)
+replaced-section G h = (omega arith, omega arith)
 replaced-section T h = (omega arith, omega arith)
 replaced-section Z h = absurd (omega arith)
 replaced-section Other h = absurd (omega arith)
@@ -100,9 +104,24 @@ rising-section M h = absurd (omega arith)
 rising-section E h = absurd (omega arith)
 rising-section H h = refl
 rising-section F h = refl
+rising-section G h = refl
 rising-section T h = refl
 rising-section Z h = absurd (omega arith)
 rising-section Other h = absurd (omega arith)
+
+-- THEOREM. What a kind rises by, a replacement keeps.
+pub keys-kept : (k : Kind) → 1 ≤ about k .keys → about k .keys ≤ about k .keeps
+unfolding about
+keys-kept D h = omega arith
+keys-kept N h = omega arith
+keys-kept M h = omega arith
+keys-kept E h = omega arith
+keys-kept H h = omega arith
+keys-kept F h = omega arith
+keys-kept G h = omega arith
+keys-kept T h = omega arith
+keys-kept Z h = omega arith
+keys-kept Other h = omega arith
 
 -- what stands first, and what stands among the materials
 pub first-kind : (k : Kind) → about k .section ≡ 0 → k ≡ D
@@ -113,6 +132,7 @@ first-kind M e = absurd (omega arith)
 first-kind E e = absurd (omega arith)
 first-kind H e = absurd (omega arith)
 first-kind F e = absurd (omega arith)
+first-kind G e = absurd (omega arith)
 first-kind T e = absurd (omega arith)
 first-kind Z e = absurd (omega arith)
 first-kind Other e = absurd (omega arith)
@@ -125,6 +145,7 @@ material-kind M e = refl
 material-kind E e = absurd (omega arith)
 material-kind H e = absurd (omega arith)
 material-kind F e = absurd (omega arith)
+material-kind G e = absurd (omega arith)
 material-kind T e = absurd (omega arith)
 material-kind Z e = absurd (omega arith)
 material-kind Other e = absurd (omega arith)
@@ -132,7 +153,7 @@ material-kind Other e = absurd (omega arith)
 -- ---- a kind by its order
 
 abbrev inOrder : List Kind
-inOrder = D ∷ N ∷ M ∷ E ∷ H ∷ F ∷ T ∷ Z ∷ Other ∷ []
+inOrder = D ∷ N ∷ M ∷ E ∷ H ∷ F ∷ G ∷ T ∷ Z ∷ Other ∷ []
 
 by-order : (k : Kind) → getD inOrder (about k .order) Other ≡ k
 unfolding about
@@ -142,6 +163,7 @@ by-order M = refl
 by-order E = refl
 by-order H = refl
 by-order F = refl
+by-order G = refl
 by-order T = refl
 by-order Z = refl
 by-order Other = refl

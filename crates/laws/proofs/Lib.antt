@@ -10,6 +10,7 @@ pub mod Square
 pub mod Joined
 pub mod Spans
 pub mod Sizes
+pub mod Edge
 pub mod Places
 pub mod Fields
 pub mod CardText

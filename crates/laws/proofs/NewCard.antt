@@ -1,25 +1,27 @@
 -- What refusals 3, 13 and 4 of a new card tell, and that the deck with it in its place is accepted as well.
 use mathlib.Core.Path.{_≡_, refl, sym, ap, subst, _∙_}
-use mathlib.Core.Bool.{true, not, _&&_, _||_}
+use mathlib.Core.Bool.{Bool, true, false, not, _&&_, _||_}
 use mathlib.Core.List.{List}
-use Prim.Native.Nat.{ℕ, zero, suc, _+_, _-_, _≤_, _<_}
+use Prim.Native.Nat.{ℕ, zero, suc, _+_, _-_, _*_, _≤_, _<_}
 use native.Mathlib.Decide.{ℕ-discrete}
 use native.Mathlib.Omega.{arith}
 use borrow.Author.Tests.{leb-true, eqb-true}
 use lib.Dec.{eqb, leb, ltb}
 use lib.ListN.{length, getD}
 use Rattle.whole.proofs.Tests.{and-told}
-use Rattle.paper.specs.Kinds.{about, kindOf, kindAt}
-use Rattle.paper.specs.Cards.{columnsOf, inRange, agree, orderOf, rank, countsAt, rowAt, field, rows, put}
-use Rattle.paper.specs.Judge.{clean, stands, rises, judged, answers, newJudged}
+use Rattle.paper.specs.Kinds.{about, kindOf, kindAt, edge}
+use Rattle.paper.specs.Cards.{columnsOf, inRange, agree, orderOf, ranked, rank, countsAt, rowAt, field, rows, put}
+use Rattle.paper.specs.Judge.{clean, stands, rises, ordered, full, judged, answers, newJudged}
 use Rattle.paper.specs.declared.Answer.the-variants.{Done}
 use Rattle.paper.specs.declared.Refusal.the-variants.{Form, Range, Replacement}
 use Rattle.paper.specs.declared.Kind.{Kind}
-use Rattle.paper.specs.declared.Kind.the-variants.{D, N, M, E, H, F, T, Z, Other}
+use Rattle.paper.specs.declared.Kind.the-variants.{D, N, M, E, H, F, G, T, Z, Other}
 use Rattle.laws.proofs.Outcomes.{cond-done}
+use Rattle.laws.proofs.Letters.{keys-kept}
 use Rattle.laws.proofs.Tables.{row-field, length-put, row-here}
 use Rattle.laws.proofs.Decks.{kindIn, Deck, Change}
-use Rattle.laws.proofs.Kept.{room, other-row, last-row, counts-same, letter-same, key-same}
+use Rattle.laws.proofs.Kept.{room, other-row, last-row, counts-same, letter-same, key-same, kind-keeps}
+use Rattle.laws.proofs.Judging.{full-same}
 use Rattle.laws.proofs.Judged.{orderBefore, rankBefore, passes, passed, passing, top-told, top-done, deck}
 
 pub agree-each : (x y : List ℕ) (n k : ℕ) → agree x y n ≡ true → k < n → getD x k 0 ≡ getD y k 0
@@ -65,6 +67,7 @@ keeps-few M = omega arith
 keeps-few E = omega arith
 keeps-few H = omega arith
 keeps-few F = omega arith
+keeps-few G = omega arith
 keeps-few T = omega arith
 keeps-few Z = omega arith
 keeps-few Other = omega arith
@@ -103,8 +106,42 @@ module _ (t : List ℕ) (card : ℕ) (new : List ℕ) (six : length new ≡ 6) (
   kinds-same : (r : ℕ) → kindAt (rowAt t′ r) ≡ kindAt (rowAt t r)
   kinds-same r = ap kindOf (row-field t′ r 0 (omega arith) ∙ letter-same t c new dk change r ∙ sym (row-field t r 0 (omega arith)))
 
+  field-same : (r k : ℕ) → k < 6 → field t′ r k ≡ field t r k → getD (rowAt t′ r) k 0 ≡ getD (rowAt t r) k 0
+  field-same r k h e = row-field t′ r k h ∙ e ∙ sym (row-field t r k h)
+
+  first-same : (r : ℕ) → getD (rowAt t′ r) 1 0 ≡ getD (rowAt t r) 1 0
+  first-same r = field-same r 1 (omega arith) (key-same t c new dk change r)
+
+  -- of an edge, the second node too
+  second-same : (r : ℕ) → edge (about (kindAt (rowAt t r))) ≡ true → getD (rowAt t′ r) 2 0 ≡ getD (rowAt t r) 2 0
+  second-same r e =
+      let q = eqb-true (about (kindAt (rowAt t r)) .keys) 2 e in
+      let k = kindAt (rowAt t r) in
+      field-same r 2 (omega arith)
+      (kind-keeps t c new dk change r 2 k (sym (ap kindOf (row-field t r 0 (omega arith)))) (omega arith) (omega (arith, keys-kept k (omega arith))))
+
   rank-same : (r : ℕ) → rank (rowAt t′ r) ≡ rank (rowAt t r)
-  rank-same r = row-field t′ r 1 (omega arith) ∙ key-same t c new dk change r ∙ sym (row-field t r 1 (omega arith))
+  unfolding ranked
+  rank-same r = ap (λ (k : Kind). ranked (about k) (rowAt t′ r)) (kinds-same r) ∙ by-edge _ refl
+    where
+      by-edge : (b : Bool) → edge (about (kindAt (rowAt t r))) ≡ b → ranked (about (kindAt (rowAt t r))) (rowAt t′ r) ≡ rank (rowAt t r)
+      by-edge true e = rw e (λ j. 128 * first-same r j + second-same r e j)
+      by-edge false e = rw e (first-same r)
+
+  ordered-same : (r : ℕ) → ordered (about (kindAt (rowAt t′ r))) (rowAt t′ r) ≡ ordered (about (kindAt (rowAt t r))) (rowAt t r)
+  unfolding ordered
+  ordered-same r = ap (λ (k : Kind). ordered (about k) (rowAt t′ r)) (kinds-same r) ∙ by-edge _ refl
+    where
+      by-edge : (b : Bool) → edge (about (kindAt (rowAt t r))) ≡ b
+          → ordered (about (kindAt (rowAt t r))) (rowAt t′ r) ≡ ordered (about (kindAt (rowAt t r))) (rowAt t r)
+      by-edge true e = rw e (λ j. ltb (first-same r j) (second-same r e j))
+      by-edge false e = rw e
+
+  crowd-same : (r : ℕ) → full (rowAt t′) r (about (kindAt (rowAt t′ r))) ≡ full (rowAt t) r (about (kindAt (rowAt t r)))
+  crowd-same r =
+      let a = about (kindAt (rowAt t r)) in
+      ap (λ (k : Kind). full (rowAt t′) r (about k)) (kinds-same r)
+      ∙ full-same (rowAt t′) (rowAt t) r a (field-same (r - a .most) 0 (omega arith) (letter-same t c new dk change (r - a .most)))
 
   order-before : (r : ℕ) → orderBefore (rowAt t′) r ≡ orderBefore (rowAt t) r
   order-before zero = refl
@@ -136,8 +173,10 @@ module _ (t : List ℕ) (card : ℕ) (new : List ℕ) (six : length new ≡ 6) (
       passing z (rowAt t′) r _ _
       (record {
         place = (λ j. stands z r (order-before r j) (about (kinds-same r j))) ∙ q .place;
+        spare = crowd-same r ∙ q .spare;
         clear = alone r i (λ x. clean x ≡ true) (ac .clear) (q .clear);
         range = alone r i (λ x. inRange (columnsOf z x) x 5 0 ≡ true) (ac .range) (q .range);
+        order = ordered-same r ∙ q .order;
         rise = rises-same r ∙ q .rise;
       })
 

@@ -15,7 +15,7 @@ use Rattle.paper.specs.Judge.{stands, clean, judgeCard, trailer}
 use Rattle.paper.specs.declared.Answer.the-variants.{Done}
 use Rattle.paper.specs.declared.Counts.{Counts}
 use Rattle.paper.specs.declared.Kind.{Kind}
-use Rattle.paper.specs.declared.Kind.the-variants.{D, N, M, E, H, F, T, Z, Other}
+use Rattle.paper.specs.declared.Kind.the-variants.{D, N, M, E, H, F, G, T, Z, Other}
 use Rattle.laws.proofs.Judged.{passed, stands-told, range-each}
 use Rattle.laws.proofs.CardText.{Printable}
 use Rattle.laws.proofs.Reading.{trailer-told}
@@ -30,6 +30,7 @@ other-of M e = absurd (omega arith)
 other-of E e = absurd (omega arith)
 other-of H e = absurd (omega arith)
 other-of F e = absurd (omega arith)
+other-of G e = absurd (omega arith)
 other-of T e = absurd (omega arith)
 other-of Z e = absurd (omega arith)
 other-of Other e = refl
@@ -59,6 +60,7 @@ all-small z h M = (omega arith, (omega arith, (omega arith, tt)))
 all-small z h E = (omega arith, (omega arith, (omega arith, (omega arith, (omega arith, tt)))))
 all-small z h H = (omega arith, (omega arith, tt))
 all-small z h F = (omega arith, (omega arith, (omega arith, tt)))
+all-small z h G = (omega arith, (omega arith, (omega arith, (omega arith, (omega arith, tt)))))
 all-small z h T = (omega arith, (omega arith, tt))
 all-small z h Z = (omega arith, (omega arith, (omega arith, (omega arith, (omega arith, tt)))))
 all-small z h Other = tt

@@ -22,7 +22,7 @@ use Rattle.paper.specs.Replacing.{formOf, moved, firstRow, redone, stirs}
 use Rattle.paper.specs.declared.Answer.{Answer}
 use Rattle.paper.specs.declared.Answer.the-variants.{Done}
 use Rattle.paper.specs.declared.Kind.{Kind}
-use Rattle.paper.specs.declared.Kind.the-variants.{D, N, M, E, H, F, T, Z, Other}
+use Rattle.paper.specs.declared.Kind.the-variants.{D, N, M, E, H, F, G, T, Z, Other}
 use Rattle.laws.proofs.Letters.{Body, flat, body-section}
 use Rattle.laws.proofs.Decks.{In, kindIn, Deck, Change}
 use Rattle.laws.proofs.Spans.{is-body, in-bodies, names-F, part-corners}
@@ -31,7 +31,7 @@ use Rattle.laws.proofs.Update.{update}
 use Rattle.laws.proofs.InTurn.{elements-each, elements-all, elements-one}
 use Rattle.laws.proofs.Built.{A′, Own}
 use Rattle.laws.proofs.Kept.{nodes-same, elements-same}
-use Rattle.laws.proofs.Changed.{still-idle, corners-here, P-moved, A-moved, fixed-same, judged-same, new-name, form-load}
+use Rattle.laws.proofs.Changed.{still-idle, corners-here, P-moved, A-moved, fixed-same, judged-same, new-name, form-edge, form-named, form-load}
 
 -- a build, its two counts given
 abbrev buildAt : List ℕ → ℕ → ℕ → Outcome Slices
@@ -85,12 +85,15 @@ module _ (t : List ℕ) (c : ℕ) (card : List ℕ) (d : Deck t) (g : Change t c
     form-by D e q = never q
     form-by N e q = never q
     form-by M e q = never q
-    form-by E e q = form-body (flat e)
+    form-by E e q = form-body (flat e) ∙ sym (form-named t c card d g (rw e))
     form-by H e q = never q
     form-by F e q =
         let h = names-F t d c (g .inside) e in
         let far : (Body (kindIn t c) → ⊥) = λ z. omega (arith, body-section (kindIn t c) z, ap (λ (k : Kind). about k .section) e) in
-        form-all far ∙ sym (form-load t c card d g (rw e) h ∙ elements-each t (elements t) 1 (field t c 1) (o .passed) (h .0) (omega (arith, h .1)))
+        form-all far ∙ sym (form-load t c card d g (rw e) (rw e) h ∙ elements-each t (elements t) 1 (field t c 1) (o .passed) (h .0) (omega (arith, h .1)))
+    form-by G e q =
+        let far : (Body (kindIn t c) → ⊥) = λ z. omega (arith, body-section (kindIn t c) z, ap (λ (k : Kind). about k .section) e) in
+        form-all far ∙ sym (form-edge t c card d g (rw e))
     form-by T e q = never q
     form-by Z e q = never q
     form-by Other e q = never q

@@ -115,7 +115,7 @@ module _ (t notes : List ℕ) (room : ℕ) (h : judged t ≡ Done) (fit : length
       let zt = trailer-told z (c .trails) in
       let within : getD (lastCard after) 1 0 ≤ length after - 42 =
       subst (λ (s : List ℕ). getD s 1 0 ≤ length after - 42) (sym last-after) (omega (arith, length-after, c .some, c .count, zt .back)) in
-      let judges = judge-same (countsOf z) (cardAt after (length notes)) (rowAt t) n 0 0 0 (λ i x y. card-after i (omega arith)) ∙ judges-on t n c in
+      let judges = judge-same (countsOf z) (cardAt after (length notes)) (rowAt t) n 0 0 0 (λ i x. card-after i (omega arith)) ∙ judges-on t n c in
       sym (reads-on after room (omega (arith, length-after, c .some)) (omega (arith, length-after)) (ap trailer last-after ∙ c .trails) within)
       ∙ ap (λ (s : List ℕ). readsFrom after room (countsOf s) (startOf after s) (cards (countsOf s))) last-after
       ∙ ap (λ (k : ℕ). readsFrom after room (countsOf z) k (cards (countsOf z))) start-after ∙ ap (readsFrom after room (countsOf z) (length notes)) (c .count)
@@ -224,7 +224,7 @@ module _ (b : List ℕ) (room : ℕ) (h : reads b room ≡ Done) where
       let z = trailer-told (lastCard b) (a .trails) in
       let some = one-card (countsOf (lastCard b)) in
       let e : rows t - 1 ≡ count = omega (arith, rows-are) in
-      let js = judge-same (countsOf (lastCard b)) (rowAt t) (cardAt b start) count 0 0 0 (λ j x y. table-row j (omega arith)) ∙ a .judges in
+      let js = judge-same (countsOf (lastCard b)) (rowAt t) (cardAt b start) count 0 0 0 (λ j x. table-row j (omega arith)) ∙ a .judges in
       let jr = rows-cards t count (ap trailer last-row ∙ a .trails) (ap (λ (c : List ℕ). getD c 1 0) last-row ∙ z .back) in
       let at : countsAt t ≡ countsOf (lastCard b) = ap (λ (k : ℕ). countsOf (rowAt t k)) e ∙ ap countsOf last-row in
       sym (judged-rows t (omega (arith, length-table b)) (omega (arith, length-table b)) (omega (arith, length-table b, z .few))) ∙ ap (judgeRows t) e

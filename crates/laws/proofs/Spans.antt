@@ -5,21 +5,21 @@ use mathlib.Core.List.{List, [], _∷_}
 use Prim.Native.Nat.{ℕ, zero, suc, _+_, _-_, _≤_, _<_}
 use native.Mathlib.Decide.{decLt}
 use native.Mathlib.Omega.{arith}
-use borrow.Author.Tests.{leb-true}
+use borrow.Author.Tests.{leb-true, ne-eqb}
 use lib.Dec.{leb}
 use lib.ListN.{length, getD}
 use Rattle.whole.specs.Sums.{sumN}
 use Rattle.whole.proofs.Tests.{and-told}
 use Rattle.whole.proofs.Sums.{sumN-upto}
-use Rattle.paper.specs.Kinds.{about, kindOf}
-use Rattle.paper.specs.Cards.{Column, _⋯_, within, sections, before, columns, field, letter, rows, nodes, materials, elements, materialRow, elementRow, rowAt, countsOf, countsAt, stepOf}
+use Rattle.paper.specs.Kinds.{about, kindOf, kindAt}
+use Rattle.paper.specs.Cards.{Column, _⋯_, within, sections, before, columns, ranked, rank, field, letter, rows, nodes, materials, elements, materialRow, elementRow, rowAt, countsOf, countsAt, stepOf}
 use Rattle.paper.specs.Ticks.{top}
 use Rattle.paper.specs.Corners.{Shape, shapeOf}
 use Rattle.paper.specs.Elements.{bodyOf, elementOf, elementAt}
 use Rattle.paper.specs.Parts.{namedShape, partOf, partAt}
 use Rattle.paper.specs.declared.Counts.{Counts}
 use Rattle.paper.specs.declared.Kind.{Kind}
-use Rattle.paper.specs.declared.Kind.the-variants.{D, N, M, E, H, F, T, Z, Other}
+use Rattle.paper.specs.declared.Kind.the-variants.{D, N, M, E, H, F, G, T, Z, Other}
 use Rattle.laws.proofs.Letters.{first-kind, node-kind, material-kind, Body, flat, body-kind, body-section, rising-section}
 use Rattle.laws.proofs.Tables.{row-field}
 use Rattle.laws.proofs.Decks.{In, kindIn, loads, Within, Deck}
@@ -133,13 +133,23 @@ module _ (t : List ℕ) (d : Deck t) where
   pub body-inner : (row : ℕ) → row < rows t → Body (kindIn t row) → suc row < rows t
   body-inner row h b = omega (arith, in-bodies row h (body-section (kindIn t row) b), d .all)
 
-  -- THEOREM. Two cards of a kind that rises have two keys.
-  pub once : (r s : ℕ) → r < rows t → s < rows t → 1 ≤ about (kindIn t r) .keys → letter t r ≡ letter t s → field t r 1 ≡ field t s 1 → r ≡ s
+  -- of a kind that rises by one key, the rank is the key
+  key-rank : (r : ℕ) → about (kindIn t r) .keys ≡ 1 → rank (rowAt t r) ≡ field t r 1
+  unfolding ranked
+  key-rank r k =
+      let n : kindAt (rowAt t r) ≡ kindIn t r = ap kindOf (row-field t r 0 (omega arith)) in
+      rw (ne-eqb (about (kindAt (rowAt t r)) .keys) 2 (λ q. omega (arith, ap (λ (x : Kind). about x .keys) n))) (row-field t r 1 (omega arith))
+
+  -- THEOREM. Two cards of a kind that rises by one key have two keys.
+  pub once : (r s : ℕ) → r < rows t → s < rows t → about (kindIn t r) .keys ≡ 1 → letter t r ≡ letter t s → field t r 1 ≡ field t s 1 → r ≡ s
   once r s hr hs k e f = go (decLt r s) (decLt s r)
     where
+      k′ : about (kindIn t s) .keys ≡ 1
+      k′ = ap (λ (x : ℕ). about (kindOf x) .keys) (sym e) ∙ k
+
       go : Dec (r < s) → Dec (s < r) → r ≡ s
-      go (yes l) m = absurd (omega (arith, d .rising r s l hs k e))
-      go (no l) (yes m) = absurd (omega (arith, d .rising s r m hr (subst (λ (x : ℕ). 1 ≤ about (kindOf x) .keys) e k) (sym e)))
+      go (yes l) m = absurd (omega (arith, d .rising r s l hs (omega arith) e, key-rank r k, key-rank s k′))
+      go (no l) (yes m) = absurd (omega (arith, d .rising s r m hr (omega (arith, k′)) (sym e), key-rank r k, key-rank s k′))
       go (no l) (no m) =
           let l′ : r < s → ⊥ = l in
           let m′ : s < r → ⊥ = m in
@@ -242,6 +252,29 @@ module _ (t : List ℕ) (d : Deck t) where
     unfolding columns about
     ambient-in e = field-in t row 2 F d (load-inner (rw e)) e (omega arith)
 
+    -- an edge's nodes and values
+    pub ends-G : kindIn t row ≡ G → Inside (nodes t) (field t row 1 ∷ field t row 2 ∷ [])
+    unfolding columns about
+    ends-G e =
+        let inner = load-inner (rw e) in
+        (rw (← nodes-are t) (field-in t row 0 G d inner e (omega arith)), (rw (← nodes-are t) (field-in t row 1 G d inner e (omega arith)), tt))
+
+    pub lower-first : kindIn t row ≡ G → field t row 1 < field t row 2
+    unfolding about
+    lower-first e = d .lower row h (rw e)
+
+    pub edge-film-in : kindIn t row ≡ G → In 1 100000 (field t row 3)
+    unfolding columns about
+    edge-film-in e = field-in t row 2 G d (load-inner (rw e)) e (omega arith)
+
+    pub edge-ambient-in : kindIn t row ≡ G → In 0 top (field t row 4)
+    unfolding columns about
+    edge-ambient-in e = field-in t row 3 G d (load-inner (rw e)) e (omega arith)
+
+    pub edge-thickness-in : kindIn t row ≡ G → In 1 4000 (field t row 5)
+    unfolding columns about
+    edge-thickness-in e = field-in t row 4 G d (load-inner (rw e)) e (omega arith)
+
     pub names-T : kindIn t row ≡ T → In 1 (nodes t) (field t row 1)
     unfolding columns about
     names-T e = rw (← nodes-are t) (field-in t row 0 T d (load-inner (rw e)) e (omega arith))
@@ -276,6 +309,7 @@ module _ (t : List ℕ) (d : Deck t) where
   corners-by row E h e = rw (element-corners t row) (body-corners t d row h (flat e))
   corners-by row H h e = named-at row (names-H t d row h e)
   corners-by row F h e = named-at row (names-F t d row h e)
+  corners-by row G h e = rw (row-field t row 1 (omega arith), row-field t row 2 (omega arith)) (ends-G t d row h e)
   corners-by row T h e = tt
   corners-by row Z h e = tt
   corners-by row Other h e = tt

@@ -19,7 +19,7 @@ use Rattle.paper.specs.Elements.{Element, bodyOf, elementOf}
 use Rattle.paper.specs.Parts.{Part, nothing, nowhere, bulk, partOf, partAt}
 use Rattle.paper.specs.Matrices.{addsP, addsA, P, A}
 use Rattle.paper.specs.declared.Kind.{Kind}
-use Rattle.paper.specs.declared.Kind.the-variants.{D, N, M, E, H, F, T, Z, Other}
+use Rattle.paper.specs.declared.Kind.the-variants.{D, N, M, E, H, F, G, T, Z, Other}
 
 -- ---- a square over n corners
 
@@ -100,6 +100,7 @@ card-sound t card M = plain nothing refl
 card-sound t card E = bulk-sound (elementOf t card) (between-symmetric t card)
 card-sound t card H = plain (partOf t card H) refl
 card-sound t card F = plain (partOf t card F) refl
+card-sound t card G = plain (partOf t card G) refl
 card-sound t card T = plain nothing refl
 card-sound t card Z = plain nothing refl
 card-sound t card Other = plain nothing refl

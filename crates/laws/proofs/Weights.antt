@@ -18,19 +18,21 @@ use Rattle.paper.specs.Kinds.{about, bodies}
 use Rattle.paper.specs.Cards.{field, rowAt, rows, nodes, materials, elements, elementRow}
 use Rattle.paper.specs.Corners.{Shape, shapeOf, from, area, mass, spread}
 use Rattle.paper.specs.Triangle.{S, faceFilm}
+use Rattle.paper.specs.Edge.{edgeFilm}
 use Rattle.paper.specs.Elements.{bodyOf, elementOf, elementAt}
-use Rattle.paper.specs.Parts.{Part, nothing, bulk, filmed, loaded, namedShape, partOf, partAt}
+use Rattle.paper.specs.Parts.{Part, nothing, bulk, filmed, loaded, namedShape, edgeShape, partOf, partAt}
 use Rattle.paper.specs.Matrices.{addsP, addsA}
 use Rattle.paper.specs.Building.{elementsFrom}
 use Rattle.paper.specs.declared.Answer.the-variants.{Done}
 use Rattle.paper.specs.declared.Kind.{Kind}
-use Rattle.paper.specs.declared.Kind.the-variants.{D, N, M, E, H, F, T, Z, Other}
+use Rattle.paper.specs.declared.Kind.the-variants.{D, N, M, E, H, F, G, T, Z, Other}
 use Rattle.laws.proofs.Letters.{Body, flat}
 use Rattle.laws.proofs.Tables.{row-field}
 use Rattle.laws.proofs.Decks.{In, kindIn, Deck}
 use Rattle.laws.proofs.Spans.{cornersAt, coordinate, body-corners, is-body, in-bodies, names-F, film-in, element-shape}
 use Rattle.laws.proofs.Sizes.{Distinct, spread-row, mass-row, square-row}
 use Rattle.laws.proofs.Places.{squareP, squareA}
+use Rattle.laws.proofs.Edge.{g-small}
 use Rattle.laws.proofs.Elements.{distinct, Formed, sound, between-small, part-distinct}
 
 -- ---- what a part weighs: a full row of what it adds to P, and to A; and each number of its squares
@@ -143,6 +145,10 @@ three-times : (c : ℕ) → sumN 3 (λ b. c) ≡ c + c + c
 unfolding sumN
 three-times c = omega arith
 
+two-times : (c : ℕ) → sumN 2 (λ b. c) ≡ c + c
+unfolding sumN
+two-times c = omega arith
+
 -- over a face
 product : (a b c d : ℤ) → natAbs a ≤ 4095 → natAbs b ≤ 4095 → natAbs c ≤ 4095 → natAbs d ≤ 4095 → natAbs (a *ℤ b -ℤ c *ℤ d) ≤ 33538050
 product a b c d ha hb hc hd =
@@ -206,6 +212,16 @@ module _ (t : List ℕ) (d : Deck t) (pass : elementsFrom (elements t) 1 t ≡ D
       three-corners : (r : ℕ) → length (elementAt t r .shape .corners) ≤ 3
       three-corners r = unfold elementOf in unfold bodyOf in unfold shapeOf in omega arith
 
+  weighs-G : (row : ℕ) → row < rows t → kindIn t row ≡ G → Weighs (partOf t (rowAt t row) G) 1400000
+  unfolding partOf shapeOf
+  weighs-G row h e =
+      let card = rowAt t row in
+      let s = edgeShape t card in
+      let w = edgeFilm (getD card 3 0) (getD card 5 0) s in
+      weighs-more _ _ 1400000
+      (filmed-weighs (s .corners) w (getD card 4 0) 2 (subst (λ (k : Kind). Distinct (partOf t card k .corners)) e (part-distinct t d pass row h)) (omega arith))
+      (omega (arith, two-times w, g-small (getD card 3 0) (getD card 5 0) s))
+
   weighs-by : (row : ℕ) (kind : Kind) → row < rows t → kindIn t row ≡ kind → Weighs (partOf t (rowAt t row) kind) (most kind)
   unfolding partOf about
   weighs-by row D h e = weighs-none [] _ _
@@ -214,6 +230,7 @@ module _ (t : List ℕ) (d : Deck t) (pass : elementsFrom (elements t) 1 t ≡ D
   weighs-by row E h e = weighs-more _ _ _ (bulk-weighs t (rowAt t row) (sound t row d pass h (flat e))) (omega arith)
   weighs-by row H h e = weighs-none _ _ _
   weighs-by row F h e = weighs-F row h e
+  weighs-by row G h e = weighs-G row h e
   weighs-by row T h e = weighs-none [] _ _
   weighs-by row Z h e = weighs-none [] _ _
   weighs-by row Other h e = weighs-none [] _ _

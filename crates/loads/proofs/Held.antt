@@ -101,9 +101,9 @@ module _ {t : List ℕ} (d : Deck t) where
   unfolding about
   outside i row l n = ap (λ (b : Bool). b && eqb (field t row 1) (suc i)) (ne-eqb (letter t row) (letterOf T) (λ e. n (in-loads t d row l (ap (λ (k : Kind). about k .section) (kind-T row e)))))
 
-  rises-T : (k : ℕ) → letter t k ≡ letterOf T → 1 ≤ about (kindIn t k) .keys
+  one-key : (k : ℕ) → letter t k ≡ letterOf T → about (kindIn t k) .keys ≡ 1
   unfolding about
-  rises-T k e = rw (kind-T k e) (omega arith)
+  one-key k e = ap (λ (x : Kind). about x .keys) (kind-T k e)
 
   -- one T card names a node: if this one does, none before it did
   alone : (i row : ℕ) → row < rows t → fixes t i row ≡ true → (k : ℕ) → k < row → fixes t i k ≡ false
@@ -114,7 +114,7 @@ module _ {t : List ℕ} (d : Deck t) where
       go true p =
           let (a, x) = fixes-told i k p in
           let (b, y) = fixes-told i row e in
-          absurd (let z = once t d k row (omega arith) h (rises-T k a) (a ∙ sym b) (x ∙ sym y) in omega arith)
+          absurd (let z = once t d k row (omega arith) h (one-key k a) (a ∙ sym b) (x ∙ sym y) in omega arith)
 
   step : (i row : ℕ) → row < rows t → cond (fixes t i row) (pos (field t row 2)) (heldBy t row i) ≡ heldBy t (row + 1) i
   step i row h = go (fixes t i row) refl
@@ -178,7 +178,7 @@ held-once t d i =
     only a b l m p q =
         let (x, u) = fixes-told d i a p in
         let (y, w) = fixes-told d i b q in
-        once t d a b l m (rises-T d a x) (x ∙ sym y) (u ∙ sym w)
+        once t d a b l m (one-key d a x) (x ∙ sym y) (u ∙ sym w)
 
 pub held-size : (t : List ℕ) → Deck t → (i : ℕ) → natAbs (held t i) ≤ 2 ^ 25
 unfolding held

@@ -16,14 +16,16 @@ use Rattle.paper.specs.Kinds.{about, kindOf, kindAt}
 use Rattle.paper.specs.Cards.{field, letter, rowAt, rows, nodes, materials, elements, elementRow, before, countsAt}
 use Rattle.paper.specs.Corners.{Shape, shapeOf, share}
 use Rattle.paper.specs.Triangle.{faceFilm}
+use Rattle.paper.specs.Edge.{edgeFilm}
 use Rattle.paper.specs.Elements.{bodyOf, elementOf, elementAt}
-use Rattle.paper.specs.Parts.{Part, heatShare, namedShape, partOf, partFor, partAt}
+use Rattle.paper.specs.Parts.{Part, heatShare, namedShape, edgeShape, partOf, partFor, partAt}
 use Rattle.paper.specs.Matrices.{addsLoad, loadOf}
 use Rattle.paper.specs.declared.Kind.{Kind}
-use Rattle.paper.specs.declared.Kind.the-variants.{D, N, M, E, H, F, T, Z, Other}
+use Rattle.paper.specs.declared.Kind.the-variants.{D, N, M, E, H, F, G, T, Z, Other}
 use Rattle.laws.proofs.Decks.{In, kindIn, Deck}
 use Rattle.laws.proofs.Tables.{row-field}
-use Rattle.laws.proofs.Spans.{Inside, part-corners, heat-in, film-in, ambient-in, names-H, names-F, in-loads}
+use Rattle.laws.proofs.Spans.{Inside, part-corners, heat-in, film-in, ambient-in, edge-ambient-in, names-H, names-F, in-loads}
+use Rattle.laws.proofs.Edge.{g-small}
 use Rattle.laws.proofs.Weights.{S-size, face-size, named-on-sheet}
 use Rattle.part.specs.Asks.{Card}
 use Rattle.part.proofs.Parts.{card-at}
@@ -31,27 +33,31 @@ use Rattle.loads.specs.Asks.{AtRow, Room, Spread}
 
 -- ---- sizes
 
-heat-size : (heat : ℕ) → heat ≤ 5000000 → 65536 * heat / 3 ≤ 2 ^ 46
+-- the largest film's row over a face, at the top of the scale
+abbrev heaviest : ℕ
+heaviest = 4 * 349500 * 33554432
+
+heat-size : (heat : ℕ) → heat ≤ 5000000 → 65536 * heat / 3 ≤ heaviest
 heat-size heat h = omega arith
 
-film-size : (w ambient : ℕ) → w ≤ 349500 → ambient ≤ top → 4 * w * ambient ≤ 2 ^ 46
-film-size w ambient h k =
-    let a : 4 * w ≤ 1398000 = omega arith in
+film-size : (n w ambient : ℕ) → n ≤ 3 → w ≤ 349500 → ambient ≤ top → (1 + n) * w * ambient ≤ heaviest
+film-size n w ambient l h k =
+    let a : (1 + n) * w ≤ 1398000 = mul-le-mul {n₂ = 4} {m₂ = 349500} (omega arith) h in
     omega (arith, mul-le-mul {n₂ = 1398000} {m₂ = 33554432} a k)
 
-share-size : (ns : List ℕ) (q : ℕ → ℤ) (i : ℕ) → length ns ≤ 3 → ((a : ℕ) → natAbs (q a) ≤ 2 ^ 46) → natAbs (share ns q i) ≤ 3 * 2 ^ 46
+share-size : (ns : List ℕ) (q : ℕ → ℤ) (i : ℕ) → length ns ≤ 3 → ((a : ℕ) → natAbs (q a) ≤ heaviest) → natAbs (share ns q i) ≤ 3 * heaviest
 unfolding share
 share-size ns q i few h =
-    omega (arith, sum-size-each (length ns) (λ a. cond (eqb (getD ns a 0) (suc i)) (q a) (pos 0)) (2 ^ 46) (λ a l. one (eqb (getD ns a 0) (suc i)) a), few)
+    omega (arith, sum-size-each (length ns) (λ a. cond (eqb (getD ns a 0) (suc i)) (q a) (pos 0)) heaviest (λ a l. one (eqb (getD ns a 0) (suc i)) a), few)
   where
-    one : (b : Bool) (a : ℕ) → natAbs (cond b (q a) (pos 0)) ≤ 2 ^ 46
+    one : (b : Bool) (a : ℕ) → natAbs (cond b (q a) (pos 0)) ≤ heaviest
     one true a = h a
     one false a = omega arith
 
 -- what a part weighs on its corners
 pub record Light (x : Part) : Type 0 where
   pub few : length (x .corners) ≤ 3
-  pub each : (a : ℕ) → natAbs (x .load a) ≤ 2 ^ 46
+  pub each : (a : ℕ) → natAbs (x .load a) ≤ heaviest
 
 module _ {t : List ℕ} (d : Deck t) (row : ℕ) (l : row < rows t) where
   -- field k of the card in the row
@@ -67,10 +73,16 @@ module _ {t : List ℕ} (d : Deck t) (row : ℕ) (l : row < rows t) where
   light-by H e = record { few = omega arith; each = λ a. heat-size (getD (rowAt t row) 2 0) (at 2 (omega arith) (λ v. v ≤ 5000000) (heat-in t d row l e .1)) }
   light-by F e = record {
     few = omega arith;
-    each = λ a. film-size (faceFilm (getD (rowAt t row) 2 0) (namedShape t (rowAt t row))) (getD (rowAt t row) 3 0)
+    each = λ a. film-size 3 (faceFilm (getD (rowAt t row) 2 0) (namedShape t (rowAt t row))) (getD (rowAt t row) 3 0) (omega arith)
         (face-size (getD (rowAt t row) 2 0) (namedShape t (rowAt t row)) (at 2 (omega arith) (λ v. v ≤ 100000) (film-in t d row l e .1))
         (S-size (namedShape t (rowAt t row)) (named-on-sheet t d (getD (rowAt t row) 1 0) (at 1 (omega arith) (In 1 (elements t)) (names-F t d row l e)))))
         (at 3 (omega arith) (λ v. v ≤ top) (ambient-in t d row l e .1));
+  }
+  light-by G e = record {
+    few = omega arith;
+    each = λ a. film-size 2 (edgeFilm (getD (rowAt t row) 3 0) (getD (rowAt t row) 5 0) (edgeShape t (rowAt t row))) (getD (rowAt t row) 4 0) (omega arith)
+        (omega (arith, g-small (getD (rowAt t row) 3 0) (getD (rowAt t row) 5 0) (edgeShape t (rowAt t row))))
+        (at 4 (omega arith) (λ v. v ≤ top) (edge-ambient-in t d row l e .1));
   }
   light-by T e = record { few = omega arith; each = λ a. omega arith }
   light-by Z e = record { few = omega arith; each = λ a. omega arith }
@@ -79,7 +91,7 @@ module _ {t : List ℕ} (d : Deck t) (row : ℕ) (l : row < rows t) where
   light : Light (partAt t row)
   light = light-by (kindIn t row) refl
 
-  adds-size : (i : ℕ) → natAbs (addsLoad (partAt t row) i) ≤ 3 * 2 ^ 46
+  adds-size : (i : ℕ) → natAbs (addsLoad (partAt t row) i) ≤ 3 * heaviest
   unfolding addsLoad
   adds-size i = share-size (partAt t row .corners) (partAt t row .load) i (light .few) (light .each)
 
@@ -101,6 +113,7 @@ idle t card i M n = share-none _ _ i (λ a. refl)
 idle t card i E n = share-none _ _ i (λ a. refl)
 idle t card i H n = absurd (n refl)
 idle t card i F n = absurd (n refl)
+idle t card i G n = absurd (n refl)
 idle t card i T n = share-none _ _ i (λ a. refl)
 idle t card i Z n = share-none _ _ i (λ a. refl)
 idle t card i Other n = share-none _ _ i (λ a. refl)
@@ -112,7 +125,7 @@ upTo t row i = sum row (λ k. addsLoad (partAt t k) i)
 module _ {t : List ℕ} (d : Deck t) where
   pub load-size : (i m : ℕ) → m ≤ rows t → natAbs (upTo t m i) ≤ 2 ^ 57
   load-size i m h =
-      omega (arith, sum-size-each m (λ k. addsLoad (partAt t k) i) (3 * 2 ^ 46) (λ k l. adds-size d k (omega arith) i), d .few)
+      omega (arith, sum-size-each m (λ k. addsLoad (partAt t k) i) (3 * heaviest) (λ k l. adds-size d k (omega arith) i), d .few)
 
   outside : (i row : ℕ) → row < rows t → ((nodes t + materials t + elements t < row) × (suc row < rows t) → ⊥) → addsLoad (partAt t row) i ≡ pos 0
   outside i row l n = idle t (rowAt t row) i (kindIn t row) (λ e. n (in-loads t d row l e))
@@ -191,7 +204,7 @@ module _ {t : List ℕ} {r : List ℤ} {row : ℕ} (q : Room t r row) (ns vs car
       (record {
         few = w .few;
         inside = subst (λ (m : ℕ). Inside m (partAt t row .corners)) (sym (q .here .each .long)) (part-corners t d row inner);
-        share-small = λ a l. subst (λ (z : ℤ). natAbs z ≤ 2 ^ 46) (sym (load-is a l)) (w .each a);
+        share-small = λ a l. subst (λ (z : ℤ). natAbs z ≤ 2 ^ 46) (sym (load-is a l)) (omega (arith, w .each a));
         small = λ i h. q .small i (omega (arith, q .here .each .long));
       })
 

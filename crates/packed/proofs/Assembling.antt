@@ -19,7 +19,7 @@ use Rattle.paper.specs.Elements.{elementOf}
 use Rattle.paper.specs.Parts.{Part, nothing, loaded, partOf, partFor, partAt}
 use Rattle.paper.specs.Matrices.{addsP, addsA}
 use Rattle.paper.specs.declared.Kind.{Kind}
-use Rattle.paper.specs.declared.Kind.the-variants.{D, N, M, E, H, F, T, Z, Other}
+use Rattle.paper.specs.declared.Kind.the-variants.{D, N, M, E, H, F, G, T, Z, Other}
 use Rattle.laws.proofs.Letters.{Body, flat}
 use Rattle.laws.proofs.Decks.{kindIn, Deck}
 use Rattle.laws.proofs.Tables.{row-field}
@@ -71,6 +71,7 @@ idle-kind t card M e = idle [] _
 idle-kind t card E e = never (sym e)
 idle-kind t card H e = idle _ _
 idle-kind t card F e = never (sym e)
+idle-kind t card G e = never (sym e)
 idle-kind t card T e = idle [] _
 idle-kind t card Z e = idle [] _
 idle-kind t card Other e = idle [] _
@@ -89,6 +90,7 @@ module _ (t : List ℕ) (row : ℕ) (d : Deck t) (h : row < rows t) where
   inner-kind E e q = body-inner t d row h (flat e)
   inner-kind H e q = never q
   inner-kind F e q = in-loads t d row h (rw e) .1
+  inner-kind G e q = in-loads t d row h (rw e) .1
   inner-kind T e q = never q
   inner-kind Z e q = never q
   inner-kind Other e q = never q
@@ -104,6 +106,7 @@ module _ (t : List ℕ) (row : ℕ) (d : Deck t) (h : row < rows t) where
   conducts-kind E q = flat refl
   conducts-kind H q = never q
   conducts-kind F q = never q
+  conducts-kind G q = never q
   conducts-kind T q = never q
   conducts-kind Z q = never q
   conducts-kind Other q = never q

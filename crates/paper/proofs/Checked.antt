@@ -1,4 +1,4 @@
--- P1 to P12 of document 01, of the definitions: one theorem over one list.
+-- P1 to P12 of document 01 and figures of document 02's cards, of the definitions: one theorem over one list.
 use mathlib.Core.Path.{_≡_, refl}
 use mathlib.Core.Bool.{true}
 use mathlib.Core.List.{List, [], _∷_, _++_, map}
@@ -8,24 +8,26 @@ use lib.ListN.{replicate}
 use Rattle.whole.specs.Nearest.{nearestN, nearest}
 use Rattle.whole.specs.Sums.{sum, sumN, any, firstFrom, table}
 use Rattle.whole.specs.Packed.{tri, place, lower}
+use Rattle.whole.specs.Largest.{climb}
 use Rattle.paper.specs.Refusals.{toldStep, packed, numberOf, placeOf}
 use Rattle.paper.specs.Kinds.{about, kindOf, letterOf}
-use Rattle.paper.specs.Cards.{before, columns, used, zeros, inRange, agree, field, nodes, materials, elements, put}
-use Rattle.paper.specs.Judge.{stands, clean, rises, nameAt, formed, ranged, judgeCard, judgeFrom, trailer, judgeRows, judged, answers, newJudged}
+use Rattle.paper.specs.Cards.{before, columns, used, zeros, inRange, agree, ranked, field, nodes, materials, elements, put}
+use Rattle.paper.specs.Judge.{stands, clean, rises, ordered, full, nameAt, formed, ranged, judgeOne, judgeFrom, trailer, judgeRows, judged, answers, newJudged}
 use Rattle.paper.specs.Corners.{square, mass, spread, share, shapeOf, area}
 use Rattle.paper.specs.Triangle.{b, c, S, pair, u, faceFilm}
+use Rattle.paper.specs.Edge.{length², reaches, edgeFilm}
 use Rattle.paper.specs.Elements.{bodyOf, elementOf, fair, formJudged, elementJudged, elementAt}
 use Rattle.paper.specs.Parts.{heatShare, partOf, least, partAt}
 use Rattle.paper.specs.Matrices.{addsP, addsA, addsLoad, P, A, loadOf, fixed, held, cleared}
 use Rattle.paper.specs.Factor.{w, l, rowFrom, rowsFrom}
 use Rattle.paper.specs.Building.{elementsFrom, build, Slices}
-use Rattle.paper.specs.Replacing.{moved, redone, replaced}
+use Rattle.paper.specs.Replacing.{formOf, moved, redone, replaced}
 use Rattle.paper.specs.Lent.{rowSize, heavy, badRow, noFactor, foreign, enough, opened, lentJudged}
 use Rattle.paper.specs.Step.{boardOf, rightSide, residual, residuals, rowBound, yAt, forwardFrom, xAt, backFrom, warmed, addFrom, correct, unsettled, attempts, stepped, offScale}
 use Rattle.paper.specs.Calls.{closed, leaves, buildCall, replaceCall, stepCall, Lent, lent, Exit}
 use Rattle.paper.specs.declared.Answer.{Answer}
 use Rattle.paper.specs.declared.Answer.the-variants.{Done, Refused}
-use Rattle.paper.specs.declared.Kind.the-variants.{D, N, M, E, H, Z}
+use Rattle.paper.specs.declared.Kind.the-variants.{D, N, M, E, H, G, Z}
 use Rattle.paper.proofs.Cases.{same, eqZ, figures-told}
 
 -- a deck of one element over nodes 1, 2, 3, k the same both ways: step, three nodes, k, capacity, the E card, the loads
@@ -48,6 +50,16 @@ base = deck 1000 right 1000 2400 (element 1 2 3 1000) [] 0
 
 abbrev pub heated : List ℕ
 heated = deck 1000 right 1000 2400 (element 1 2 3 1000) (letterOf H ∷ 1 ∷ 3 ∷ 0 ∷ 0 ∷ 0 ∷ []) 1
+
+-- an edge, of an ambient of 300 K, and the base with one
+abbrev pub rim : ℕ → ℕ → ℕ → ℕ → List ℕ
+rim a b film t = letterOf G ∷ a ∷ b ∷ film ∷ 19660800 ∷ t ∷ []
+
+abbrev rimmed : List ℕ → List ℕ
+rimmed edge = deck 1000 right 1000 2400 (element 1 2 3 1000) edge 1
+
+abbrev g : List ℕ → ℤ
+g edge = pos (partAt (rimmed edge) 6 .film)
 
 -- lent with a deck: slices of seven numbers, one past the matrix length, each 77; temperatures, one past the nodes
 abbrev on : List ℕ → Lent
@@ -81,6 +93,10 @@ a s = s .a
 abbrev factor : Slices → List ℤ
 factor s = s .factor
 
+-- g of the largest film and thickness from corner to corner of the grid, and between two nodes at one point
+abbrev far : ℕ → ℤ
+far n = pos (edgeFilm 100000 4000 (shapeOf (deck 1000 (node 0 0 ++ node 4095 4095 ++ node 0 0) 1 1 (element 1 2 3 1) [] 0) (1 ∷ n ∷ [])))
+
 pub record Case : Type 0 where
   pub name : ℕ
   pub got : List ℤ
@@ -109,10 +125,20 @@ cases =
     (numbers (4000000 ∷ 6 ∷ 1 ∷ []))
     ∷ case 11 (seen (built (deck 1000 (node 0 0 ++ node 50 50 ++ node 100 100) 1000 2400 (element 1 2 3 1000) [] 0)) a) (numbers (5 ∷ 1 ∷ []))
     ∷ case 12 (seen (replaceCall (built base .lent) 6 (element 1 2 3 2000)) a) (numbers (12000 ∷ 4000 ∷ 11000 ∷ 4000 ∷ 5000 ∷ 11000 ∷ 77 ∷ []))
+    -- [1]: g on both sides of a half, with L = 100, and of a slanting edge; A, P and the loads of g = 2; a step from the ambient; a film changed; the most and the least
+    ∷ case 13 (g (rim 1 2 599 1000) ∷ g (rim 1 2 600 1000) ∷ g (rim 1 2 1799 1000) ∷ g (rim 1 2 1800 1000) ∷ g (rim 2 3 100000 4000) ∷ [])
+    (numbers (0 ∷ 1 ∷ 1 ∷ 2 ∷ 471 ∷ []))
+    ∷ case 14 (let s = built (rimmed (rim 1 2 1800 1000)) .lent .slices in s .a ++ s .p)
+    (numbers (6004 ∷ 2002 ∷ 5504 ∷ 2000 ∷ 2500 ∷ 5500 ∷ 77 ∷ 5000 ∷ 2500 ∷ 5000 ∷ 2500 ∷ 2500 ∷ 5000 ∷ 77 ∷ []))
+    ∷ case 15 (table 3 (loadOf (rimmed (rim 1 2 1800 1000)))) (numbers (117964800 ∷ 117964800 ∷ 0 ∷ []))
+    ∷ case 16 (stepOn (rimmed (rim 1 2 1800 1000))) (numbers (256 ∷ 19660800 ∷ 19660800 ∷ 19660800 ∷ 77 ∷ []))
+    ∷ case 17 (seen (replaceCall (built (rimmed (rim 2 3 1 1)) .lent) 7 (rim 2 3 100000 4000)) a)
+    (numbers (6000 ∷ 2000 ∷ 6442 ∷ 2000 ∷ 2971 ∷ 6442 ∷ 77 ∷ []))
+    ∷ case 18 (far 2 ∷ far 3 ∷ []) (numbers (19304 ∷ 0 ∷ []))
     ∷ []
 
 run : same (same eqZ) (map (λ (k : Case). k .got) cases) (map (λ (k : Case). k .want) cases) ≡ true
-unfolding cases same eqZ nearestN nearest sum sumN any firstFrom table tri place lower toldStep packed about kindOf before columns used zeros inRange agree field nodes materials elements put stands clean rises nameAt formed ranged judgeCard judgeFrom trailer judgeRows judged answers newJudged square mass spread share shapeOf area b c S pair u faceFilm bodyOf elementOf fair formJudged elementJudged heatShare partOf least addsP addsA addsLoad P A loadOf fixed held cleared w l rowFrom rowsFrom elementsFrom build moved redone replaced rowSize heavy badRow noFactor foreign enough opened lentJudged boardOf rightSide residual residuals rowBound yAt forwardFrom xAt backFrom warmed addFrom correct unsettled attempts stepped offScale closed leaves buildCall replaceCall stepCall
+unfolding cases same eqZ nearestN nearest sum sumN any firstFrom table tri place lower toldStep packed about kindOf before columns used zeros inRange agree ranked field nodes materials elements put stands clean rises ordered full nameAt formed ranged judgeOne judgeFrom trailer judgeRows judged answers newJudged square mass spread share shapeOf area b c S pair u faceFilm climb length² reaches edgeFilm bodyOf elementOf fair formJudged elementJudged heatShare partOf least addsP addsA addsLoad P A loadOf fixed held cleared w l rowFrom rowsFrom elementsFrom build formOf moved redone replaced rowSize heavy badRow noFactor foreign enough opened lentJudged boardOf rightSide residual residuals rowBound yAt forwardFrom xAt backFrom warmed addFrom correct unsettled attempts stepped offScale closed leaves buildCall replaceCall stepCall
 run = refl
 
 pub all-checked : map (λ (k : Case). k .got) cases ≡ map (λ (k : Case). k .want) cases

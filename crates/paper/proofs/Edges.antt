@@ -1,14 +1,16 @@
 -- The paper's limits at their edges: the last value that passes and the first that does not. One theorem over one list.
 use mathlib.Core.Path.{_≡_, refl}
-use mathlib.Core.Bool.{Bool, true, false}
+use mathlib.Core.Bool.{Bool, true, false, cond}
 use mathlib.Core.List.{List, [], _∷_, _++_, map}
 use Prim.Native.Nat.{ℕ, _+_, _^_}
-use lib.Dec.{eqb}
+use lib.Dec.{eqb, ltb}
 use lib.IntN.{pos, natAbs}
 use Rattle.whole.specs.Nearest.{nearestN, nearest}
 use Rattle.whole.specs.Sums.{sum, sumN, any, firstFrom, table}
 use Rattle.whole.specs.Packed.{tri, place, lower}
-use Rattle.paper.specs.Cards.{field, nodes, materials, elements}
+use Rattle.paper.specs.Kinds.{about, kindOf}
+use Rattle.paper.specs.Cards.{before, columns, used, zeros, inRange, ranked, field, nodes, materials, elements}
+use Rattle.paper.specs.Judge.{stands, clean, rises, ordered, full, formed, ranged, judgeOne, judgeCard}
 use Rattle.paper.specs.Corners.{square, mass, spread, share, shapeOf, area}
 use Rattle.paper.specs.Triangle.{b, c, S, pair, u}
 use Rattle.paper.specs.Elements.{bodyOf, elementOf, fair, formJudged, elementJudged, elementAt}
@@ -18,7 +20,7 @@ use Rattle.paper.specs.Refusals.{Outcome, refused, done, numberOf}
 use Rattle.paper.specs.declared.Answer.{Answer}
 use Rattle.paper.specs.declared.Answer.the-variants.{Done, Refused}
 use Rattle.paper.proofs.Cases.{same, numbers-told}
-use Rattle.paper.proofs.Checked.{deck, node, element, right}
+use Rattle.paper.proofs.Checked.{deck, node, element, right, rim}
 
 -- a refusal's number, 0 for none
 abbrev number : Answer → ℕ
@@ -50,8 +52,8 @@ abbrev turned : ℕ → List ℕ
 turned last = deck 1000 right 1 1 (element 2 1 last 1) [] 0
 
 -- u: of the doubled area 9,600,000 and of 9,600,002
-abbrev full : ℕ → List ℕ
-full x = deck 1 (node 0 0 ++ node 3200 1 ++ node x 3001) 1 1 (element 1 2 3 4000) [] 0
+abbrev stored : ℕ → List ℕ
+stored x = deck 1 (node 0 0 ++ node 3200 1 ++ node x 3001) 1 1 (element 1 2 3 4000) [] 0
 
 -- the conductance of the pair 12: k times y
 abbrev tight : ℕ → ℕ → List ℕ
@@ -64,14 +66,22 @@ storedIn t = elementAt t 5 .stored
 abbrev betweenIn : List ℕ → ℕ
 betweenIn t = natAbs (elementAt t 5 .between 1 0)
 
+-- a rim of edges from row 6 on, in a deck of 200 loads, and the card in row i of it
+abbrev rimAt : ℕ → List ℕ
+rimAt i = cond (ltb i 6) (element 1 2 3 1) (rim 1 2 1 1)
+
+abbrev crowd : ℕ → Answer
+crowd i = judgeCard (record { nodes = 3; materials = 1; elements = 1; loads = 200 }) rimAt i 6 0
+
 unfoldable pub edges : List Edge
 edges =
     edge (ends (rowsFrom 1 0 (pos 16 ∷ []))) (ends (rowsFrom 1 0 (pos 15 ∷ []))) 7
     ∷ edge (ends (rowsFrom 1 0 (pos (2 ^ 38) ∷ []))) (ends (rowsFrom 1 0 (pos (2 ^ 38 + 1) ∷ []))) 8
     ∷ edge (ends (rowsFrom 2 0 (pos 16 ∷ pos 256 ∷ pos 5000 ∷ []))) (ends (rowsFrom 2 0 (pos 16 ∷ pos 257 ∷ pos 5000 ∷ []))) 8
+    ∷ edge (number (crowd 165)) (number (crowd 166)) 3
     ∷ edge (number (elementJudged (thin 1) 1)) (number (elementJudged (thin 0) 1)) 5
     ∷ edge (number (elementJudged (turned 3) 1)) (number (elementJudged (turned 1) 1)) 5
-    ∷ edge (number (elementJudged (full 3200) 1)) (number (elementJudged (full 3198) 1)) 6
+    ∷ edge (number (elementJudged (stored 3200) 1)) (number (elementJudged (stored 3198) 1)) 6
     ∷ edge (number (elementJudged (tight 100000 40) 1)) (number (elementJudged (tight 97561 41) 1)) 6
     ∷ edge (foreign (heavy 1 (pos (2 ^ 33) ∷ []))) (foreign (heavy 1 (pos (2 ^ 33 + 1) ∷ []))) 10
     ∷ edge (foreign (noFactor 1 (pos 16 ∷ []))) (foreign (noFactor 1 (pos 15 ∷ []))) 10
@@ -80,13 +90,13 @@ edges =
     ∷ []
 
 run : same (same eqb) (map (λ (e : Edge). e .passes ∷ e .fails ∷ []) edges) (map (λ (e : Edge). 0 ∷ e .number ∷ []) edges) ≡ true
-unfolding edges same nearestN nearest sum sumN any firstFrom table tri place lower field nodes materials elements square mass spread share shapeOf area b c S pair u bodyOf elementOf fair formJudged elementJudged w l rowFrom rowsFrom rowSize heavy badRow noFactor
+unfolding edges same about kindOf before columns used zeros inRange ranked stands clean rises ordered full formed ranged judgeOne nearestN nearest sum sumN any firstFrom table tri place lower field nodes materials elements square mass spread share shapeOf area b c S pair u bodyOf elementOf fair formJudged elementJudged w l rowFrom rowsFrom rowSize heavy badRow noFactor
 run = refl
 
 pub at-the-edges : map (λ (e : Edge). e .passes ∷ e .fails ∷ []) edges ≡ map (λ (e : Edge). 0 ∷ e .number ∷ []) edges
 at-the-edges = numbers-told (map (λ (e : Edge). e .passes ∷ e .fails ∷ []) edges) (map (λ (e : Edge). 0 ∷ e .number ∷ []) edges) run
 
 -- the decks above that limit 6 tells apart have just these values
-pub limit-6 : map storedIn (full 3200 ∷ full 3198 ∷ []) ++ map betweenIn (tight 100000 40 ∷ tight 97561 41 ∷ []) ≡ 4000000 ∷ 4000001 ∷ 4000000 ∷ 4000001 ∷ []
+pub limit-6 : map storedIn (stored 3200 ∷ stored 3198 ∷ []) ++ map betweenIn (tight 100000 40 ∷ tight 97561 41 ∷ []) ≡ 4000000 ∷ 4000001 ∷ 4000000 ∷ 4000001 ∷ []
 unfolding nearestN nearest sum sumN any firstFrom table tri place lower field nodes materials elements square mass spread share shapeOf area b c S pair u bodyOf elementOf fair formJudged elementJudged
 limit-6 = refl

@@ -11,8 +11,8 @@ use Rattle.whole.specs.Sums.{sum, sumN, any, firstFrom, table}
 use Rattle.whole.specs.Packed.{tri, place, lower}
 use Rattle.paper.specs.Refusals.{told, toldStep, Told, answerOf}
 use Rattle.paper.specs.Kinds.{about, kindOf, letterOf}
-use Rattle.paper.specs.Cards.{before, columns, used, zeros, inRange, agree, field, nodes, materials, elements, put}
-use Rattle.paper.specs.Judge.{stands, clean, rises, nameAt, formed, ranged, judgeCard, judgeFrom, trailer, judgeRows, judged, answers, newJudged}
+use Rattle.paper.specs.Cards.{before, columns, used, zeros, inRange, agree, ranked, field, nodes, materials, elements, put}
+use Rattle.paper.specs.Judge.{stands, clean, rises, ordered, full, nameAt, formed, ranged, judgeOne, judgeFrom, trailer, judgeRows, judged, answers, newJudged}
 use Rattle.paper.specs.Corners.{square, mass, spread, share, shapeOf, area}
 use Rattle.paper.specs.Triangle.{b, c, S, pair, u, faceFilm}
 use Rattle.paper.specs.Elements.{bodyOf, elementOf, fair, formJudged, elementJudged}
@@ -20,7 +20,7 @@ use Rattle.paper.specs.Parts.{partOf, least}
 use Rattle.paper.specs.Matrices.{addsP, addsA, P, A, fixed, cleared}
 use Rattle.paper.specs.Factor.{w, l, rowFrom, rowsFrom}
 use Rattle.paper.specs.Building.{elementsFrom, build}
-use Rattle.paper.specs.Replacing.{moved, redone, replaced}
+use Rattle.paper.specs.Replacing.{formOf, moved, redone, replaced}
 use Rattle.paper.specs.Lent.{rowSize, heavy, badRow, noFactor, foreign, enough, opened, lentJudged}
 use Rattle.paper.specs.Step.{offScale}
 use Rattle.paper.specs.Calls.{closed, leaves, buildCall, replaceCall, stepCall, Lent, lent}
@@ -28,7 +28,7 @@ use Rattle.paper.specs.declared.Answer.{Answer}
 use Rattle.paper.specs.declared.Stepped.{Stepped}
 use Rattle.paper.specs.declared.Kind.the-variants.{D, N, M, H, Z}
 use Rattle.paper.proofs.Cases.{same, numbers-told}
-use Rattle.paper.proofs.Checked.{deck, node, element, right, base, heated}
+use Rattle.paper.proofs.Checked.{deck, node, element, right, rim, base, heated}
 
 -- number and place, 0 and 0 for none
 abbrev shown : Told → List ℕ
@@ -76,6 +76,14 @@ abbrev wide : ℕ → List ℕ
 wide unused = (letterOf D ∷ 1000 ∷ 19660800 ∷ 1 ∷ 0 ∷ 0 ∷ []) ++ (letterOf N ∷ 4096 ∷ 0 ∷ unused ∷ 0 ∷ 0 ∷ []) ++ node 100 0 ++ node 0 100
     ++ (letterOf M ∷ 1 ∷ 1 ∷ 1 ∷ 0 ∷ 0 ∷ []) ++ element 1 2 3 1 ++ (letterOf Z ∷ 42 * 6 ∷ 3 ∷ 1 ∷ 1 ∷ 0 ∷ [])
 
+-- a deck whose loads are two edges
+abbrev rims : List ℕ → List ℕ → List ℕ
+rims e e′ = deck 1000 right 1000 2400 (element 1 2 3 1000) (e ++ e′) 2
+
+-- one along nodes 1 and 2, and so on
+abbrev along : ℕ → ℕ → List ℕ
+along a b = rim a b 1 1
+
 pub record Both : Type 0 where
   pub got : List ℕ
   pub want : List ℕ
@@ -90,6 +98,16 @@ cases =
     ∷ both (builds (wide 0) 0) 4 2
     -- cards in turn: two H of one element are 4 at the second, before a 3 at the third
     ∷ both (says (judged (deck 1 right 1 1 stiff (heat 1 3 0 ++ heat 1 3 0 ++ heat 1 3 7) 3))) 4 8
+    -- edges: the lower node first, pairs that rise
+    ∷ both (says (judged (rims (along 1 2) (along 1 3)))) 0 0
+    ∷ both (says (judged (rims (along 1 3) (along 1 2)))) 4 8
+    ∷ both (says (judged (rims (along 1 3) (along 1 3)))) 4 8
+    ∷ both (says (judged (rims (along 1 3) (along 2 3)))) 0 0
+    ∷ both (says (judged (rims (along 2 1) (along 2 3)))) 4 7
+    ∷ both (says (judged (rims (along 2 2) (along 2 3)))) 4 7
+    -- an edge keeps both nodes
+    ∷ both (says (newJudged (rims (along 1 2) (along 2 3)) 8 (along 1 3))) 13 8
+    ∷ both (says (newJudged (rims (along 1 2) (along 2 3)) 8 (rim 2 3 100001 1))) 4 8
     -- elements in turn, after 9
     ∷ both (builds (two stiff flat) 6) 6 1
     ∷ both (builds (two flat stiff) 6) 5 1
@@ -112,7 +130,7 @@ cases =
     ∷ []
 
 run : same (same eqb) (map (λ (x : Both). x .got) cases) (map (λ (x : Both). x .want) cases) ≡ true
-unfolding cases same nearestN nearest sum sumN any firstFrom table tri place lower told toldStep about kindOf before columns used zeros inRange agree field nodes materials elements put stands clean rises nameAt formed ranged judgeCard judgeFrom trailer judgeRows judged answers newJudged square mass spread share shapeOf area b c S pair u faceFilm bodyOf elementOf fair formJudged elementJudged partOf least addsP addsA P A fixed cleared w l rowFrom rowsFrom elementsFrom build moved redone replaced rowSize heavy badRow noFactor foreign enough opened lentJudged offScale closed leaves buildCall replaceCall stepCall
+unfolding cases same nearestN nearest sum sumN any firstFrom table tri place lower told toldStep about kindOf before columns used zeros inRange agree ranked field nodes materials elements put stands clean rises ordered full nameAt formed ranged judgeOne judgeFrom trailer judgeRows judged answers newJudged square mass spread share shapeOf area b c S pair u faceFilm bodyOf elementOf fair formJudged elementJudged partOf least addsP addsA P A fixed cleared w l rowFrom rowsFrom elementsFrom build formOf moved redone replaced rowSize heavy badRow noFactor foreign enough opened lentJudged offScale closed leaves buildCall replaceCall stepCall
 run = refl
 
 pub in-order : map (λ (x : Both). x .got) cases ≡ map (λ (x : Both). x .want) cases

@@ -8,33 +8,39 @@ use lib.ListN.{drop, replicate}
 use Rattle.whole.specs.Nearest.{nearestN, nearest}
 use Rattle.whole.specs.Sums.{sum, sumN, any, table}
 use Rattle.whole.specs.Packed.{tri, place, lower}
+use Rattle.whole.specs.Largest.{climb}
 use Rattle.paper.specs.Refusals.{told}
 use Rattle.paper.specs.Kinds.{about, kindOf, letterOf}
-use Rattle.paper.specs.Cards.{before, columns, used, zeros, inRange, agree, field, nodes, materials, elements, put}
-use Rattle.paper.specs.Judge.{stands, clean, rises, nameAt, formed, ranged, judgeCard, judgeFrom, trailer, judgeRows, judged, answers, newJudged}
+use Rattle.paper.specs.Cards.{before, columns, used, zeros, inRange, agree, ranked, field, nodes, materials, elements, put}
+use Rattle.paper.specs.Judge.{stands, clean, rises, ordered, full, nameAt, formed, ranged, judgeOne, judgeFrom, trailer, judgeRows, judged, answers, newJudged}
 use Rattle.paper.specs.Corners.{square, mass, spread, share, shapeOf, area}
 use Rattle.paper.specs.Triangle.{b, c, S, pair, u, faceFilm}
+use Rattle.paper.specs.Edge.{length², reaches, edgeFilm}
 use Rattle.paper.specs.Elements.{bodyOf, elementOf, fair, formJudged, elementJudged}
 use Rattle.paper.specs.Parts.{partOf, least}
 use Rattle.paper.specs.Matrices.{addsP, addsA, P, A, fixed, cleared}
 use Rattle.paper.specs.Factor.{w, l, rowFrom, rowsFrom}
 use Rattle.paper.specs.Building.{elementsFrom, build}
-use Rattle.paper.specs.Replacing.{moved, redone, replaced}
+use Rattle.paper.specs.Replacing.{formOf, moved, redone, replaced}
 use Rattle.paper.specs.Lent.{rowSize, heavy, badRow, noFactor, foreign, enough, opened, lentJudged}
 use Rattle.paper.specs.Calls.{closed, leaves, buildCall, replaceCall, lent, Exit}
 use Rattle.paper.specs.declared.Kind.the-variants.{D, M, F, Z}
 use Rattle.paper.proofs.Cases.{same, eqZ, figures-told}
-use Rattle.paper.proofs.Checked.{node, element}
+use Rattle.paper.proofs.Checked.{node, element, rim}
 
 -- a film over element 3
 abbrev film : ℕ → List ℕ
 film value = letterOf F ∷ 3 ∷ value ∷ 19660800 ∷ 0 ∷ 0 ∷ []
 
+-- a film along the edge from node 2 to node 4
+abbrev edge : ℕ → List ℕ
+edge value = rim 2 4 value 4000
+
 -- four nodes, three elements, the third from node 4 down to 2, in steps of 1 ms
 abbrev board : List ℕ
 board =
     (letterOf D ∷ 1 ∷ 19660800 ∷ 1 ∷ 0 ∷ 0 ∷ []) ++ node 0 0 ++ node 100 0 ++ node 0 100 ++ node 90 80 ++ (letterOf M ∷ 1000 ∷ 2000 ∷ 1500 ∷ 0 ∷ 0 ∷ [])
-    ++ element 1 2 3 1000 ++ element 1 2 4 700 ++ element 4 3 2 1000 ++ film 50000 ++ (letterOf Z ∷ 42 * 10 ∷ 4 ∷ 1 ∷ 3 ∷ 1 ∷ [])
+    ++ element 1 2 3 1000 ++ element 1 2 4 700 ++ element 4 3 2 1000 ++ film 50000 ++ edge 50000 ++ (letterOf Z ∷ 42 * 11 ∷ 4 ∷ 1 ∷ 3 ∷ 2 ∷ [])
 
 -- slices of the matrix length and one more
 abbrev built : List ℕ → Exit
@@ -57,16 +63,17 @@ pub record Change : Type 0 where
   pub got : List ℤ
   pub want : List ℤ
 
--- thickness, film; and a thickness that refusal 6 is of, which leaves all as it was
+-- thickness, film, edge; and a thickness that refusal 6 is of, which leaves all as it was
 unfoldable pub changes : List Change
 changes =
     record { got = changed 9 (element 4 3 2 1500); want = anew 9 (element 4 3 2 1500) }
     ∷ record { got = changed 10 (film 90000); want = anew 10 (film 90000) }
+    ∷ record { got = changed 11 (edge 90000); want = anew 11 (edge 90000) }
     ∷ record { got = changed 9 (element 4 3 2 4000); want = pos 6 ∷ pos 3 ∷ drop 2 (seen (built board)) }
     ∷ []
 
 run : same (same eqZ) (map (λ (x : Change). x .got) changes) (map (λ (x : Change). x .want) changes) ≡ true
-unfolding changes same eqZ nearestN nearest sum sumN any table tri place lower about kindOf before columns used zeros inRange agree field nodes materials elements put stands clean rises nameAt formed ranged judgeCard judgeFrom trailer judgeRows judged answers newJudged square mass spread share shapeOf area b c S pair u faceFilm bodyOf elementOf fair formJudged elementJudged partOf least addsP addsA P A fixed cleared w l rowFrom rowsFrom elementsFrom build moved redone replaced rowSize heavy badRow noFactor foreign enough opened lentJudged closed leaves buildCall replaceCall told
+unfolding changes same eqZ nearestN nearest sum sumN any table tri place lower about kindOf before columns used zeros inRange agree ranked field nodes materials elements put stands clean rises ordered full nameAt formed ranged judgeOne judgeFrom trailer judgeRows judged answers newJudged square mass spread share shapeOf area b c S pair u faceFilm climb length² reaches edgeFilm bodyOf elementOf fair formJudged elementJudged partOf least addsP addsA P A fixed cleared w l rowFrom rowsFrom elementsFrom build formOf moved redone replaced rowSize heavy badRow noFactor foreign enough opened lentJudged closed leaves buildCall replaceCall told
 run = refl
 
 pub as-built : map (λ (x : Change). x .got) changes ≡ map (λ (x : Change). x .want) changes

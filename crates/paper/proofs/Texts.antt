@@ -10,7 +10,7 @@ use Rattle.paper.specs.Refusals.{told}
 use Rattle.paper.specs.Kinds.{about, kindOf, letterOf}
 use Rattle.paper.specs.Cards.{before, columns, used, zeros, inRange}
 use Rattle.paper.specs.Text.{digits, alone, number, blank, spaced, printed, fieldOf, noCard, fieldsFrom, cardOf, textField, textFrom, textOf}
-use Rattle.paper.specs.Judge.{stands, clean, rises, formed, ranged, judgeCard, judgeFrom, trailer, judgeRows, judged}
+use Rattle.paper.specs.Judge.{stands, clean, rises, ordered, full, formed, ranged, judgeOne, judgeFrom, trailer, judgeRows, judged}
 use Rattle.paper.specs.Calls.{joined, writes, written, Written, writeCall, readsFrom, reads, readPart, readTable, Read, readCall}
 use Rattle.paper.specs.declared.Kind.the-variants.{T}
 use Rattle.paper.proofs.Cases.{same, same-told, numbers-told}
@@ -60,7 +60,7 @@ lines =
     ∷ []
 
 run : same (same (same eqb)) (map (λ (x : Line). x .got) lines) (map (λ (x : Line). x .want) lines) ≡ true
-unfolding lines same sumN told about kindOf before columns used zeros inRange digits alone number blank spaced printed fieldOf fieldsFrom cardOf textField textFrom textOf stands clean rises formed ranged judgeCard judgeFrom trailer judgeRows judged joined writes written readsFrom reads readPart readTable
+unfolding lines same sumN told about kindOf before columns used zeros inRange digits alone number blank spaced printed fieldOf fieldsFrom cardOf textField textFrom textOf stands clean rises ordered full formed ranged judgeOne judgeFrom trailer judgeRows judged joined writes written readsFrom reads readPart readTable
 run = refl
 
 pub as-text : map (λ (x : Line). x .got) lines ≡ map (λ (x : Line). x .want) lines

@@ -1,15 +1,16 @@
 -- "The deck": a card's six numbers (the letter's code, five fields), the columns of each kind, and a table of cards.
 -- Rows of a table from 0: D is row 0, so node k's row is k; the last row is Z.
-use mathlib.Core.Bool.{Bool, true, _&&_}
+use mathlib.Core.Bool.{Bool, true, cond, _&&_}
 use mathlib.Core.List.{List, [], _∷_, _++_}
 use Prim.Native.Nat.{ℕ, zero, suc, _+_, _-_, _*_, _/_}
 use lib.Dec.{leb, eqb}
 use lib.ListN.{length, getD, take, drop}
 use Rattle.whole.specs.Sums.{sumN}
 use Rattle.paper.specs.Ticks.{top}
-use Rattle.paper.specs.Kinds.{about, letterOf, kindAt, ends}
+use Rattle.paper.specs.Kinds.{about, letterOf, kindAt, edge, ends}
+use Rattle.paper.specs.declared.About.{About}
 use Rattle.paper.specs.declared.Kind.{Kind}
-use Rattle.paper.specs.declared.Kind.the-variants.{D, N, M, E, H, F, T, Z, Other}
+use Rattle.paper.specs.declared.Kind.the-variants.{D, N, M, E, H, F, G, T, Z, Other}
 use Rattle.paper.specs.declared.Counts.{Counts}
 
 -- the cards of each section, those before a section, and those before Z
@@ -47,17 +48,18 @@ columns z M = (1 ⋯ 500000) ∷ (1 ⋯ 500000) ∷ (1 ⋯ 5000) ∷ []
 columns z E = (1 ⋯ z .nodes) ∷ (1 ⋯ z .nodes) ∷ (1 ⋯ z .nodes) ∷ (1 ⋯ z .materials) ∷ (1 ⋯ 4000) ∷ []
 columns z H = (1 ⋯ z .elements) ∷ (1 ⋯ 5000000) ∷ []
 columns z F = (1 ⋯ z .elements) ∷ (1 ⋯ 100000) ∷ (0 ⋯ top) ∷ []
+columns z G = (1 ⋯ z .nodes) ∷ (1 ⋯ z .nodes) ∷ (1 ⋯ 100000) ∷ (0 ⋯ top) ∷ (1 ⋯ 4000) ∷ []
 columns z T = (1 ⋯ z .nodes) ∷ (0 ⋯ top) ∷ []
-columns z Z = (back z ⋯ back z) ∷ (3 ⋯ 96) ∷ (1 ⋯ 8) ∷ (1 ⋯ 160) ∷ (0 ⋯ 416) ∷ []
+columns z Z = (back z ⋯ back z) ∷ (3 ⋯ 96) ∷ (1 ⋯ 8) ∷ (1 ⋯ 160) ∷ (0 ⋯ 576) ∷ []
 columns z Other = []
 
 -- the columns of a card
 abbrev pub columnsOf : Counts → List ℕ → List Column
 columnsOf z card = columns z (kindAt card)
 
--- the rows of the longest table: D, 96 N, 8 M, 160 elements, 416 loads, Z
+-- the rows of the longest table: D, 96 N, 8 M, 160 elements, 576 loads, Z
 abbrev pub mostRows : ℕ
-mostRows = 682
+mostRows = 842
 
 -- the fields that a kind uses
 unfoldable pub used : Kind → ℕ
@@ -81,9 +83,12 @@ agree x y (suc n) = eqb (getD x n 0) (getD y n 0) && agree x y n
 abbrev pub orderOf : List ℕ → ℕ
 orderOf card = about (kindAt card) .order
 
--- what rises within a group of loads: the key
+-- what rises within a group of loads: the key; of an edge the pair, as one number that orders pairs of nodes
+unfoldable pub ranked : About → List ℕ → ℕ
+ranked a card = cond (edge a) (128 * getD card 1 0 + getD card 2 0) (getD card 1 0)
+
 abbrev pub rank : List ℕ → ℕ
-rank card = getD card 1 0
+rank card = ranked (about (kindAt card)) card
 
 -- what Z counts
 abbrev pub countsOf : List ℕ → Counts

@@ -5,8 +5,8 @@ use Prim.Native.Nat.{ℕ, zero, suc, _+_, _-_, _*_, _%_}
 use lib.Dec.{ltb, leb, eqb}
 use lib.ListN.{length, getD}
 use Rattle.paper.specs.Refusals.{andThen}
-use Rattle.paper.specs.Kinds.{about, aboutOf, bodies, kindAt, isA}
-use Rattle.paper.specs.Cards.{before, columnsOf, used, zeros, inRange, agree, orderOf, rank, countsOf, countsAt, mostRows, rowAt, rows}
+use Rattle.paper.specs.Kinds.{about, aboutOf, bodies, edge, kindAt, isA}
+use Rattle.paper.specs.Cards.{before, columnsOf, used, zeros, inRange, agree, orderOf, ranked, rank, countsOf, countsAt, mostRows, rowAt, rows}
 use Rattle.paper.specs.declared.Answer.{Answer}
 use Rattle.paper.specs.declared.Answer.the-variants.{Done, Refused}
 use Rattle.paper.specs.declared.Refusal.the-variants.{Length, Trailer, Form, Range, Replacement}
@@ -24,24 +24,36 @@ clean card = zeros card (5 - used (kindAt card)) (1 + used (kindAt card))
 
 -- keys rise strictly within a group
 unfoldable pub rises : ℕ → ℕ → About → List ℕ → Bool
-rises p key a card = eqb (a .keys) 0 || not (eqb p (a .order)) || ltb key (rank card)
+rises p key a card = eqb (a .keys) 0 || not (eqb p (a .order)) || ltb key (ranked a card)
+
+-- an edge names its lower node first
+unfoldable pub ordered : About → List ℕ → Bool
+ordered a card = not (edge a) || ltb (getD card 1 0) (getD card 2 0)
+
+-- as many of the kind as there may be stand before row i: the kind's cards follow each other
+unfoldable pub full : (ℕ → List ℕ) → ℕ → About → Bool
+full row i a = leb (a .most) i && eqb (getD (row (i - a .most)) 0 0) (a .letter)
 
 -- the number by which the card in row i is named: elements by their place, the others by their first field
 unfoldable pub nameAt : Counts → (ℕ → List ℕ) → ℕ → ℕ
 nameAt z row i = cond (eqb (aboutOf (row i) .section) bodies) (suc i - before z bodies) (getD (row i) 1 0)
 
 -- refusal 3: letter, and unused fields
-unfoldable pub formed : Counts → (ℕ → List ℕ) → ℕ → ℕ → Bool
-formed z row i p = stands z i p (aboutOf (row i)) && clean (row i)
+unfoldable pub formed : Counts → ℕ → ℕ → Bool → List ℕ → Bool
+formed z i p crowded card = stands z i p (aboutOf card) && not crowded && clean card
 
--- refusal 4: ranges, and rising keys
-unfoldable pub ranged : Counts → (ℕ → List ℕ) → ℕ → ℕ → ℕ → Bool
-ranged z row i p key = inRange (columnsOf z (row i)) (row i) 5 0 && rises p key (aboutOf (row i)) (row i)
+-- refusal 4: ranges, an edge's nodes, and rising keys
+unfoldable pub ranged : Counts → ℕ → ℕ → List ℕ → Bool
+ranged z p key card = inRange (columnsOf z card) card 5 0 && ordered (aboutOf card) card && rises p key (aboutOf card) card
 
--- the card in row i, the one before it being of order p and of this rank
-unfoldable pub judgeCard : Counts → (ℕ → List ℕ) → ℕ → ℕ → ℕ → Answer
-judgeCard z row i p key =
-    cond (formed z row i p) (cond (ranged z row i p key) Done (Refused (Range (suc i)))) (Refused (Form (suc i)))
+-- a card after i others, the last of them of order p and of this rank; crowded where it is one too many of its kind
+unfoldable pub judgeOne : Counts → ℕ → ℕ → ℕ → Bool → List ℕ → Answer
+judgeOne z i p key crowded card =
+    cond (formed z i p crowded card) (cond (ranged z p key card) Done (Refused (Range (suc i)))) (Refused (Form (suc i)))
+
+-- the card in row i
+abbrev pub judgeCard : Counts → (ℕ → List ℕ) → ℕ → ℕ → ℕ → Answer
+judgeCard z row i p key = judgeOne z i p key (full row i (aboutOf (row i))) (row i)
 
 -- cards in turn, n of them from the i-th on: row gives each one's six numbers
 unfoldable pub judgeFrom : Counts → (ℕ → List ℕ) → ℕ → ℕ → ℕ → ℕ → Answer
@@ -71,7 +83,7 @@ answers t card new =
     let keeps = aboutOf new .keeps in
     leb 1 card && leb card (rows t) && leb 1 keeps && agree new (rowAt t (card - 1)) (1 + keeps)
 
--- 3: a letter that is none of the eight, or an unused field not 0; 13; 4
+-- 3: a letter that is none of the nine, or an unused field not 0; 13; 4
 unfoldable pub newJudged : List ℕ → ℕ → List ℕ → Answer
 newJudged t card new =
     cond (ltb (orderOf new) (about Other .order) && clean new)

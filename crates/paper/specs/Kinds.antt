@@ -6,30 +6,40 @@ use lib.Dec.{eqb}
 use lib.ListN.{getD}
 use Rattle.paper.specs.declared.About.{About}
 use Rattle.paper.specs.declared.Kind.{Kind}
-use Rattle.paper.specs.declared.Kind.the-variants.{D, N, M, E, H, F, T, Z, Other}
+use Rattle.paper.specs.declared.Kind.the-variants.{D, N, M, E, H, F, G, T, Z, Other}
 
 -- letter: its ASCII code
 -- order: the kind's place among the kinds of a deck
 -- section: D, N, M, elements, loads, Z: which of Z's counts covers it
 -- keeps: the leading fields that a replacement keeps; 0 where the kind is not replaced
--- keys: the fields by which its cards rise within their group; 0 where they need not
-abbrev pub line : ℕ → ℕ → ℕ → ℕ → ℕ → About
-line letter order section keeps keys = record { letter = letter; order = order; section = section; keeps = keeps; keys = keys }
+-- keys: the leading fields by which its cards rise within their group; 0 where they need not
+-- most: the cards of the kind that a deck may have; Z's counts alone bound the kinds of which it may have `many`
+abbrev pub line : ℕ → ℕ → ℕ → ℕ → ℕ → ℕ → About
+line letter order section keeps keys most = record { letter = letter; order = order; section = section; keeps = keeps; keys = keys; most = most }
 
--- letter, order, section, keeps, keys
+-- more than any table has rows
+abbrev pub many : ℕ
+many = 2000
+
+-- letter, order, section, keeps, keys, most
 unfoldable pub about : Kind → About
-about D = line 68 0 0 0 0
-about N = line 78 1 1 0 0
-about M = line 77 2 2 0 0
-about E = line 69 3 3 3 0
-about H = line 72 4 4 1 1
-about F = line 70 5 4 1 1
-about T = line 84 6 4 1 1
-about Z = line 90 7 5 0 0
-about Other = line 0 8 6 0 0
+about D = line 68 0 0 0 0 many
+about N = line 78 1 1 0 0 many
+about M = line 77 2 2 0 0 many
+about E = line 69 3 3 3 0 many
+about H = line 72 4 4 1 1 many
+about F = line 70 5 4 1 1 many
+about G = line 71 6 4 2 2 160
+about T = line 84 7 4 1 1 many
+about Z = line 90 8 5 0 0 many
+about Other = line 0 9 6 0 0 many
 
 abbrev pub letterOf : Kind → ℕ
 letterOf kind = about kind .letter
+
+-- of an edge, which has two nodes for keys, the lower first
+abbrev pub edge : About → Bool
+edge a = eqb (a .keys) 2
 
 -- the sections of the elements and of Z
 abbrev pub bodies : ℕ
@@ -40,7 +50,7 @@ ends = 5
 
 unfoldable pub kindOf : ℕ → Kind
 kindOf letter =
-    is D (is N (is M (is E (is H (is F (is T (is Z Other)))))))
+    is D (is N (is M (is E (is H (is F (is G (is T (is Z Other))))))))
   where
     is : Kind → Kind → Kind
     is kind rest = cond (eqb letter (letterOf kind)) kind rest

@@ -7,11 +7,12 @@ use lib.ListN.{length, getD}
 use Rattle.paper.specs.Ticks.{kelvin}
 use Rattle.paper.specs.Kinds.{kindOf, kindAt}
 use Rattle.paper.specs.Cards.{rowAt, letter, elementRow}
-use Rattle.paper.specs.Corners.{Shape, square}
+use Rattle.paper.specs.Corners.{Shape, shapeOf, square}
 use Rattle.paper.specs.Triangle.{faceFilm}
+use Rattle.paper.specs.Edge.{edgeFilm}
 use Rattle.paper.specs.Elements.{Element, elementOf, elementAt}
 use Rattle.paper.specs.declared.Kind.{Kind}
-use Rattle.paper.specs.declared.Kind.the-variants.{D, N, M, E, H, F, T, Z, Other}
+use Rattle.paper.specs.declared.Kind.the-variants.{D, N, M, E, H, F, G, T, Z, Other}
 
 -- stirs: whether it has a square in the matrices; load: of each corner
 pub record Part : Type 0 where
@@ -39,7 +40,7 @@ bulk e = record {
   load = λ a. pos 0;
 }
 
--- F: 2w and w; a corner's load is its row's sum times the ambient, 4v of a face
+-- F and G: 2w and w; a corner's load is its row's sum times the ambient, 4w of a face and 3w of an edge
 abbrev pub filmed : List ℕ → ℕ → ℕ → Part
 filmed ns w ambient = record {
   corners = ns;
@@ -68,6 +69,10 @@ namedRow t card = elementRow t (getD card 1 0)
 abbrev pub namedShape : List ℕ → List ℕ → Shape
 namedShape t card = elementAt t (namedRow t card) .shape
 
+-- the two nodes of an edge
+abbrev pub edgeShape : List ℕ → List ℕ → Shape
+edgeShape t card = shapeOf t (getD card 1 0 ∷ getD card 2 0 ∷ [])
+
 -- of a card's six numbers, in a deck that has what they name
 unfoldable pub partOf : List ℕ → List ℕ → Kind → Part
 partOf t card D = nothing
@@ -76,6 +81,7 @@ partOf t card M = nothing
 partOf t card E = bulk (elementOf t card)
 partOf t card H = let s = namedShape t card in loaded (s .corners) (λ a. heatShare (length (s .corners)) (getD card 2 0))
 partOf t card F = let s = namedShape t card in filmed (s .corners) (faceFilm (getD card 2 0) s) (getD card 3 0)
+partOf t card G = let s = edgeShape t card in filmed (s .corners) (edgeFilm (getD card 3 0) (getD card 5 0) s) (getD card 4 0)
 partOf t card T = nothing
 partOf t card Z = nothing
 partOf t card Other = nothing

@@ -6,6 +6,7 @@ use lib.IntN.{ℤ, _+ℤ_, _-ℤ_}
 use lib.ListN.{take, drop}
 use Rattle.whole.specs.Packed.{start, lower, entry}
 use Rattle.paper.specs.Refusals.{Outcome, done, then, after}
+use Rattle.paper.specs.Kinds.{aboutOf, edge}
 use Rattle.paper.specs.Cards.{countsAt, rowAt, nodes, put}
 use Rattle.paper.specs.Judge.{nameAt}
 use Rattle.paper.specs.Elements.{elementJudged}
@@ -14,10 +15,11 @@ use Rattle.paper.specs.Matrices.{addsP, addsA, fixed, cleared}
 use Rattle.paper.specs.Factor.{rowsFrom}
 use Rattle.paper.specs.Building.{Slices}
 use Rattle.paper.specs.declared.Answer.{Answer}
+use Rattle.paper.specs.declared.Answer.the-variants.{Done}
 
--- E and F judge the element that they are of
-abbrev pub formOf : List ℕ → ℕ → Answer
-formOf t row = elementJudged t (nameAt (countsAt t) (rowAt t) row)
+-- E and F judge the element that they are of, an edge none
+unfoldable pub formOf : List ℕ → ℕ → Answer
+formOf t row = cond (edge (aboutOf (rowAt t row))) Done (elementJudged t (nameAt (countsAt t) (rowAt t) row))
 
 -- a matrix with what a card adds, new minus old
 unfoldable pub moved : ℕ → List ℤ → (ℕ → ℕ → ℤ) → (ℕ → ℕ → ℤ) → List ℤ

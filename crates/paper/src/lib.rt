@@ -41,6 +41,7 @@ pub enum Kind {
     E,
     H,
     F,
+    G,
     T,
     Z,
     Other,
@@ -53,6 +54,7 @@ pub struct About {
     pub section: usize,
     pub keeps: usize,
     pub keys: u32,
+    pub most: usize,
 }
 
 // What Z counts.

@@ -15,23 +15,32 @@ use Rattle.paper.specs.Kinds.{kindAt, kindOf}
 use Rattle.paper.specs.Cards.{rowAt, elements, elementRow, stepOf}
 use Rattle.paper.specs.Corners.{Shape, Body, square, mass}
 use Rattle.paper.specs.Triangle.{S, pair, u, faceFilm}
+use Rattle.paper.specs.Edge.{edgeFilm}
 use Rattle.paper.specs.Elements.{bodyOf, elementOf}
-use Rattle.paper.specs.Parts.{Part, heatShare, namedRow, partOf, partFor}
+use Rattle.paper.specs.Parts.{Part, heatShare, namedRow, edgeShape, partOf, partFor}
 use Rattle.paper.specs.declared.Kind.{Kind}
+use Rattle.paper.specs.declared.Node.{Node}
 use Rattle.laws.proofs.Decks.{In}
+use Rattle.laws.proofs.Edge.{Ranges}
 use Rattle.laws.proofs.Places.{squareA}
-use Rattle.triangle.specs.Forms.{numbers, asShape, asBody, at, squareOf}
+use Rattle.triangle.specs.Forms.{asShape, asBody, at, squareOf}
 use Rattle.triangle.specs.Asks.{Small, Sized, Placed, Solid}
 use Rattle.triangle.proofs.Sizes.{mass-size}
 use Rattle.triangle.proofs.Squares.{small-square, square-at, square-ext}
-use Rattle.element.specs.Asks.{ElementCard}
+use Rattle.element.specs.Asks.{ElementCard, EdgeCard}
 use Rattle.element.proofs.Ranges.{placed-of, sized-of, step-of}
-use Rattle.part.specs.Forms.{cornersOf, doesBy, does, baseOf}
+use Rattle.part.specs.Forms.{cornersOf, firstNodes, doesBy, does, baseBy, baseOf}
 use Rattle.part.specs.Asks as asks
 use Rattle.part.specs.Asks.{Card, Full}
 use Rattle.part.specs.declared.Does.{Does}
 use Rattle.part.specs.declared.Corners.{Corners}
-use Rattle.part.proofs.Parts.{As, as-kind, as-part, three, count-three, three-if-any, conducting, naming, based, filming, stored-size, film-size, conductance-small, square-small}
+use Rattle.part.proofs.Parts.{As, filmOver, Over, as-kind, as-part, few-by, length-first, few-corners, conducting, naming, filming, stored-size, film-size, conductance-small, square-small}
+
+same-first : (n : ℕ) {a b c a′ b′ c′ : ℕ} → (0 < n → a ≡ a′) → (1 < n → b ≡ b′) → (2 < n → c ≡ c′) → take n (a ∷ b ∷ c ∷ []) ≡ take n (a′ ∷ b′ ∷ c′ ∷ [])
+same-first zero p q r = refl
+same-first (suc zero) p q r = λ i. p (omega arith) i ∷ []
+same-first (suc (suc zero)) p q r = λ i. p (omega arith) i ∷ q (omega arith) i ∷ []
+same-first (suc (suc (suc n))) p q r = λ i. p (omega arith) i ∷ q (omega arith) i ∷ r (omega arith) i ∷ take n []
 
 -- ---- stirs
 
@@ -45,22 +54,30 @@ module _ (t card : List ℕ) (it : Does) (e : it ≡ does card) where
   told : {X : Type 0} {x : X} (f : Does → X) → f it ≡ x → f (does card) ≡ x
   told f q = sym (ap f e) ∙ q
 
+  -- the card's part, as code tells it
+  part-is : As t card it (partFor t card)
+  part-is = subst (λ (d : Does). As t card d (partFor t card)) (sym e) (as-part t card)
+
   pub base-is : {b : Bool} → it .named ≡ b → cond b (rowAt t (namedRow t card)) card ≡ baseOf t card
   base-is q = ap (λ (b : Bool). cond b (rowAt t (namedRow t card)) card) (sym (told (λ d. d .named) q))
 
-  pub no-corners : (c : Corners) → c .count ≡ 0 → it .corners ≡ 0 → Full c × (cornersOf c ≡ partFor t card .corners)
-  no-corners c p q =
-      let gone : cornersOf c ≡ [] = ap (λ (n : ℕ). take n (numbers (c .nodes))) p in
-      (record { few = omega arith; full = ap length gone ∙ sym p }, gone ∙ sym (as-part t card .corners ∙ ap (λ (b : Bool). cond b [] (elementOf t (baseOf t card) .shape .corners)) (eq-eqb (does card .corners) 0 (told (λ d. d .corners) q))))
+  few : (it .corners ≤ 3) × (it .value ≤ 3)
+  few = subst (λ (d : Does). (d .corners ≤ 3) × (d .value ≤ 3)) (sym e) (few-by (kindAt card))
 
-  pub some-corners : {s : Shape} {x : List ℕ} (c : Corners) → c .count ≡ it .corners → numbers (c .nodes) ≡ s .corners → (it .corners ≡ 0 → ⊥) → s ≡ elementOf t x .shape → x ≡ baseOf t card
-      → Full c × (cornersOf c ≡ partFor t card .corners)
-  some-corners {s} c k ns q p b =
-      let n : does card .corners ≡ 0 → ⊥ = λ z. q (ap (λ (d : Does). d .corners) e ∙ z) in
-      let three-of : c .count ≡ 3 = k ∙ ap (λ (d : Does). d .corners) e ∙ three-if-any (kindAt card) n in
-      let here : numbers (c .nodes) ≡ elementOf t (baseOf t card) .shape .corners = ns ∙ ap (λ (z : Shape). z .corners) p ∙ ap (λ (z : List ℕ). elementOf t z .shape .corners) b in
-      let is : cornersOf c ≡ elementOf t (baseOf t card) .shape .corners = (λ d. take (three-of d) (here d)) ∙ three t (baseOf t card) in
-      (record { few = omega arith; full = ap length is ∙ count-three t (baseOf t card) ∙ sym three-of }, is ∙ sym (as-part t card .corners ∙ ap (λ (b : Bool). cond b [] (elementOf t (baseOf t card) .shape .corners)) (ne-eqb (does card .corners) 0 n)))
+  pub few-corners-here : it .corners ≤ 3
+  few-corners-here = few .0
+
+  pub in-card : (k : ℕ) → k ≤ 2 → it .value + k < 6
+  in-card k l = omega (arith, few .1)
+
+  -- read one by one
+  pub corners-read : {x : List ℕ} {a b c : Node} → x ≡ baseOf t card
+      → (0 < it .corners → a .0 ≡ getD x 1 0) → (1 < it .corners → b .0 ≡ getD x 2 0) → (2 < it .corners → c .0 ≡ getD x 3 0)
+      → let r : Corners = record { count = it .corners; nodes = a ∷ b ∷ c ∷ [] } in Full r × (cornersOf r ≡ partFor t card .corners)
+  corners-read {x} b p q r =
+      let is = same-first (it .corners) p q r in
+      let base : x ≡ baseBy t card it = b ∙ ap (baseBy t card) (sym e) in
+      (record { few = few .0; full = ap length is ∙ length-first (it .corners) x (few .0) }, is ∙ ap (firstNodes (it .corners)) base ∙ sym (part-is .corners))
 
   module _ (h : Card t card) where
     pub is-named : it .named ≡ true → In 1 (elements t) (getD card 1 0)
@@ -69,8 +86,8 @@ module _ (t card : List ℕ) (it : Does) (e : it ≡ does card) where
     pub few-named : it .named ≡ true → getD card 1 0 < 256
     few-named q = omega (arith, is-named q, h .deck .someE)
 
-    pub has-base : {x : List ℕ} → (it .corners ≡ 0 → ⊥) → x ≡ baseOf t card → ElementCard t x
-    has-base q b = subst (ElementCard t) (sym b) (based t card h (λ z. q (ap (λ (d : Does). d .corners) e ∙ z)))
+    pub corner-asks : {x : List ℕ} (k : ℕ) → k < 3 → x ≡ baseOf t card → (k < 3) × (k < it .corners → getD x (k + 1) 0 < 256)
+    corner-asks {x} k l b = (l, λ m. subst (λ (z : List ℕ). getD z (k + 1) 0 < 256) (sym b) (few-corners t card h k (subst (λ (d : Does). k < d .corners) e m)))
 
     pub is-element : it .conducts ≡ true → ElementCard t card
     is-element q = conducting t card h (told (λ d. d .conducts) q)
@@ -96,24 +113,53 @@ module _ (t card : List ℕ) (it : Does) (e : it ≡ does card) where
         is : r ≡ partFor t card .capacity
         is = unfold elementOf in (z ∙ (λ d. u (m d) (p d)) ∙ sym (as-part t card .capacity ∙ ap (λ (b : Bool). cond b (elementOf t card .stored) 0) (told (λ d. d .conducts) q)))
 
-    film-by : {b : Bool} → it .films ≡ b → partFor t card .film ≡ cond b (faceFilm (getD card 2 0) (elementOf t (baseOf t card) .shape)) 0
-    film-by q = as-part t card .film ∙ ap (λ (b : Bool). cond b (faceFilm (getD card 2 0) (elementOf t (baseOf t card) .shape)) 0) (told (λ d. d .films) q)
+    film-by : {b : Bool} → it .films ≡ b → partFor t card .film ≡ cond b (filmOver t card it (eqb (it .corners) 2)) 0
+    film-by q = part-is .film ∙ ap (λ (b : Bool). cond b (filmOver t card it (eqb (it .corners) 2)) 0) q
 
     pub films-none : it .films ≡ false → (0 ≡ partFor t card .film) × (0 ≤ 349500)
     films-none q = (sym (film-by q), omega arith)
 
-    pub films-over : {x : List ℕ} → it .films ≡ true → x ≡ baseOf t card → ElementCard t x
-    films-over q b = subst (ElementCard t) (sym b) (filming t card h (told (λ d. d .films) q) .0)
+    module _ (q : it .films ≡ true) where
+      over : {b : Bool} → eqb (it .corners) 2 ≡ b → Over t card h it b
+      over z = subst (Over t card h it) z (subst (λ (d : Does). Over t card h d (eqb (d .corners) 2)) (sym e) (filming t card h (told (λ d. d .films) q)))
 
-    pub films-asks : {s : Shape} {x : List ℕ} → it .films ≡ true → x ≡ baseOf t card → s ≡ elementOf t x .shape → Placed s × (getD card 2 0 ≤ 100000)
-    unfolding elementOf
-    films-asks {s} {x} q b p = (subst Placed (sym p) (placed-of t x (films-over q b)), filming t card h (told (λ d. d .films) q) .1)
+      film-is : {b : Bool} {r : ℕ} → eqb (it .corners) 2 ≡ b → r ≡ filmOver t card it b → (r ≡ partFor t card .film) × (r ≤ 349500)
+      film-is {r = r} z p = (is, rw is (film-size t card h))
+        where
+          is : r ≡ partFor t card .film
+          is = p ∙ ap (filmOver t card it) (sym z) ∙ sym (film-by q)
 
-    pub films : {r : ℕ} {s : Shape} {x : List ℕ} → it .films ≡ true → x ≡ baseOf t card → s ≡ elementOf t x .shape → r ≡ faceFilm (getD card 2 0) s → (r ≡ partFor t card .film) × (r ≤ 349500)
-    films {r} {s} q b p z = (is, rw is (film-size t card h))
-      where
-        is : r ≡ partFor t card .film
-        is = z ∙ ap (faceFilm (getD card 2 0)) (p ∙ ap (λ (z : List ℕ). elementOf t z .shape) b) ∙ sym (film-by q)
+      -- along an edge
+      module _ (two : it .corners ≡ 2) where
+        along : eqb (it .corners) 2 ≡ true
+        along = eq-eqb (it .corners) 2 two
+
+        pub edge-here : EdgeCard t card
+        edge-here = over along .0
+
+        pub edge-asks : {s : Shape} → s ≡ edgeShape t card → Ranges (getD card (it .value) 0) (getD card (it .value + 2) 0) s
+        edge-asks p = subst (Ranges (getD card (it .value) 0) (getD card (it .value + 2) 0)) (sym p) (over along .1)
+
+        pub edge-films : {r : ℕ} {s : Shape} → s ≡ edgeShape t card → r ≡ edgeFilm (getD card (it .value) 0) (getD card (it .value + 2) 0) s → (r ≡ partFor t card .film) × (r ≤ 349500)
+        edge-films p z = film-is along (z ∙ ap (edgeFilm (getD card (it .value) 0) (getD card (it .value + 2) 0)) p)
+
+      -- over a face
+      module _ (more : it .corners ≡ 2 → ⊥) {x : List ℕ} (b : x ≡ baseOf t card) where
+        face : eqb (it .corners) 2 ≡ false
+        face = ne-eqb (it .corners) 2 more
+
+        base-here : x ≡ baseBy t card it
+        base-here = b ∙ ap (baseBy t card) (sym e)
+
+        pub face-here : ElementCard t x
+        face-here = subst (ElementCard t) (sym base-here) (over face .0)
+
+        pub face-asks : {s : Shape} → s ≡ elementOf t x .shape → Placed s × (getD card (it .value) 0 ≤ 100000)
+        unfolding elementOf
+        face-asks p = (subst Placed (sym p) (placed-of t x face-here), over face .1)
+
+        pub face-films : {r : ℕ} {s : Shape} → s ≡ elementOf t x .shape → r ≡ faceFilm (getD card (it .value) 0) s → (r ≡ partFor t card .film) × (r ≤ 349500)
+        face-films p z = film-is face (z ∙ ap (faceFilm (getD card (it .value) 0)) (p ∙ ap (λ (z : List ℕ). elementOf t z .shape) base-here))
 
     conducts-by : {b : Bool} → it .conducts ≡ b → (i j : ℕ) → partFor t card .conductance i j ≡ cond b (square 3 (elementOf t card .between) i j) (pos 0)
     conducts-by q i j = as-part t card .conductance i j ∙ ap (λ (b : Bool). cond b (square 3 (elementOf t card .between) i j) (pos 0)) (told (λ d. d .conducts) q)
@@ -126,15 +172,15 @@ module _ (t card : List ℕ) (it : Does) (e : it ≡ does card) where
     unfolding elementOf
     conducts q p z = z ∙ ap (λ (b : Body). squareOf (square 3 (pair b))) p ∙ square-ext _ _ (λ i j k l. sym (conducts-by q i j))
 
-    load-by : {b : Bool} → it .heats ≡ b → (a : ℕ) → partFor t card .load a ≡ cond b (heatShare 3 (getD card 2 0)) (pos (4 * partFor t card .film * getD card 3 0))
-    load-by q a = as-part t card .load a ∙ ap (λ (b : Bool). cond b (heatShare 3 (getD card 2 0)) (pos (4 * partFor t card .film * getD card 3 0))) (told (λ d. d .heats) q)
+    load-by : {b : Bool} → it .heats ≡ b → (a : ℕ) → partFor t card .load a ≡ cond b (heatShare 3 (getD card (it .value) 0)) (pos ((1 + it .corners) * partFor t card .film * getD card (it .value + 1) 0))
+    load-by q a = part-is .load a ∙ ap (λ (b : Bool). cond b (heatShare 3 (getD card (it .value) 0)) (pos ((1 + it .corners) * partFor t card .film * getD card (it .value + 1) 0))) q
 
-    pub heats : it .heats ≡ true → (a : ℕ) → pos (kelvin * getD card 2 0 / 3) ≡ partFor t card .load a
+    pub heats : it .heats ≡ true → (a : ℕ) → pos (kelvin * getD card (it .value) 0 / 3) ≡ partFor t card .load a
     unfolding heatShare
     heats q a = sym (load-by q a)
 
-    pub loads : {r : ℕ} → it .heats ≡ false → r ≡ partFor t card .film → (a : ℕ) → pos (4 * r * getD card 3 0) ≡ partFor t card .load a
-    loads q z a = ap (λ (w : ℕ). pos (4 * w * getD card 3 0)) z ∙ sym (load-by q a)
+    pub loads : {r : ℕ} → it .heats ≡ false → r ≡ partFor t card .film → (a : ℕ) → pos ((1 + it .corners) * r * getD card (it .value + 1) 0) ≡ partFor t card .load a
+    loads q z a = ap (λ (w : ℕ). pos ((1 + it .corners) * w * getD card (it .value + 1) 0)) z ∙ sym (load-by q a)
 
 -- ---- a square in A
 

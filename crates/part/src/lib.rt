@@ -4,7 +4,7 @@ use paper::Node;
 use paper::Ticks;
 ghost use mathlib.Core.Path.{_≡_};
 ghost use mathlib.Core.List.{List};
-ghost use Prim.Native.Nat.{ℕ, _*_, _-_, _/_, _^_, _≤_, _<_, min};
+ghost use Prim.Native.Nat.{ℕ, _+_, _*_, _-_, _/_, _^_, _≤_, _<_, min};
 ghost use lib.IntN.{pos};
 ghost use lib.ListN.{getD};
 ghost use Rattle.paper.specs.Ticks.{kelvin};
@@ -21,19 +21,21 @@ pub struct Corners {
     pub nodes: [Node; 3],
 }
 
-// How many corners a kind has, whether they are those of the element that it names, and what it does over them.
+// How many corners a kind has, whether they are those of the element that it names, and what it does over them. Two are an edge.
 pub struct Does {
     pub corners: usize,
     pub named: bool,
     pub conducts: bool,
     pub films: bool,
     pub heats: bool,
+    // The field of its film or heat.
+    pub value: usize,
 }
 
 // ---- by kind
 
-fn line(corners: usize, named: bool, conducts: bool, films: bool, heats: bool) -> Does
-    ensures { λ r. ⌜ r ≡ line corners named conducts films heats ⌝ }
+fn line(corners: usize, named: bool, conducts: bool, films: bool, heats: bool, value: usize) -> Does
+    ensures { λ r. ⌜ r ≡ line corners named conducts films heats value ⌝ }
 {
     Does {
         corners: corners,
@@ -41,23 +43,25 @@ fn line(corners: usize, named: bool, conducts: bool, films: bool, heats: bool) -
         conducts: conducts,
         films: films,
         heats: heats,
+        value: value,
     }
 }
 
-// Corners, named, conducts, films, heats.
+// Corners, named, conducts, films, heats, field of the value.
 fn by_kind(k: Kind) -> Does
     ensures { λ r. ⌜ r ≡ doesBy k ⌝ }
 {
     match k {
-        Kind::D => line(0, false, false, false, false),
-        Kind::N => line(0, false, false, false, false),
-        Kind::M => line(0, false, false, false, false),
-        Kind::E => line(3, false, true, false, false),
-        Kind::H => line(3, true, false, false, true),
-        Kind::F => line(3, true, false, true, false),
-        Kind::T => line(0, false, false, false, false),
-        Kind::Z => line(0, false, false, false, false),
-        Kind::Other => line(0, false, false, false, false),
+        Kind::D => line(0, false, false, false, false, 0),
+        Kind::N => line(0, false, false, false, false, 0),
+        Kind::M => line(0, false, false, false, false, 0),
+        Kind::E => line(3, false, true, false, false, 0),
+        Kind::H => line(3, true, false, false, true, 2),
+        Kind::F => line(3, true, false, true, false, 2),
+        Kind::G => line(2, false, false, true, false, 3),
+        Kind::T => line(0, false, false, false, false, 0),
+        Kind::Z => line(0, false, false, false, false, 0),
+        Kind::Other => line(0, false, false, false, false, 0),
     }
 }
 
@@ -78,7 +82,7 @@ pub fn stirs(letter: u32) -> bool
 
 // ---- corners
 
-// The card of the element over whose corners a card lies: its own, or the one that it names.
+// The card that has a card's corners in its first fields: itself, or that of the element that it names.
 fn base(table: &[u32], card: [u32; 6]) -> [u32; 6]
     requires { ⌜ Card (now table) card ⌝ }
     ensures { λ r. ⌜ r ≡ baseOf (now (table .entry)) card ⌝ }
@@ -90,14 +94,15 @@ fn base(table: &[u32], card: [u32; 6]) -> [u32; 6]
     card
 }
 
-fn nowhere() -> Corners
-    ensures { λ r. ⌜ r .count ≡ 0 ⌝ }
+// Corner k of so many, and no node past the last.
+fn corner(card: [u32; 6], count: usize, k: usize) -> Node
+    requires { ⌜ (k < 3) × (k < count → getD card (k + 1) 0 < 256) ⌝ }
+    ensures { λ r. ⌜ (k < count → r .0 ≡ getD card (k + 1) 0) ⌝ }
 {
-    let none = element::node(0);
-    Corners {
-        count: 0,
-        nodes: [none, none, none],
+    if count <= k {
+        return element::node(0);
     }
+    element::node(card[k + 1])
 }
 
 pub fn corners_of(table: &[u32], card: [u32; 6]) -> Corners
@@ -105,14 +110,11 @@ pub fn corners_of(table: &[u32], card: [u32; 6]) -> Corners
     ensures { λ r. ⌜ Full r × (cornersOf r ≡ partFor (now (table .entry)) card .corners) ⌝ }
 {
     let it = by_letter(card[0]);
-    if it.corners == 0 {
-        return nowhere();
-    }
-    let shape = element::shape_of(table, base(table, card));
-    let nodes = shape.corners;
+    let n = it.corners;
+    let b = base(table, card);
     Corners {
-        count: it.corners,
-        nodes: nodes,
+        count: n,
+        nodes: [corner(b, n, 0), corner(b, n, 1), corner(b, n, 2)],
     }
 }
 
@@ -161,10 +163,14 @@ fn film(table: &[u32], card: [u32; 6]) -> u64
     ensures { λ r. ⌜ (r ≡ partFor (now (table .entry)) card .film) × (r ≤ 349500) ⌝ }
 {
     let it = by_letter(card[0]);
+    let at = it.value;
     if !it.films {
         return 0;
     }
-    triangle::film(card[2], element::shape_of(table, base(table, card)))
+    if it.corners == 2 {
+        return edge::film(card[at], card[at + 2], element::edge_of(table, card));
+    }
+    triangle::film(card[at], element::shape_of(table, base(table, card)))
 }
 
 fn conductance(table: &[u32], card: [u32; 6]) -> [[i64; 3]; 3]
@@ -200,12 +206,12 @@ fn heat_load(heat: u32) -> u64
     Ticks::KELVIN as u64 * heat as u64 / 3
 }
 
-// A corner's row of the film, which sums to 4 of it, times the ambient.
-fn film_load(film: u64, ambient: Ticks) -> u64
-    requires { ⌜ film ≤ 349500 ⌝ }
-    ensures { λ r. ⌜ r ≡ 4 * film * ambient .0 ⌝ }
+// A corner's row of the film, which sums to 4 of it over a face and to 3 along an edge, times the ambient.
+fn film_load(corners: usize, film: u64, ambient: Ticks) -> u64
+    requires { ⌜ (corners ≤ 3) × (film ≤ 349500) ⌝ }
+    ensures { λ r. ⌜ r ≡ (1 + corners) * film * ambient .0 ⌝ }
 {
-    4 * film * ambient.0 as u64
+    (1 + corners as u64) * film * ambient.0 as u64
 }
 
 // What one corner gets.
@@ -214,10 +220,11 @@ fn load(table: &[u32], card: [u32; 6]) -> u64
     ensures { λ r. ⌜ ((a : ℕ) → pos r ≡ partFor (now (table .entry)) card .load a) ⌝ }
 {
     let it = by_letter(card[0]);
+    let at = it.value;
     if it.heats {
-        return heat_load(card[2]);
+        return heat_load(card[at]);
     }
-    film_load(film(table, card), Ticks(card[3]))
+    film_load(it.corners, film(table, card), Ticks(card[at + 1]))
 }
 
 // The share of each corner.

@@ -3,6 +3,7 @@ pub mod Numbers
 pub mod Outcomes
 pub mod Packing
 pub mod Decks
+pub mod Edge
 pub mod Matrices
 pub mod Replacing
 pub mod Leaving

@@ -1,4 +1,5 @@
 -- Document 01's checked numbers, P1 to P12: P5, P8 to P11 and P4 through the build call, P12 through the replacement's, P6 and P7 through the step's.
+-- Beside them figures of document 02's cards.
 -- And refusals: the limits at their edges, and the order where two fit.
 use mathlib.Core.Path.{_≡_}
 use mathlib.Core.List.{[], _∷_, map}

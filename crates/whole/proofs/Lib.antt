@@ -7,5 +7,6 @@ pub mod Rounding
 pub mod Tests
 pub mod Sums
 pub mod First
+pub mod Largest
 pub mod Packed
 pub mod Lists

@@ -1,4 +1,5 @@
--- Whole numbers as document 01 means them, and the packed triangle.
+-- Whole numbers as documents 01 and 02 mean them, and the packed triangle.
 pub mod Nearest
 pub mod Sums
 pub mod Packed
+pub mod Largest

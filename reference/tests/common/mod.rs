@@ -9,6 +9,7 @@ pub const M: u32 = b'M' as u32;
 pub const E: u32 = b'E' as u32;
 pub const H: u32 = b'H' as u32;
 pub const F: u32 = b'F' as u32;
+pub const G: u32 = b'G' as u32;
 pub const T: u32 = b'T' as u32;
 pub const Z: u32 = b'Z' as u32;
 pub const TOP: u32 = 33_554_432;
@@ -75,6 +76,7 @@ pub struct Groups {
     pub elements: Vec<[u32; 5]>,
     pub heats: Vec<[u32; 2]>,
     pub films: Vec<[u32; 3]>,
+    pub edges: Vec<[u32; 5]>,
     pub fixed: Vec<[u32; 2]>,
 }
 
@@ -88,15 +90,17 @@ impl Groups {
             elements: vec![[1, 2, 3, 1, 1_000]],
             heats: vec![],
             films: vec![],
+            edges: vec![],
             fixed: vec![],
         }
     }
 
-    /// The base with a card of every kind: D, three N, M, E, H, F, T, Z.
+    /// The base with a card of every kind: D, three N, M, E, H, F, G, T, Z.
     pub fn one_of_each() -> Groups {
         let mut groups = Groups::base();
         groups.heats.push([1, 3]);
         groups.films.push([1, 480, 19_660_800]);
+        groups.edges.push([1, 2, 1_800, 19_660_800, 1_000]);
         groups.fixed.push([3, 19_000_000]);
         groups
     }
@@ -118,10 +122,13 @@ impl Groups {
         self.films
             .iter()
             .for_each(|fields| table.extend(card(F, fields)));
+        self.edges
+            .iter()
+            .for_each(|fields| table.extend(card(G, fields)));
         self.fixed
             .iter()
             .for_each(|fields| table.extend(card(T, fields)));
-        let loads = self.heats.len() + self.films.len() + self.fixed.len();
+        let loads = self.heats.len() + self.films.len() + self.edges.len() + self.fixed.len();
         let counts = [
             self.nodes.len(),
             self.materials.len(),
@@ -179,9 +186,11 @@ impl Groups {
             elements,
             heats: vec![],
             films: vec![],
+            edges: vec![],
             fixed: vec![],
         };
         groups.load(chance);
+        groups.rim(chance, columns, rows);
         groups
     }
 
@@ -207,6 +216,56 @@ impl Groups {
         }
     }
 
+    /// Edge films by chance, on the sheet's rim and on some sides inside of it.
+    fn rim(&mut self, chance: &mut Chance, columns: u32, rows: u32) {
+        let mut sides = vec![];
+        for y in 0..rows {
+            for x in 0..columns {
+                let node = y * columns + x + 1;
+                let across = (x + 1 < columns).then_some((node, node + 1, y == 0 || y + 1 == rows));
+                let up =
+                    (y + 1 < rows).then_some((node, node + columns, x == 0 || x + 1 == columns));
+                sides.extend(across.into_iter().chain(up));
+            }
+        }
+        let often = chance.pick(&[1, 2, 5, 1_000]);
+        for (low, high, outside) in sides {
+            if chance.one_in(often * if outside { 1 } else { 6 }) {
+                let ambient = chance.within(15_000_000, 25_000_000);
+                let fields = [chance.within(1, 100_000), ambient, chance.within(1, 4_000)];
+                self.edges
+                    .push([low, high, fields[0], fields[1], fields[2]]);
+            }
+        }
+        self.edges.truncate(160);
+    }
+
+    /// As many cards of every kind as a deck may have: 96 nodes, 160 elements with heat and film on each, 160 edges, and
+    /// every node held. It builds.
+    pub fn largest(chance: &mut Chance) -> Groups {
+        let mut groups = Groups::sheet(chance, 12, 8);
+        let again: Vec<[u32; 5]> = groups.elements[..6].to_vec();
+        groups.elements.extend(again);
+        while groups.materials.len() < 8 {
+            groups.materials.push(groups.materials[0]);
+        }
+        let ambient = 19_660_800;
+        groups.heats = (1..=160)
+            .map(|element| [element, 1_000 + element])
+            .collect();
+        groups.films = (1..=160)
+            .map(|element| [element, 5_000 + element, ambient])
+            .collect();
+        groups.fixed = (1..=96).map(|node| [node, ambient + node]).collect();
+        let pairs = (1..96).flat_map(|low| [(low, low + 1), (low, low + 12)]);
+        groups.edges = pairs
+            .filter(|&(_, high)| high <= 96)
+            .take(160)
+            .map(|(low, high)| [low, high, chance.within(1, 100_000), ambient, 1_000])
+            .collect();
+        groups
+    }
+
     /// Like the paper's P9: two long thin elements of little capacity, hard to factor.
     pub fn slivers(chance: &mut Chance) -> Groups {
         let long = chance.within(20, 200);
@@ -220,6 +279,10 @@ impl Groups {
         ];
         groups.materials = vec![[k, k, chance.within(1, 200)]];
         groups.elements = vec![[1, 2, 3, 1, 1_000], [4, 2, 1, 1, chance.within(1, 1_000)]];
+        if chance.one_in(2) {
+            let (high, film) = (chance.within(2, 4), chance.within(1, 1_000));
+            groups.edges.push([1, high, film, 20_000_000, 1_000]);
+        }
         if chance.one_in(3) {
             groups.fixed.push([chance.within(1, 4), 20_000_000]);
         }
@@ -272,6 +335,7 @@ impl Groups {
                 .collect(),
             heats: vec![],
             films: vec![],
+            edges: vec![],
             fixed: vec![],
         };
         for element in 1..=elements {
@@ -282,6 +346,21 @@ impl Groups {
                 groups
                     .films
                     .push([element, end(chance, 1, 100_000), end(chance, 0, TOP)]);
+            }
+        }
+        // Two nodes at one point, one time in some: an edge of no length.
+        if chance.one_in(8) {
+            groups.nodes[1] = groups.nodes[0];
+        }
+        for low in 1..nodes {
+            for high in low + 1..=nodes {
+                if chance.one_in(6) {
+                    let film = end(chance, 1, 100_000);
+                    let ambient = end(chance, 0, TOP);
+                    groups
+                        .edges
+                        .push([low, high, film, ambient, end(chance, 1, 4_000)]);
+                }
             }
         }
         for node in 1..=nodes {
@@ -389,7 +468,7 @@ impl Lent {
         )
     }
 
-    /// The work slice as a build or an E or F replacement must leave it on 0, 7 and 8.
+    /// The work slice as a build or an E, F or G replacement must leave it on 0, 7 and 8.
     pub fn with_zeroed_work(mut self) -> Lent {
         let length = triangle(nodes_of(&self.table));
         self.work[..length].fill(0);
@@ -403,6 +482,24 @@ pub fn refused(number: u8, place: u32) -> Answer {
 
 pub fn step_refused(number: u8, place: u32) -> Stepped {
     Stepped::Refused(Refusal { number, place })
+}
+
+/// A table as bytes, whether it is a deck or not; each field has at most eight digits.
+pub fn text_of(table: &[u32]) -> Vec<u8> {
+    let mut text = String::new();
+    for card in table.chunks_exact(6) {
+        let used = match card[0] {
+            E | G | Z => 5,
+            D | M | F => 3,
+            _ => 2,
+        };
+        let fields: String = card[1..=used]
+            .iter()
+            .map(|field| format!("{field:8}"))
+            .collect();
+        text += &format!("{}{fields:40}\n", char::from(card[0] as u8));
+    }
+    text.into_bytes()
 }
 
 pub fn bytes_of(table: &[u32]) -> Vec<u8> {

@@ -1,8 +1,8 @@
-//! The paper's checked numbers, P1 to P12, out of the archive alone.
+//! The checked numbers, P1 to P12 and those of the edge film, out of the archive alone.
 
 use crate::archive;
 use crate::case::{Call, Lent};
-use crate::decks::{Groups, E};
+use crate::decks::{Groups, E, G};
 
 const START: i64 = 19_660_800;
 
@@ -126,9 +126,57 @@ fn replacement() {
     );
 }
 
+/// What one G card adds to P and A, by each of their places.
+fn edge_adds(fields: [u32; 5]) -> [Vec<i64>; 2] {
+    let build = |groups: &Groups| {
+        let mut lent = lend(groups);
+        assert_eq!(archive::call(Call::Build, &mut lent), 0, "G");
+        let [p, a, ..] = lent.matrices;
+        [p, a]
+    };
+    let mut groups = Groups::base();
+    let without = build(&groups);
+    groups.edges.push(fields);
+    let with = build(&groups);
+    [0, 1].map(|which| {
+        let both = with[which][..6].iter().zip(&without[which]);
+        both.map(|(now, before)| now - before).collect()
+    })
+}
+
+fn edges() {
+    for (film, g) in [(599, 0), (600, 1), (1_799, 1), (1_800, 2)] {
+        let [p, a] = edge_adds([1, 2, film, 0, 1_000]);
+        assert_eq!(a, [2 * g, g, 2 * g, 0, 0, 0], "G of film {film}");
+        assert_eq!(p, [0; 6], "G of film {film}");
+    }
+    let [p, a] = edge_adds([2, 3, 100_000, 0, 4_000]);
+    assert_eq!(a, [0, 0, 942, 0, 471, 942], "G aslant");
+    assert_eq!(p, [0; 6], "G aslant");
+    // As warm as the frame, the plate stays as it is: each end's load is 3g·ambient.
+    let still = stepped(|groups| groups.edges.push([2, 3, 100_000, START as u32, 4_000]));
+    assert_eq!(still, (256, vec![START, START, START, PAST]), "G's load");
+    // A replacement of it leaves what the new card would have given.
+    let mut groups = Groups::base();
+    groups.edges.push([2, 3, 1, 0, 1]);
+    let mut lent = lend(&groups);
+    archive::call(Call::Build, &mut lent);
+    let new = [G, 2, 3, 100_000, 0, 4_000];
+    let answer = archive::call(Call::Replace { card: 7, new }, &mut lent);
+    assert_eq!((answer, &lent.table[36..42]), (0, &new[..]), "G replaced");
+    let base = [6_000, 2_000, 5_500, 2_000, 2_500, 5_500];
+    let more: Vec<i64> = lent.matrices[1]
+        .iter()
+        .zip(base)
+        .map(|(a, b)| a - b)
+        .collect();
+    assert_eq!(more, [0, 0, 942, 0, 471, 942], "G replaced");
+}
+
 pub fn all() {
     matrices();
     steps();
     refusals();
     replacement();
+    edges();
 }

@@ -1,7 +1,7 @@
 //! Cases just at a limit and just past it, which chance seldom draws. `tests/kernel` takes this file too.
 
 use crate::case::{Call, Lent};
-use crate::decks::{nodes_of, triangle, Groups};
+use crate::decks::{nodes_of, text_of, triangle, Groups};
 use crate::trial::Trial;
 
 const P: usize = 0;
@@ -9,7 +9,7 @@ const A: usize = 1;
 const FACTOR: usize = 2;
 
 /// A deck built, with all that the calls take exactly as long as they ask.
-fn built(trial: &mut Trial, table: Vec<u32>) -> Lent {
+pub fn built(trial: &mut Trial, table: Vec<u32>) -> Lent {
     let (bytes, nodes) = (7 * table.len(), nodes_of(&table));
     let mut lent = Lent {
         bytes: vec![b'?'; bytes],
@@ -23,7 +23,7 @@ fn built(trial: &mut Trial, table: Vec<u32>) -> Lent {
 }
 
 /// The card in a row, put in its own place.
-fn same(table: &[u32], row: usize) -> Call {
+pub fn same(table: &[u32], row: usize) -> Call {
     Call::Replace {
         card: row as u32 + 1,
         new: table[6 * row..6 * row + 6].try_into().unwrap(),
@@ -32,9 +32,9 @@ fn same(table: &[u32], row: usize) -> Call {
 
 pub fn short_buffers(trial: &mut Trial) {
     let whole = built(trial, Groups::one_of_each().table());
-    let [element, heat] = [5, 6].map(|row| same(&whole.table, row));
+    let [element, heat, edge] = [5, 6, 8].map(|row| same(&whole.table, row));
     for which in 0..4 {
-        for call in [Call::Build, element, heat, Call::Step] {
+        for call in [Call::Build, element, heat, edge, Call::Step] {
             let mut lent = whole.clone();
             lent.matrices[which].pop();
             trial.call(&mut lent, call);
@@ -108,7 +108,7 @@ pub fn lent_numbers(trial: &mut Trial) {
 
 /// One number of what is lent to a step and to a replacement of each kind.
 fn with(trial: &mut Trial, whole: &Lent, matrix: usize, at: usize, value: i64) {
-    let replacements = (5..9).map(|row| same(&whole.table, row));
+    let replacements = (5..10).map(|row| same(&whole.table, row));
     for call in replacements.chain([Call::Step]) {
         let mut lent = whole.clone();
         lent.matrices[matrix][at] = value;
@@ -116,14 +116,80 @@ fn with(trial: &mut Trial, whole: &Lent, matrix: usize, at: usize, value: i64) {
     }
 }
 
-/// A deck without T, so that no row of A is cleared, and its E and F put in their own places over such an A.
+/// A deck without T, so that no row of A is cleared, and its E, F and G put in their own places over such an A.
 fn first_row(trial: &mut Trial, d: i64, w: i64) {
     let mut groups = Groups::base();
     groups.films.push([1, 480, 19_660_800]);
+    groups.edges.push([1, 2, 1_800, 19_660_800, 1_000]);
     let whole = built(trial, groups.table());
-    for row in [5, 6] {
+    for row in [5, 6, 7] {
         let mut lent = whole.clone();
         lent.matrices[A] = vec![d, w, 1 << 31, 0, 0, 1 << 31];
         trial.call(&mut lent, same(&whole.table, row));
+    }
+}
+
+/// Every call with a table that is a deck or not; where it replaces, the card before Z in its own place.
+pub fn each_call(trial: &mut Trial, table: &[u32]) {
+    let nodes = if table.len() < 12 {
+        3
+    } else {
+        nodes_of(table).clamp(3, 96)
+    };
+    let whole = Lent {
+        bytes: vec![b'?'; 7 * table.len()],
+        table: table.to_vec(),
+        matrices: [0; 4].map(|_| vec![7; triangle(nodes)]),
+        temperatures: vec![19_660_800; nodes],
+        ..Lent::default()
+    };
+    let mut lent = whole.clone();
+    trial.call(&mut lent, Call::Write);
+    lent = whole.clone();
+    trial.call(&mut lent, Call::Build);
+    trial.call(&mut lent, Call::Step);
+    if table.len() >= 12 {
+        trial.call(&mut lent, same(table, table.len() / 6 - 2));
+    }
+    lent = Lent {
+        bytes: text_of(table),
+        table: vec![7; table.len()],
+        ..Lent::default()
+    };
+    trial.call(&mut lent, Call::Read);
+}
+
+/// Refusals 1 and 2 at their limits and just past them, from the largest deck that there is.
+pub fn lengths(trial: &mut Trial) {
+    let table = Groups::largest(&mut trial.chance).table();
+    each_call(trial, &table);
+    let mut lent = built(trial, table.clone());
+    // The first and the last E, H, F, G and T, with one more in a field that may change.
+    for (first, last, field) in [
+        (105, 264, 5),
+        (265, 424, 2),
+        (425, 584, 2),
+        (585, 744, 3),
+        (745, 840, 2),
+    ] {
+        for row in [first, last] {
+            let mut new: [u32; 6] = table[6 * row..6 * row + 6].try_into().unwrap();
+            new[field] += 1;
+            let card = row as u32 + 1;
+            trial.call(&mut lent, Call::Replace { card, new });
+        }
+    }
+    for length in [5_046, 5_051, 5_053, 5_058] {
+        let mut other = table[..5_046].to_vec();
+        other.resize(length.max(5_052) - 6, 0);
+        other.extend(&table[5_046..]);
+        other.truncate(length);
+        each_call(trial, &other);
+    }
+    // A last count that may be, and one more: so many H cards never rise.
+    for count in [575, 576, 577] {
+        let mut groups = Groups::base();
+        groups.heats = vec![[1, 9]; count];
+        each_call(trial, &groups.table());
     }
 }

@@ -9,9 +9,11 @@ mod decks;
 
 mod archive;
 mod case;
+mod edges;
 mod face;
 mod figures;
 mod limits;
+mod met;
 mod plan;
 mod show;
 mod shrink;
@@ -33,7 +35,7 @@ fn main() -> ExitCode {
         }
     };
     figures::all();
-    println!("P1 to P12 out of the archive: as the paper has them");
+    println!("P1 to P12 and the edge film's figures out of the archive: as the papers have them");
     println!("seed {seed}");
     let mut trial = trial::Trial::new(seed, MOST);
     for (name, part) in plan::LENT.into_iter().chain(plan::DAMAGED) {

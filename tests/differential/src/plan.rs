@@ -1,15 +1,15 @@
 //! What is tried: each function is one kind of case. `tests/kernel` takes this file too, for LENT.
 
 use crate::case::{Call, Lent};
-use crate::decks::{bytes_of, nodes_of, triangle, Chance, Groups, D, E, F, H, M, N, T, TOP, Z};
-use crate::limits;
+use crate::decks::{bytes_of, nodes_of, triangle, Chance, Groups, D, E, F, G, H, M, N, T, TOP, Z};
 use crate::trial::Trial;
+use crate::{edges, limits};
 use reference::Card;
 
 pub type Part = (&'static str, fn(&mut Trial));
 
 /// Decks, own buffers and foreign ones.
-pub const LENT: [Part; 11] = [
+pub const LENT: [Part; 17] = [
     ("decks read and written back", valid_decks),
     ("builds over slices short, exact and long", builds),
     ("the paper's checked decks", checked_decks),
@@ -24,6 +24,12 @@ pub const LENT: [Part; 11] = [
         "each limit of lent numbers, and one past it",
         limits::lent_numbers,
     ),
+    ("edges at a half of g and beside it", edges::halves),
+    ("edges whose nodes are paired well and ill", edges::pairs),
+    ("edges of no length", edges::of_no_length),
+    ("a node that an edge alone carries", edges::alone),
+    ("as many edges as there may be, and one more", edges::most),
+    ("tables at the limits of length and count", limits::lengths),
 ];
 
 /// Damages come last, so that a fault in the plain work is met as such.
@@ -165,7 +171,7 @@ fn read(trial: &mut Trial, bytes: &[u8], room: usize) {
 }
 
 fn each_byte(trial: &mut Trial) {
-    let table = small();
+    let table = Groups::one_of_each().table();
     let mut bytes = bytes_of(&table);
     for at in 0..bytes.len() {
         let right = bytes[at];
@@ -197,7 +203,7 @@ fn damaged_bytes(trial: &mut Trial) {
 fn any_byte(chance: &mut Chance) -> u8 {
     match chance.within(0, 2) {
         0 => chance.bits() as u8,
-        _ => chance.pick(b"0123456789 \nDNMEHFTZ-+"),
+        _ => chance.pick(b"0123456789 \nDNMEHFGTZ-+"),
     }
 }
 
@@ -315,7 +321,7 @@ fn builds(trial: &mut Trial) {
 fn replacement(chance: &mut Chance, table: &[u32]) -> Call {
     let rows = table.len() / 6;
     let changeable: Vec<usize> = (0..rows)
-        .filter(|&index| [E, H, F, T].contains(&table[6 * index]))
+        .filter(|&index| [E, H, F, G, T].contains(&table[6 * index]))
         .collect();
     let index = if chance.one_in(12) {
         chance.index(rows)
@@ -327,6 +333,7 @@ fn replacement(chance: &mut Chance, table: &[u32]) -> Call {
         E => &[(4, 1, 8), (5, 1, 4_000)],
         H => &[(2, 1, 5_000_000)],
         F => &[(2, 1, 100_000), (3, 0, TOP)],
+        G => &[(3, 1, 100_000), (4, 0, TOP), (5, 1, 4_000)],
         T => &[(2, 0, TOP)],
         _ => &[(1, 0, 100), (5, 0, 100)],
     };
@@ -348,7 +355,7 @@ fn replacement(chance: &mut Chance, table: &[u32]) -> Call {
     }
     let mut card = index as u32 + 1;
     match chance.within(0, 40) {
-        0 => new[0] = chance.pick(&[D, N, M, E, H, F, T, Z, 0, 65]),
+        0 => new[0] = chance.pick(&[D, N, M, E, H, F, G, T, Z, 0, 65]),
         1 => new[chance.within(1, 5) as usize] = chance.unsigned(),
         2 => card = chance.unsigned(),
         3 => card = chance.pick(&[0, 1, rows as u32, rows as u32 + 1, u32::MAX]),
@@ -364,6 +371,7 @@ fn replacements(trial: &mut Trial) {
         let length = triangle(nodes_of(&table));
         let mut lent = lend(chance, table);
         trial.call(&mut lent, Call::Build);
+        let mut edges = 0;
         for _ in 0..60 {
             let chance = &mut trial.chance;
             let call = replacement(chance, &lent.table);
@@ -375,15 +383,16 @@ fn replacements(trial: &mut Trial) {
             let answer = trial.call(&mut now, call);
             if answer == 0 {
                 lent = now;
+                edges += u32::from(matches!(call, Call::Replace { new: [G, ..], .. }));
             }
             if trial.chance.one_in(8) {
                 trial.call(&mut lent, Call::Step);
             }
             if trial.chance.one_in(10) {
-                trial.as_built(&lent);
+                trial.as_built(&lent, edges);
             }
         }
-        trial.as_built(&lent);
+        trial.as_built(&lent, edges);
     }
 }
 
@@ -522,7 +531,7 @@ fn damage(chance: &mut Chance, table: &mut Vec<u32>) {
         }
         2 => table.truncate(chance.index(table.len() + 1)),
         3 => table.extend((0..chance.within(1, 13)).map(|_| 0)),
-        4 => table[row] = chance.pick(&[D, N, M, E, H, F, T, Z, 0, u32::MAX]),
+        4 => table[row] = chance.pick(&[D, N, M, E, H, F, G, T, Z, 0, u32::MAX]),
         // The trailer's own numbers.
         5 => {
             let at = table.len() - 1 - chance.index(6);
@@ -542,7 +551,7 @@ fn damage(chance: &mut Chance, table: &mut Vec<u32>) {
 /// Another number: beside this one, at a limit of the paper or beside it, or anything.
 fn edge(chance: &mut Chance, number: u32) -> u32 {
     const LIMITS: [u32; 14] = [
-        0, 1, 3, 8, 96, 160, 416, 4_000, 4_095, 5_000, 60_000, 100_000, 500_000, 5_000_000,
+        0, 1, 3, 8, 96, 160, 576, 4_000, 4_095, 5_000, 60_000, 100_000, 500_000, 5_000_000,
     ];
     match chance.within(0, 4) {
         0 => number.wrapping_add(1),

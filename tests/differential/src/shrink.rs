@@ -1,7 +1,7 @@
 //! Makes a case that disagrees small, by edits after which it still does.
 
 use crate::case::{Call, Case};
-use crate::decks::{triangle, E, F, H, M, N, T};
+use crate::decks::{triangle, E, F, G, H, M, N, T};
 use std::time::{Duration, Instant};
 
 const MOST: Duration = Duration::from_secs(20);
@@ -181,7 +181,7 @@ fn without_bytes(case: &mut Case, row: usize) -> Option<()> {
         N => 1,
         M => 2,
         E => 3,
-        H | F | T => 4,
+        H | F | G | T => 4,
         _ => return None,
     };
     fields[count] = fields[count].checked_sub(1)?;
@@ -218,6 +218,9 @@ fn without_all(case: &mut Case, row: usize) -> Option<()> {
     let elements = case.lent.table.chunks(6).filter(|card| card[0] == E);
     let used: Vec<u32> = elements.flat_map(|card| &card[1..4]).copied().collect();
     take_all(case, |_, card| card[0] == T && !used.contains(&card[1]))?;
+    take_all(case, |_, card| {
+        card[0] == G && !card[1..3].iter().all(|node| used.contains(node))
+    })?;
     take_all(case, |key, card| card[0] == N && !used.contains(&key))
 }
 
@@ -250,7 +253,7 @@ fn without(case: &mut Case, row: usize) -> Option<()> {
             N => 2,
             M => 3,
             E => 4,
-            H | F | T => 5,
+            H | F | G | T => 5,
             _ => return None,
         };
     table[count] = table[count].checked_sub(1)?;
@@ -285,6 +288,7 @@ fn without(case: &mut Case, row: usize) -> Option<()> {
 fn renumber(card: &mut [u32], gone: u32, key: u32) -> Option<()> {
     let named: &[usize] = match (gone, card[0]) {
         (N, E) => &[1, 2, 3],
+        (N, G) => &[1, 2],
         (N, T) | (E, H) | (E, F) => &[1],
         (M, E) => &[4],
         _ => &[],

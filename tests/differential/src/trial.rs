@@ -2,6 +2,7 @@
 
 use crate::case::{Call, Case, Lent, MATRICES};
 use crate::decks::{nodes_of, triangle, Chance};
+use crate::met::Met;
 use crate::show;
 use crate::shrink::shrink;
 use std::process::exit;
@@ -14,6 +15,7 @@ pub struct Trial {
     pub chance: Chance,
     /// Cases by call and by number: 0 is acceptance.
     met: [[u64; 14]; 5],
+    edges: Met,
     /// Decks after replacements that were compared with a fresh build.
     fresh: u64,
     began: Instant,
@@ -25,6 +27,7 @@ impl Trial {
         Trial {
             chance: Chance::seeded(seed),
             met: [[0; 14]; 5],
+            edges: Met::default(),
             fresh: 0,
             began: Instant::now(),
             most,
@@ -54,12 +57,14 @@ impl Trial {
             exit(1);
         }
         self.met[call.index()][(ours.answer & 255) as usize] += 1;
+        self.edges.see(call, &case.lent, &ours.lent, ours.answer);
         *lent = ours.lent;
         ours.answer
     }
 
-    /// Where the deck builds, P, A and the factor are what the archive makes of it afresh, or the program ends here.
-    pub fn as_built(&mut self, lent: &Lent) {
+    /// Where the deck builds, P, A and the factor are what the archive makes of it afresh, or the program ends here. So many
+    /// replacements of G cards came before.
+    pub fn as_built(&mut self, lent: &Lent, edges: u32) {
         let mut anew = lent.clone();
         anew.matrices[..3]
             .iter_mut()
@@ -79,6 +84,7 @@ impl Trial {
             exit(1);
         }
         self.fresh += 1;
+        self.edges.as_built(edges);
     }
 
     pub fn fresh(&self) -> u64 {
@@ -98,7 +104,7 @@ impl Trial {
         self.met.iter().flatten().sum()
     }
 
-    /// Prints what was met. Was every refusal?
+    /// Prints what was met. Was every refusal, and all of G?
     pub fn report(&self) -> bool {
         print!("{:8} {:>8} {:>8}", "call", "cases", "done");
         (1..14).for_each(|number| print!(" {number:>6}"));
@@ -114,6 +120,12 @@ impl Trial {
         if !unmet.is_empty() {
             println!("refusals not met: {unmet:?}");
         }
-        unmet.is_empty()
+        self.edges
+            .lines()
+            .iter()
+            .for_each(|line| println!("{line}"));
+        let edges = self.edges.unmet();
+        edges.iter().for_each(|thing| println!("not met: {thing}"));
+        unmet.is_empty() && edges.is_empty()
     }
 }

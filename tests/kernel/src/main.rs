@@ -13,8 +13,13 @@ mod case;
 mod cases;
 #[path = "../../../reference/tests/common/mod.rs"]
 mod decks;
+#[path = "../../differential/src/edges.rs"]
+mod edges;
 #[path = "../../differential/src/limits.rs"]
 mod limits;
+#[path = "../../differential/src/met.rs"]
+#[allow(dead_code)]
+mod met;
 
 mod model;
 mod plan;

@@ -1,7 +1,7 @@
 //! What is tried, part by part.
 
 use crate::cases;
-use crate::decks::{bytes_of, Chance, Groups, D, E, F, H, M, N, T, TOP, Z};
+use crate::decks::{bytes_of, text_of, Chance, Groups, D, E, F, G, H, M, N, T, TOP, Z};
 use crate::record::Record;
 use crate::trial::Trial;
 use reference::{Card, MAX_BYTES};
@@ -60,12 +60,13 @@ fn checked_decks(record: &mut Record) {
 
 // ---- replacements
 
-/// The base with heat, film and a held node: a hundred replacements, and steps between them.
+/// The base with heat, film, an edge in a frame and a held node: a hundred replacements, and steps between them.
 fn a_triangle_replaced(record: &mut Record) {
     let mut groups = Groups::base();
     groups.materials.push([20_000, 400, 1_900]);
     groups.heats.push([1, 3_000]);
     groups.films.push([1, 48_000, 18_000_000]);
+    groups.edges.push([1, 3, 60_000, 18_500_000, 1_000]);
     groups.fixed.push([2, 21_000_000]);
     tried(record, &groups);
     replaced(record, 100, 1);
@@ -90,7 +91,7 @@ fn replaced(record: &mut Record, count: usize, between: usize) {
 fn replacement(chance: &mut Chance, table: &[u32]) -> (u32, Card) {
     let cards: Vec<&[u32]> = table.chunks_exact(6).collect();
     let free: Vec<usize> = (0..cards.len())
-        .filter(|&index| [E, H, F, T].contains(&cards[index][0]))
+        .filter(|&index| [E, H, F, G, T].contains(&cards[index][0]))
         .collect();
     let materials = cards.iter().filter(|card| card[0] == M).count() as u32;
     let index = chance.pick(&free);
@@ -99,6 +100,10 @@ fn replacement(chance: &mut Chance, table: &[u32]) -> (u32, Card) {
         E => (new[4], new[5]) = (chance.within(1, materials), chance.within(800, 2_000)),
         H => new[2] = chance.within(1, 500_000),
         F => (new[2], new[3]) = (chance.within(1, 100_000), warmth(chance)),
+        G => {
+            (new[3], new[4]) = (chance.within(1, 100_000), warmth(chance));
+            new[5] = chance.within(1, 4_000);
+        }
         _ => new[2] = warmth(chance),
     }
     let mut card = index as u32 + 1;
@@ -115,7 +120,7 @@ fn warmth(chance: &mut Chance) -> u32 {
 fn fault(chance: &mut Chance, card: &mut u32, new: &mut Card, cards: u32) {
     match chance.within(0, 4) {
         0 => *card = chance.pick(&[0, 1, 2, cards, cards + 1, u32::MAX]),
-        1 => new[0] = chance.pick(&[D, N, M, E, H, F, T, Z, 0, 256 + E, u32::MAX]),
+        1 => new[0] = chance.pick(&[D, N, M, E, H, F, G, T, Z, 0, 256 + E, u32::MAX]),
         2 => *card = chance.within(1, cards),
         _ => new[chance.within(1, 5) as usize] = chance.unsigned(),
     }
@@ -175,22 +180,21 @@ fn boards(record: &mut Record) {
 
 /// As many cards of each kind as there may be; then one more, which no trailer allows.
 fn largest(record: &mut Record) {
-    let mut groups = Groups::sheet(&mut record.chance, 12, 8);
-    groups.materials.resize(8, [1_000, 1_000, 2_400]);
-    groups.elements.resize(160, groups.elements[0]);
-    groups.heats = (1..=160).map(|element| [element, 1_000]).collect();
-    groups.films = (1..=160)
-        .map(|element| [element, 480, 20_000_000])
-        .collect();
-    groups.fixed = (1..=96).map(|node| [node, 19_000_000 + node]).collect();
+    let groups = Groups::largest(&mut record.chance);
     tried(record, &groups);
     replaced(record, 10, 5);
-    for kind in 0..4 {
+    for kind in 0..6 {
         let mut more = groups.clone();
         match kind {
             0 => more.nodes.push([0, 0]),
             1 => more.materials.push([1_000, 1_000, 2_400]),
             2 => more.elements.push(groups.elements[0]),
+            3 => more.edges.push([95, 96, 1, 1, 1]),
+            // In the place of an H: its letter alone is refused.
+            4 => {
+                more.heats.pop();
+                more.edges.push([95, 96, 1, 1, 1]);
+            }
             _ => more.fixed.push([96, 19_000_000]),
         }
         record.deck(&text_of(&more.table()));
@@ -213,30 +217,12 @@ fn wild_decks(record: &mut Record) {
 
 // ---- bytes that are no deck
 
-/// A table as bytes, whether it is a deck or not.
-fn text_of(table: &[u32]) -> Vec<u8> {
-    let mut text = String::new();
-    for card in table.chunks_exact(6) {
-        let used = match card[0] {
-            E | Z => 5,
-            D | M | F => 3,
-            _ => 2,
-        };
-        let fields: String = card[1..=used]
-            .iter()
-            .map(|field| format!("{field:8}"))
-            .collect();
-        text += &format!("{}{fields:40}\n", char::from(card[0] as u8));
-    }
-    text.into_bytes()
-}
-
 fn small() -> Vec<u8> {
     bytes_of(&Groups::one_of_each().table())
 }
 
 /// Card, field, and the field's range in `one_of_each`.
-const RANGES: [(usize, usize, u32, u32); 17] = [
+const RANGES: [(usize, usize, u32, u32); 22] = [
     (0, 1, 1, 60_000),
     (0, 2, 0, TOP),
     (0, 3, 1, 100_000),
@@ -252,8 +238,13 @@ const RANGES: [(usize, usize, u32, u32); 17] = [
     (6, 2, 1, 5_000_000),
     (7, 2, 1, 100_000),
     (7, 3, 0, TOP),
-    (8, 1, 1, 3),
-    (8, 2, 0, TOP),
+    (8, 1, 1, 1),
+    (8, 2, 2, 3),
+    (8, 3, 1, 100_000),
+    (8, 4, 0, TOP),
+    (8, 5, 1, 4_000),
+    (9, 1, 1, 3),
+    (9, 2, 0, TOP),
 ];
 
 /// Each field at the ends of its range, and past them.
@@ -271,7 +262,7 @@ fn edges(record: &mut Record) {
 fn any_byte(chance: &mut Chance) -> u8 {
     match chance.within(0, 2) {
         0 => chance.bits() as u8,
-        _ => chance.pick(b"0123456789 \nDNMEHFTZ"),
+        _ => chance.pick(b"0123456789 \nDNMEHFGTZ"),
     }
 }
 
@@ -394,6 +385,7 @@ fn enough(record: &Record) {
         .iter()
         .all(|&number| replacements[number] > 0));
     assert!([1, 8, 11].iter().all(|&number| steps[number] > 0));
+    assert!([0, 4, 13].iter().all(|&number| record.edges[number] > 0));
 }
 
 /// The differential test's cases of own and foreign buffers.
@@ -406,4 +398,6 @@ pub fn lent(trial: &mut Trial) {
     let [.., replace, step] = met;
     assert!([7, 8, 10, 13].iter().all(|&number| replace[number] > 0));
     assert!([8, 10, 11, 12].iter().all(|&number| step[number] > 0));
+    let unmet = trial.edges.unmet();
+    assert!(unmet.is_empty(), "not met: {unmet:?}");
 }

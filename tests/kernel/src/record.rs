@@ -1,6 +1,6 @@
 //! The commands, one a line, and what the guest shows of each.
 
-use crate::decks::Chance;
+use crate::decks::{Chance, G};
 use crate::model::Model;
 use crate::trial::Trial;
 use crate::words;
@@ -20,6 +20,8 @@ pub struct Record {
     shown: Vec<String>,
     /// Accepted calls, and refused ones by number: decks, replacements, writes of steps.
     pub met: [[u32; 14]; 3],
+    /// Of the replacements, those by a G card.
+    pub edges: [u32; 14],
 }
 
 fn number_of(answer: Answer) -> usize {
@@ -37,6 +39,7 @@ impl Record {
             traced: vec![],
             shown: vec![],
             met: [[0; 14]; 3],
+            edges: [0; 14],
         }
     }
 
@@ -67,6 +70,7 @@ impl Record {
         self.command(format!("replace {card} {fields}"));
         let answer = self.model.replace(card, new);
         self.met[1][number_of(answer)] += 1;
+        self.edges[number_of(answer)] += u32::from(new[0] == G);
         self.answer = words::answered(answer);
         self.show();
     }

@@ -2,6 +2,7 @@
 
 use crate::case::{Call, Case, Lent};
 use crate::decks::Chance;
+use crate::met::Met;
 use std::path::Path;
 use std::{fs, io};
 
@@ -22,6 +23,7 @@ pub struct Trial {
     files: Vec<Cases>,
     /// Cases by call and by number: 0 is acceptance.
     pub met: [[u32; 14]; 5],
+    pub edges: Met,
 }
 
 impl Trial {
@@ -30,6 +32,7 @@ impl Trial {
             chance: Chance::seeded(seed),
             files: vec![Cases::default()],
             met: [[0; 14]; 5],
+            edges: Met::default(),
         }
     }
 
@@ -45,6 +48,7 @@ impl Trial {
         };
         let right = case.by_reference();
         self.met[call.index()][(right.answer & 255) as usize] += 1;
+        self.edges.see(call, &case.lent, &right.lent, right.answer);
         if self.files.last().unwrap().before.len() > ENOUGH {
             self.files.push(Cases::default());
         }
@@ -56,12 +60,14 @@ impl Trial {
     }
 
     /// A build of the deck as it is, into buffers that held something else.
-    pub fn as_built(&mut self, lent: &Lent) {
+    pub fn as_built(&mut self, lent: &Lent, edges: u32) {
         let mut anew = lent.clone();
         anew.matrices[..3]
             .iter_mut()
             .for_each(|matrix| matrix.fill(0));
-        self.call(&mut anew, Call::Build);
+        if self.call(&mut anew, Call::Build) == 0 {
+            self.edges.as_built(edges);
+        }
     }
 
     pub fn cases(&self) -> u32 {

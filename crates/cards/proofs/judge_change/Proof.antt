@@ -54,7 +54,7 @@ returns-2 c =
 answers-to-requires : tie.Need-answers-to-requires
 answers-to-requires c κs =
     let k = ap (λ (b : About). b .keeps) (c .before .before .before .before .before .before .before .before .about .ensures) in
-    (search needs, ap (λ (b : About). b .keeps) (c .before .before .before .before .before .before .before .before .about .ensures ∙ ap about (c .before .before .before .before .before .before .before .before .before .kind .ensures)), omega (arith, k, small (c .before .before .before .before .before .before .before .before .before .kind .result) .keeps))
+    (c .before .before .before .before .before .before .before .before .before .before .before .before .before .pre .1, ap (λ (b : About). b .keeps) (c .before .before .before .before .before .before .before .before .about .ensures ∙ ap about (c .before .before .before .before .before .before .before .before .before .kind .ensures)), omega (arith, k, small (c .before .before .before .before .before .before .before .before .before .kind .result) .keeps))
 
 returns-3 : tie.Need-returns-3
 returns-3 c =

@@ -1,11 +1,11 @@
 use borrow.Author.Needs.{needs}
 use Rattle.change.proofs.judge_form.Statement.{statement}
 use Rattle.change.proofs.judge_form.Tie as tie
-use mathlib.Core.Path.{_≡_, sym, ap, subst, _∙_}
-use Prim.Native.Nat.{ℕ}
+use mathlib.Core.Path.{sym, subst}
+use borrow.Author.Tests.{not-true, not-false}
 use Rattle.paper.specs.Cards.{elements}
 use Rattle.laws.proofs.Decks.{In}
-use Rattle.change.proofs.Forming.{element-card, own-row, judged-own, named, few-named, judged-named, judged-none}
+use Rattle.change.proofs.Forming.{element-card, own-row, judged-own, named, few-named, judged-named, judged-edge, judged-none}
 
 array-read-by-letter : tie.Need-array-read-by-letter
 array-read-by-letter c = search needs
@@ -22,21 +22,24 @@ judge-card-requires c κs = element-card (c .before .before .before .before .arg
 returns : tie.Need-returns
 returns c = judged-own (c .before .before .before .before .before .args .table .now) (c .before .before .before .before .before .args .row) (c .before .before .before .before .before .args .t3) (c .before .before .before .before .before .pre) (c .before .before .before .by-letter .result) (c .before .before .before .by-letter .ensures) (c .before .before .if1 .taken) (c .judge-card .ensures) (c .before .element-in .ensures)
 
+returns-2 : tie.Need-returns-2
+returns-2 c = judged-none (c .before .before .before .before .before .args .table .now) (c .before .before .before .before .before .args .row) (c .before .before .before .before .before .args .t3) (c .before .before .before .before .before .pre) (c .before .before .before .by-letter .result) (c .before .before .before .by-letter .ensures) (c .before .before .if1 .left) (not-true (c .before .before .before .by-letter .result .films) (c .if2 .taken))
+
 array-read-element : tie.Need-array-read-element
 array-read-element c = search needs
 
 element-requires : tie.Need-element-requires
-element-requires c κs = few-named (c .before .before .before .before .args .table .now) (c .before .before .before .before .args .row) (c .before .before .before .before .args .t3) (c .before .before .before .before .pre) (c .before .before .by-letter .result) (c .before .before .by-letter .ensures) (c .before .if1 .left) (c .if2 .taken)
+element-requires c κs = few-named (c .before .before .before .before .before .before .args .table .now) (c .before .before .before .before .before .before .args .row) (c .before .before .before .before .before .before .args .t3) (c .before .before .before .before .before .before .pre) (c .before .before .before .before .by-letter .result) (c .before .before .before .before .by-letter .ensures) (c .before .before .before .if1 .left) (not-false (c .before .before .before .before .by-letter .result .films) (c .before .if2 .left)) (c .if3 .taken)
 
 judge-element-requires : tie.Need-judge-element-requires
 judge-element-requires c κs =
-    (c .before .before .before .before .before .pre .deck, subst (In 1 (elements (c .before .before .before .before .before .args .table .now))) (sym (c .element .ensures)) (named (c .before .before .before .before .before .args .table .now) (c .before .before .before .before .before .args .row) (c .before .before .before .before .before .args .t3) (c .before .before .before .before .before .pre) (c .before .before .before .by-letter .result) (c .before .before .before .by-letter .ensures) (c .before .before .if1 .left) (c .before .if2 .taken)))
-
-returns-2 : tie.Need-returns-2
-returns-2 c = judged-named (c .before .before .before .before .before .before .args .table .now) (c .before .before .before .before .before .before .args .row) (c .before .before .before .before .before .before .args .t3) (c .before .before .before .before .before .before .pre) (c .before .before .before .before .by-letter .result) (c .before .before .before .before .by-letter .ensures) (c .before .before .before .if1 .left) (c .before .before .if2 .taken) (c .judge-element .ensures) (c .before .element .ensures)
+    (c .before .before .before .before .before .before .before .pre .deck, subst (In 1 (elements (c .before .before .before .before .before .before .before .args .table .now))) (sym (c .element .ensures)) (named (c .before .before .before .before .before .before .before .args .table .now) (c .before .before .before .before .before .before .before .args .row) (c .before .before .before .before .before .before .before .args .t3) (c .before .before .before .before .before .before .before .pre) (c .before .before .before .before .before .by-letter .result) (c .before .before .before .before .before .by-letter .ensures) (c .before .before .before .before .if1 .left) (not-false (c .before .before .before .before .before .by-letter .result .films) (c .before .before .if2 .left)) (c .before .if3 .taken)))
 
 returns-3 : tie.Need-returns-3
-returns-3 c = judged-none (c .before .before .before .before .args .table .now) (c .before .before .before .before .args .row) (c .before .before .before .before .args .t3) (c .before .before .before .before .pre) (c .before .before .by-letter .result) (c .before .before .by-letter .ensures) (c .before .if1 .left) (c .if2 .left)
+returns-3 c = judged-named (c .before .before .before .before .before .before .before .before .args .table .now) (c .before .before .before .before .before .before .before .before .args .row) (c .before .before .before .before .before .before .before .before .args .t3) (c .before .before .before .before .before .before .before .before .pre) (c .before .before .before .before .before .before .by-letter .result) (c .before .before .before .before .before .before .by-letter .ensures) (c .before .before .before .before .before .if1 .left) (not-false (c .before .before .before .before .before .before .by-letter .result .films) (c .before .before .before .if2 .left)) (c .before .before .if3 .taken) (c .judge-element .ensures) (c .before .element .ensures)
+
+returns-4 : tie.Need-returns-4
+returns-4 c = judged-edge (c .before .before .before .before .before .before .args .table .now) (c .before .before .before .before .before .before .args .row) (c .before .before .before .before .before .before .args .t3) (c .before .before .before .before .before .before .pre) (c .before .before .before .before .by-letter .result) (c .before .before .before .before .by-letter .ensures) (c .before .before .before .if1 .left) (not-false (c .before .before .before .before .by-letter .result .films) (c .before .if2 .left)) (c .if3 .left)
 
 pub judge-form-spec : {M : Type 1} → statement M
 judge-form-spec =
@@ -47,8 +50,9 @@ judge-form-spec =
     element-in-requires
     judge-card-requires
     returns
+    returns-2
     array-read-element
     element-requires
     judge-element-requires
-    returns-2
-    returns-3)
+    returns-3
+    returns-4)

@@ -1,13 +1,13 @@
+use borrow.Author.Needs.{needs}
 use Rattle.deck.proofs.judge_text.Statement.{statement}
 use Rattle.deck.proofs.judge_text.Tie as tie
-use borrow.Author.Needs.{needs}
 use mathlib.Core.Path.{_≡_, sym, ap, _∙_}
 use Prim.Native.Nat.{_-_, _≤_}
 use native.Mathlib.Nat.{sub-zero}
 use native.Mathlib.Omega.{arith}
 use lib.ListN.{length}
 use Rattle.paper.specs.Kinds.{about, aboutOf}
-use Rattle.paper.specs.Cards.{orderOf, rank}
+use Rattle.paper.specs.Cards.{ranked}
 use Rattle.paper.specs.Judge.{judgeFrom}
 use Rattle.paper.specs.Calls.{cardAt}
 use Rattle.paper.specs.declared.About.{About}
@@ -53,6 +53,12 @@ array-read-kind c = search needs
 kind-requires : tie.Need-kind-requires Inv-loop μ-loop
 kind-requires c κs = search needs
 
+about-requires : tie.Need-about-requires Inv-loop μ-loop
+about-requires c κs = search needs
+
+is-full-requires : tie.Need-is-full-requires Inv-loop μ-loop
+is-full-requires c κs = search needs
+
 slice-aggregate-judge-card : tie.Need-slice-aggregate-judge-card Inv-loop μ-loop
 slice-aggregate-judge-card c = search needs
 
@@ -67,14 +73,12 @@ enum-told-2 c = search needs
 
 returns : tie.Need-returns Inv-loop μ-loop
 returns c =
-    let a = c .before .before .before .before .before .before .before .before .before .before .before .before .args in
-    let l = c .before .before .before .before .before .before .before .before .before .before .loop in
-    let row = c .before .before .before .before .before .before .card-of .ensures ∙ lent (a .s .now) (a .start) (l .i) in
-    let e = sym (c .before .before .judge-card .ensures ∙ read-card (a .counts) (a .s .now) (a .start) (l .i) (l .group) (l .key) row) ∙ c .enum-told2 .given .1 in
+    let a = c .before .before .before .before .before .before .before .before .before .before .before .before .before .before .args in
+    let l = c .before .before .before .before .before .before .before .before .before .before .before .before .loop in
+    let row = c .before .before .before .before .before .before .before .before .card-of .ensures ∙ lent (a .s .now) (a .start) (l .i) in
+    let b = c .before .before .before .before .before .about .ensures ∙ ap about (c .before .before .before .before .before .before .kind .ensures) ∙ ap aboutOf row in
+    let e = sym (c .before .before .judge-card .ensures ∙ read-card (a .counts) (a .s .now) (a .start) (l .i) (l .group) (l .key) row (c .before .before .before .before .is-full .ensures) b) ∙ c .enum-told2 .given .1 in
     c .enum-told2 .given .1 ∙ judge-here (a .counts) (cardAt (a .s .now) (a .start)) (a .rows) (l .i) (l .group) (l .key) _ (omega arith) e ∙ sym (l .inv .2)
-
-about-requires : tie.Need-about-requires Inv-loop μ-loop
-about-requires c κs = search needs
 
 slice-aggregate-rank : tie.Need-slice-aggregate-rank Inv-loop μ-loop
 slice-aggregate-rank c = search needs
@@ -90,14 +94,15 @@ loop-less c = search needs
 
 loop-again : tie.Need-loop-again Inv-loop μ-loop
 loop-again c =
-    let a = c .before .before .before .before .before .before .before .before .before .before .before .before .before .before .before .args in
-    let l = c .before .before .before .before .before .before .before .before .before .before .before .before .before .loop in
-    let row = c .before .before .before .before .before .before .before .before .before .card-of .ensures ∙ lent (a .s .now) (a .start) (l .i) in
-    let e = sym (c .before .before .before .before .before .judge-card .ensures ∙ read-card (a .counts) (a .s .now) (a .start) (l .i) (l .group) (l .key) row) ∙ c .before .before .before .enum-told .given .1 in
-    let o = ap (λ (b : About). b .order) (c .before .before .about .ensures ∙ ap about (c .before .before .before .before .before .before .before .kind .ensures)) ∙ ap orderOf row in
-    let k = c .rank .ensures ∙ ap rank row in
+    let a = c .before .before .before .before .before .before .before .before .before .before .before .before .before .before .before .before .args in
+    let l = c .before .before .before .before .before .before .before .before .before .before .before .before .before .before .loop in
+    let row = c .before .before .before .before .before .before .before .before .before .before .card-of .ensures ∙ lent (a .s .now) (a .start) (l .i) in
+    let b = c .before .before .before .before .before .before .before .about .ensures ∙ ap about (c .before .before .before .before .before .before .before .before .kind .ensures) ∙ ap aboutOf row in
+    let e = sym (c .before .before .before .before .judge-card .ensures ∙ read-card (a .counts) (a .s .now) (a .start) (l .i) (l .group) (l .key) row (c .before .before .before .before .before .before .is-full .ensures) b) ∙ c .before .before .enum-told .given .1 in
+    let o = ap (λ (b : About). b .order) b in
+    let k = c .rank .ensures ∙ (λ j. ranked (b j) (row j)) in
     let g = judge-on (a .counts) (cardAt (a .s .now) (a .start)) (a .rows) (l .i) (l .group) (l .key) (omega arith) e in
-    (omega arith, c .before .before .before .before .before .before .before .before .before .card-of .kept .1 .0 ∙ l .inv .1, cc (l .inv .2))
+    (omega arith, c .before .before .before .before .before .before .before .before .before .before .card-of .kept .1 .0 ∙ l .inv .1, cc (l .inv .2))
 
 returns-2 : tie.Need-returns-2 Inv-loop μ-loop
 returns-2 c =
@@ -122,12 +127,13 @@ judge-text-spec =
     card-of-requires
     array-read-kind
     kind-requires
+    about-requires
+    is-full-requires
     slice-aggregate-judge-card
     judge-card-requires
     enum-told
     enum-told-2
     returns
-    about-requires
     slice-aggregate-rank
     rank-requires
     add-i

@@ -1,15 +1,11 @@
 use borrow.Author.Needs.{needs}
 use Rattle.element.proofs.shape_of.Statement.{statement}
 use Rattle.element.proofs.shape_of.Tie as tie
-use mathlib.Core.Path.{_≡_, _∙_, ap}
-use mathlib.Core.List.{List, [], _∷_}
-use Prim.Native.Nat.{ℕ}
-use Rattle.paper.specs.Cards as cards
+use mathlib.Core.Path.{_∙_}
+use mathlib.Core.List.{[], _∷_}
 use Rattle.paper.specs.Corners.{shapeOf}
 use Rattle.paper.specs.Elements.{bodyOf, elementOf}
-
-field-at : {v r : ℕ} (t : List ℕ) (n k : ℕ) → r ≡ cards.field t v k → v ≡ n → r ≡ cards.field t n k
-field-at t n k p q = p ∙ ap (λ (z : ℕ). cards.field t z k) q
+use Rattle.element.proofs.Ranges.{field-at}
 
 array-read-node : tie.Need-array-read-node
 array-read-node c = search needs

@@ -18,6 +18,7 @@ kind-spec =
     (λ c. sym (ap kindOf (c .match .keys6)))
     (λ c. sym (ap kindOf (c .match .keys7)))
     (λ c. sym (ap kindOf (c .match .keys8)))
+    (λ c. sym (ap kindOf (c .match .keys9)))
     (λ c.
     let r = c .match .rest in
     simp (
@@ -29,4 +30,5 @@ kind-spec =
       ne-eqb _ _ (r .0 .0 .0 .0 .0 .1),
       ne-eqb _ _ (r .0 .0 .0 .0 .0 .0 .1),
       ne-eqb _ _ (r .0 .0 .0 .0 .0 .0 .0 .1),
+      ne-eqb _ _ (r .0 .0 .0 .0 .0 .0 .0 .0 .1),
     )))

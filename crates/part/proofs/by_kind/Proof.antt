@@ -58,6 +58,12 @@ enum-told-9 c = search needs
 line-requires-9 : tie.Need-line-requires-9
 line-requires-9 c κs = search needs
 
+enum-told-10 : tie.Need-enum-told-10
+enum-told-10 c = search needs
+
+line-requires-10 : tie.Need-line-requires-10
+line-requires-10 c κs = search needs
+
 returns : tie.Need-returns
 unfolding doesBy
 returns c = c .line .ensures ∙ sym (ap doesBy (c .before .enum-told .given .1))
@@ -94,6 +100,10 @@ returns-9 : tie.Need-returns-9
 unfolding doesBy
 returns-9 c = c .line9 .ensures ∙ sym (ap doesBy (c .before .enum-told9 .given .1))
 
+returns-10 : tie.Need-returns-10
+unfolding doesBy
+returns-10 c = c .line10 .ensures ∙ sym (ap doesBy (c .before .enum-told10 .given .1))
+
 pub by-kind-spec : {M : Type 1} → statement M
 by-kind-spec =
     tie.close
@@ -116,6 +126,8 @@ by-kind-spec =
     line-requires-8
     enum-told-9
     line-requires-9
+    enum-told-10
+    line-requires-10
     returns
     returns-2
     returns-3
@@ -124,4 +136,5 @@ by-kind-spec =
     returns-6
     returns-7
     returns-8
-    returns-9)
+    returns-9
+    returns-10)

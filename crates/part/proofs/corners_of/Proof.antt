@@ -1,8 +1,8 @@
 use borrow.Author.Needs.{needs}
 use Rattle.part.proofs.corners_of.Statement.{statement}
 use Rattle.part.proofs.corners_of.Tie as tie
-use mathlib.Core.Path.{refl}
-use Rattle.part.proofs.Ways.{no-corners, some-corners, has-base}
+use native.Mathlib.Omega.{arith}
+use Rattle.part.proofs.Ways.{corner-asks, corners-read}
 
 array-read-by-letter : tie.Need-array-read-by-letter
 array-read-by-letter c = search needs
@@ -10,20 +10,20 @@ array-read-by-letter c = search needs
 by-letter-requires : tie.Need-by-letter-requires
 by-letter-requires c κs = search needs
 
-nowhere-requires : tie.Need-nowhere-requires
-nowhere-requires c κs = search needs
-
-returns : tie.Need-returns
-returns c = no-corners (c .before .before .before .before .before .args .table .now) (c .before .before .before .before .before .args .t2) (c .before .before .before .by-letter .result) (c .before .before .before .by-letter .ensures) (c .nowhere .result) (c .nowhere .ensures) (c .before .if1 .taken)
-
 base-requires : tie.Need-base-requires
 base-requires c κs = search needs
 
-shape-of-requires : tie.Need-shape-of-requires
-shape-of-requires c κs = has-base (c .before .before .before .before .before .args .table .now) (c .before .before .before .before .before .args .t2) (c .before .before .before .by-letter .result) (c .before .before .before .by-letter .ensures) (c .before .before .before .before .before .pre) (c .before .if1 .left) (c .base .ensures)
+corner-requires : tie.Need-corner-requires
+corner-requires c κs = corner-asks (c .before .before .before .args .table .now) (c .before .before .before .args .t2) (c .before .by-letter .result) (c .before .by-letter .ensures) (c .before .before .before .pre) 0 (omega arith) (c .base .ensures)
 
-returns-2 : tie.Need-returns-2
-returns-2 c = some-corners (c .before .before .before .before .before .before .before .args .table .now) (c .before .before .before .before .before .before .before .args .t2) (c .before .before .before .before .before .by-letter .result) (c .before .before .before .before .before .by-letter .ensures) _ refl refl (c .before .before .before .if1 .left) (c .before .shape-of .ensures) (c .before .before .base .ensures)
+corner-requires-2 : tie.Need-corner-requires-2
+corner-requires-2 c κs = corner-asks (c .before .before .before .before .args .table .now) (c .before .before .before .before .args .t2) (c .before .before .by-letter .result) (c .before .before .by-letter .ensures) (c .before .before .before .before .pre) 1 (omega arith) (c .before .base .ensures)
+
+corner-requires-3 : tie.Need-corner-requires-3
+corner-requires-3 c κs = corner-asks (c .before .before .before .before .before .args .table .now) (c .before .before .before .before .before .args .t2) (c .before .before .before .by-letter .result) (c .before .before .before .by-letter .ensures) (c .before .before .before .before .before .pre) 2 (omega arith) (c .before .before .base .ensures)
+
+returns : tie.Need-returns
+returns c = corners-read (c .before .before .before .before .before .before .args .table .now) (c .before .before .before .before .before .before .args .t2) (c .before .before .before .before .by-letter .result) (c .before .before .before .before .by-letter .ensures) (c .before .before .before .base .ensures) (c .before .before .corner .ensures) (c .before .corner2 .ensures) (c .corner3 .ensures)
 
 pub corners-of-spec : {M : Type 1} → statement M
 corners-of-spec =
@@ -31,8 +31,8 @@ corners-of-spec =
     (tie.spec
     array-read-by-letter
     by-letter-requires
-    nowhere-requires
-    returns
     base-requires
-    shape-of-requires
-    returns-2)
+    corner-requires
+    corner-requires-2
+    corner-requires-3
+    returns)

@@ -1,0 +1,149 @@
+-- The code's way to g, and that no number of it passes 64 bits.
+use mathlib.Core.Path.{_≡_, refl, sym, ap, _∙_}
+use mathlib.Core.Bool.{Bool, true, false, cond}
+use Prim.Native.Nat.{ℕ, suc, _+_, _-_, _*_, _/_, _%_, _^_, _≤_, _<_}
+use native.Mathlib.Nat.{mul-le-mul, mul-assoc, mul-add, mul-left-comm, two-pow-succ, div-add-mod, mul-add-div, div-div-eq-div-mul, le-div-iff-mul-le, div-lt-iff-lt-mul}
+use native.Mathlib.Omega.{arith}
+use lib.Dec.{leb, lit<, lit≤}
+use lib.IntN.{pos, natAbs, _-ℤ_}
+use borrow.Author.Tests.{le-leb, lt-leb}
+use Rattle.whole.specs.Largest.{climb, squared, root}
+use Rattle.whole.proofs.Linear.{zarith, split, minusL}
+use Rattle.whole.proofs.Largest.{Root, root-is, squares-rise}
+use Rattle.paper.specs.Corners.{Shape, from}
+use Rattle.paper.specs.Edge.{length², edgeFilm}
+use Rattle.laws.proofs.Edge.{OnGrid, Ranges, reach, halves, along, length-most, reach-most, nearest-is}
+use Rattle.edge.specs.Asks.{Small}
+
+-- ---- the length
+
+pub apart-is : (a b : ℕ) → natAbs (pos b -ℤ pos a) ≡ (a - b) + (b - a)
+apart-is a b = omega (zarith, minusL (pos b) (pos a), split (pos b -ℤ pos a))
+
+-- what two differences make
+pub record Legs (s : Shape) (x y : ℕ) : Type 0 where
+  pub x-most : squared x ≤ 16769025
+  pub y-most : squared y ≤ 16769025
+  pub sum-is : squared x + squared y ≡ length² s
+
+pub legs : (s : Shape) (x y : ℕ) → OnGrid s → x ≡ natAbs (from (s .xs) 0 1) → y ≡ natAbs (from (s .ys) 0 1) → Legs s x y
+unfolding length²
+legs s x y p ex ey =
+    let a = p 0 (omega arith) in
+    let b = p 1 (omega arith) in
+    record {
+      x-most = omega (arith, ap squared ex, along (s .xs) (a .0) (b .0));
+      y-most = omega (arith, ap squared ey, along (s .ys) (a .1) (b .1));
+      sum-is = λ i. squared (ex i) + squared (ey i);
+    }
+
+-- ---- the loop of `root`: what is left to climb, from s by k bits, is the whole root
+
+abbrev within : ℕ → ℕ → Bool
+within v s = leb (squared s) v
+
+pub record Climbs (v s bit k : ℕ) : Type 0 where
+  pub bit-is : bit ≡ 2 ^ k / 2
+  pub room : s + 2 ^ k ≤ 2 ^ 16
+  pub rest : climb k s (within v) ≡ root v
+
+pub start : (v : ℕ) → Climbs v 0 32768 16
+unfolding root
+start v = record { bit-is = refl; room = lit≤ tt; rest = refl }
+
+module _ (v s bit n : ℕ) (h : Climbs v s bit (suc n)) where
+  bit-next : bit ≡ 2 ^ n
+  bit-next = omega (arith, h .bit-is, two-pow-succ n)
+
+  pub next-small : s + bit ≤ 2 ^ 16
+  next-small = omega (arith, h .room, bit-next, two-pow-succ n)
+
+  pub square-small : squared (s + bit) ≤ 2 ^ 32
+  square-small = squares-rise (s + bit) (2 ^ 16) next-small
+
+  -- one turn, by what the test told
+  turn : (b : Bool) → leb (squared (s + bit)) v ≡ b → climb n (cond b (s + bit) s) (within v) ≡ root v
+  unfolding climb
+  turn b e =
+      let q : s + bit ≡ s + 2 ^ n = ap (λ (x : ℕ). s + x) bit-next in
+      let t : b ≡ within v (s + 2 ^ n) = sym e ∙ ap (within v) q in
+      (λ i. climb n (cond (t i) (q i) s) (within v)) ∙ h .rest
+
+  pub kept : squared (s + bit) ≤ v → Climbs v (s + bit) (bit / 2) n
+  kept e = record {
+    bit-is = ap (λ (x : ℕ). x / 2) bit-next;
+    room = omega (arith, h .room, bit-next, two-pow-succ n);
+    rest = turn true (le-leb (squared (s + bit)) v e);
+  }
+
+  pub dropped : v < squared (s + bit) → Climbs v s (bit / 2) n
+  dropped e = record {
+    bit-is = ap (λ (x : ℕ). x / 2) bit-next;
+    room = omega (arith, h .room, two-pow-succ n);
+    rest = turn false (lt-leb (squared (s + bit)) v e);
+  }
+
+pub ended : (v s bit : ℕ) → Climbs v s bit 0 → s ≡ root v
+unfolding climb
+ended v s bit h = h .rest
+
+-- ---- the quotient by parts
+
+-- p * y / d by the quotient and the remainder of y
+by-remainder : (p y d : ℕ) → 0 < d → p * y / d ≡ p * (y / d) + p * (y % d) / d
+by-remainder p y d h =
+    ap (λ (x : ℕ). x / d) (ap (λ (x : ℕ). p * x) (sym (div-add-mod y d)) ∙ mul-add p _ _ ∙ ap (λ (x : ℕ). x + p * (y % d)) (mul-left-comm p d _))
+    ∙ mul-add-div h _ _
+
+pub by-parts : (p l : ℕ) → (p * (p * l / 60000000) + p * (p * l % 60000000) / 60000000) / 60000000 ≡ squared p * l / squared 60000000
+by-parts p l =
+    ap (λ (x : ℕ). x / 60000000) (sym (by-remainder p (p * l) 60000000 (lit< tt)))
+    ∙ div-div-eq-div-mul (p * (p * l)) 60000000 60000000
+    ∙ ap (λ (x : ℕ). x / squared 60000000) (sym (mul-assoc p p l))
+
+-- its products fit
+pub record Fit (p l : ℕ) : Type 0 where
+  pub p-most : p ≤ 400000000
+  pub y-most : p * l ≤ 400000000 * 33538050
+  pub high-most : p * (p * l / 60000000) ≤ 400000000 * 223587000
+  pub low-most : p * (p * l % 60000000) ≤ 400000000 * 60000000
+
+pub fit : {film t l : ℕ} → Small film t l → Fit (film * t) l
+fit {film} {t} {l} r =
+    let p = film * t in
+    let a : p ≤ 400000000 = mul-le-mul {n₂ = 100000} {m₂ = 4000} (r .film-most) (r .t-most) in
+    let b : p * l ≤ 400000000 * 33538050 = mul-le-mul a (r .l-most) in
+    record {
+      p-most = a;
+      y-most = b;
+      high-most = mul-le-mul {m₂ = 223587000} a (omega arith);
+      low-most = mul-le-mul {m₂ = 60000000} a (omega arith);
+    }
+
+pub small-of : {film t : ℕ} {s : Shape} (l : ℕ) → Ranges film t s → l ≡ length² s → Small film t l
+small-of l r e = record { film-most = r .film-most; t-most = r .t-most; l-most = omega (arith, length-most r) }
+
+-- ---- from the root to g
+
+pub quotient-small : {film t : ℕ} {s : Shape} → Ranges film t s → reach film t s / squared 60000000 < 2 ^ 32
+quotient-small r = omega (arith, reach-most r)
+
+halves-are : (n : ℕ) → halves n ≡ squared n * squared 60000000
+halves-are n = mul-assoc n 60000000 (n * 60000000) ∙ ap (λ (x : ℕ). n * x) (mul-left-comm 60000000 n 60000000) ∙ sym (mul-assoc n n (squared 60000000))
+
+-- the whole root of the quotient, made one more and halved
+pub by-root : {film t : ℕ} {s : Shape} → Ranges film t s → (root (reach film t s / squared 60000000) + 1) / 2 ≡ edgeFilm film t s
+by-root {film} {t} {s} r = go (root v) (root-is v (quotient-small r))
+  where
+    v : ℕ
+    v = reach film t s / squared 60000000
+
+    go : (m : ℕ) → Root v m → (m + 1) / 2 ≡ edgeFilm film t s
+    go m k =
+        let n = (m + 1) / 2 in
+        let a : squared (2 * n - 1) ≤ v = omega (arith, squares-rise (2 * n - 1) m (omega arith), k .within) in
+        let b : v < squared (2 * n + 1) = omega (arith, squares-rise (suc m) (2 * n + 1) (omega arith), k .beyond) in
+        nearest-is r record {
+          low = omega (arith, halves-are (2 * n - 1), le-div-iff-mul-le {k = squared 60000000} {x = squared (2 * n - 1)} {y = reach film t s} (lit< tt) .0 a);
+          high = omega (arith, halves-are (2 * n + 1), div-lt-iff-lt-mul {k = squared 60000000} {x = reach film t s} {y = squared (2 * n + 1)} (lit< tt) .0 b);
+        }

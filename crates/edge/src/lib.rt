@@ -1,0 +1,80 @@
+// The film along an edge: g, the whole number nearest film·t·L/120,000,000, by squares and with no number past 64 bits.
+use paper::Node;
+ghost use mathlib.Core.Path.{_≡_};
+ghost use Prim.Native.Nat.{_*_, _/_, _^_, _<_};
+ghost use lib.IntN.{natAbs};
+ghost use Rattle.whole.specs.Largest.{squared, root};
+ghost use Rattle.paper.specs.Corners.{from};
+ghost use Rattle.paper.specs.Edge.{length², edgeFilm};
+ghost use Rattle.laws.proofs.Edge.{OnGrid, Ranges};
+ghost use Rattle.edge.specs.Forms.{asShape};
+ghost use Rattle.edge.specs.Asks.{Small};
+
+// An edge's place: its ends and their coordinates.
+pub struct Edge {
+    pub ends: [Node; 2],
+    pub x: [u32; 2],
+    pub y: [u32; 2],
+}
+
+// ---- its length
+
+fn apart(z: [u32; 2]) -> u32
+    ensures { λ r. ⌜ r ≡ natAbs (from z 0 1) ⌝ }
+{
+    let a = z[0];
+    let b = z[1];
+    if a < b { b - a } else { a - b }
+}
+
+fn squared_length(e: Edge) -> u32
+    requires { ⌜ OnGrid (asShape e) ⌝ }
+    ensures { λ r. ⌜ r ≡ length² (asShape e) ⌝ }
+{
+    let xs = e.x;
+    let ys = e.y;
+    let x = apart(xs);
+    let y = apart(ys);
+    x * x + y * y
+}
+
+// ---- g
+
+// Bit by bit from the top: a bit is kept where the square stays within v.
+fn root(v: u64) -> u64
+    requires { ⌜ v < 2 ^ 32 ⌝ }
+    ensures { λ r. ⌜ r ≡ root v ⌝ }
+{
+    let mut s: u64 = 0;
+    let mut bit: u64 = 32_768;
+    let mut k: u64 = 16;
+    while 0 < k {
+        let next = s + bit;
+        if next * next <= v {
+            s = next;
+        }
+        bit = bit / 2;
+        k -= 1;
+    }
+    s
+}
+
+// Half of g's unit.
+const HALF: u64 = 60_000_000;
+
+// The square of film·t·L in halves, rounded down. It passes 64 bits before the division, so it is split at the divisor.
+fn halves_squared(film: u32, thickness: u32, length: u32) -> u64
+    requires { ⌜ Small film thickness length ⌝ }
+    ensures { λ r. ⌜ r ≡ squared (film * thickness) * length / squared 60000000 ⌝ }
+{
+    let p = film as u64 * thickness as u64;
+    let y = p * length as u64;
+    (p * (y / HALF) + p * (y % HALF) / HALF) / HALF
+}
+
+pub fn film(film: u32, thickness: u32, e: Edge) -> u64
+    requires { ⌜ Ranges film thickness (asShape e) ⌝ }
+    ensures { λ r. ⌜ r ≡ edgeFilm film thickness (asShape e) ⌝ }
+{
+    (root(halves_squared(film, thickness, squared_length(e))) + 1) / 2
+}

@@ -1,0 +1,209 @@
+//! What was met of G cards: counts that must not stay at zero. `tests/kernel` takes this file too.
+
+use crate::case::{Call, Lent};
+use crate::decks::{G, N};
+
+/// Acceptance, and the refusals that a G card can be the cause of, or stand in the way of.
+const ANSWERS: [u64; 6] = [0, 3, 4, 7, 8, 13];
+
+/// Which of ANSWERS each call can give: 7 and 8 are the factor's and a step's, 13 a replacement's.
+const WANTED: [[bool; 6]; 5] = [
+    [true, true, true, false, false, false],
+    [true, true, true, false, false, false],
+    [true, true, true, true, true, false],
+    [true, true, true, true, true, true],
+    [true, true, true, false, true, false],
+];
+
+/// What else is to be met.
+const THINGS: [&str; 15] = [
+    "decks with 160 G cards accepted",
+    "161st G cards refused by 3",
+    "decks of 5,052 numbers accepted",
+    "decks accepted whose pairs rise by the higher node alone",
+    "decks accepted whose pairs rise while the higher node falls",
+    "pairs refused that rise by no node, with the same lower one",
+    "pairs refused whose lower node falls",
+    "pairs refused that are equal or the higher node first",
+    "builds with an edge between two nodes at one point",
+    "builds with a g that is a half, gone up",
+    "builds with a g just under a half, by a film of one less",
+    "builds with a g just over a half, of a length that is no whole number",
+    "builds with the largest g, 19,304",
+    "new G cards refused by 4, in a deck that stands",
+    "G replacements accepted, then as a fresh build",
+];
+const AS_BUILT: usize = 14;
+
+#[derive(Default)]
+pub struct Met {
+    answers: [[u64; 6]; 5],
+    things: [u64; 15],
+}
+
+impl Met {
+    /// A call, the table or bytes that it was lent, and its answer.
+    pub fn see(&mut self, call: Call, before: &Lent, after: &Lent, answer: u64) {
+        let (number, place) = (answer & 255, (answer >> 16) as usize);
+        let unread;
+        let table = match call {
+            Call::Read if number == 0 => {
+                &after.table[..(after.part[1] - after.part[0]) as usize / 7]
+            }
+            Call::Read => {
+                unread = cards_of(&before.bytes);
+                &unread[..]
+            }
+            _ => &before.table[..],
+        };
+        let card = |number: usize| table.chunks_exact(6).nth(number.wrapping_sub(1));
+        let letter = |number: usize| card(number).map_or(0, |card| card[0]);
+        let concerned = match (call, number) {
+            (_, 3 | 4) => letter(place) == G,
+            (Call::Replace { new, .. }, 13) => new[0] == G || letter(place) == G,
+            (Call::Replace { new, .. }, _) => new[0] == G,
+            _ => edges(table).next().is_some(),
+        };
+        if let Some(which) = ANSWERS.iter().position(|&answer| answer == number) {
+            self.answers[call.index()][which] += u64::from(concerned);
+        }
+        let pair = card(place.wrapping_sub(1)).zip(card(place));
+        match number {
+            0 => self.accepted(call, table),
+            3 => self.count(1, edges(table).count() > 160 && letter(place) == G),
+            4 if letter(place) == G => {
+                self.ill_paired(pair);
+                let asked = matches!(call, Call::Replace { card, new } if card as usize == place && new[0] == G);
+                self.count(13, asked);
+            }
+            _ => {}
+        }
+    }
+
+    fn accepted(&mut self, call: Call, table: &[u32]) {
+        self.count(0, edges(table).count() == 160);
+        self.count(2, table.len() == 5_052);
+        let pairs = || edges(table).zip(edges(table).skip(1));
+        self.count(3, pairs().any(|(before, card)| before[1] == card[1]));
+        self.count(4, pairs().any(|(before, card)| before[2] > card[2]));
+        if call == Call::Build {
+            for card in edges(table) {
+                self.built(card[3], card[5], square_of(table, card));
+            }
+        }
+    }
+
+    fn built(&mut self, film: u32, thickness: u32, square: u64) {
+        let g = |film| nearest(film, thickness, square);
+        let length = (square as f64).sqrt().round() as u64;
+        let whole = length * length == square;
+        let half = whole
+            && u128::from(film) * u128::from(thickness) * u128::from(length) % 120_000_000
+                == 60_000_000;
+        self.count(8, square == 0);
+        self.count(9, half);
+        self.count(10, g(film) < g(film + 1));
+        self.count(11, !whole && g(film - 1) < g(film));
+        self.count(12, g(film) == 19_304);
+    }
+
+    fn ill_paired(&mut self, pair: Option<(&[u32], &[u32])>) {
+        let Some((before, card)) = pair else { return };
+        let paired = before[0] == G && card[1] < card[2];
+        self.count(5, paired && before[1] == card[1] && before[2] >= card[2]);
+        self.count(6, paired && before[1] > card[1]);
+        self.count(7, card[1] >= card[2]);
+    }
+
+    fn count(&mut self, thing: usize, met: bool) {
+        self.things[thing] += u64::from(met);
+    }
+
+    /// A deck as a fresh build makes it, after so many replacements of G cards.
+    pub fn as_built(&mut self, edges: u32) {
+        self.count(AS_BUILT, edges > 0);
+    }
+
+    /// What was met, a line each.
+    pub fn lines(&self) -> Vec<String> {
+        let mut lines =
+            vec![format!("{:14}", "with G") + " accepted      3      4      7      8     13"];
+        for (name, met) in Call::NAMES.iter().zip(&self.answers) {
+            let counts: String = met[1..]
+                .iter()
+                .map(|count| format!(" {count:>6}"))
+                .collect();
+            lines.push(format!("{name:14} {:>8}{counts}", met[0]));
+        }
+        let things = self.things.iter().zip(THINGS);
+        lines.extend(things.map(|(count, thing)| format!("{count:>8} {thing}")));
+        lines
+    }
+
+    /// What was not met, and had to be.
+    pub fn unmet(&self) -> Vec<String> {
+        let mut unmet = vec![];
+        for (call, wanted) in WANTED.iter().enumerate() {
+            for (which, answer) in ANSWERS.iter().enumerate() {
+                if wanted[which] && self.answers[call][which] == 0 {
+                    unmet.push(format!("{} with G, answer {answer}", Call::NAMES[call]));
+                }
+            }
+        }
+        let things = self.things.iter().zip(THINGS);
+        unmet.extend(
+            things
+                .filter(|(count, _)| **count == 0)
+                .map(|(_, thing)| thing.to_string()),
+        );
+        unmet
+    }
+}
+
+fn edges(table: &[u32]) -> impl Iterator<Item = &[u32]> {
+    table.chunks_exact(6).filter(|card| card[0] == G)
+}
+
+/// The cards that the trailer of some bytes goes back over: of a number that isn't one, 0.
+fn cards_of(bytes: &[u8]) -> Vec<u32> {
+    let number = |columns: &[u8]| std::str::from_utf8(columns).ok()?.trim_start().parse().ok();
+    let back = bytes
+        .len()
+        .checked_sub(42)
+        .and_then(|at| number(&bytes[at + 1..at + 9]));
+    let Some(start) = back.and_then(|back: u32| (bytes.len() - 42).checked_sub(back as usize))
+    else {
+        return vec![];
+    };
+    let cards = bytes[start..].chunks_exact(42);
+    cards
+        .flat_map(|card| {
+            let fields = card[1..41].chunks_exact(8);
+            std::iter::once(u32::from(card[0]))
+                .chain(fields.map(|field| number(field).unwrap_or(0)))
+        })
+        .collect()
+}
+
+fn square_of(table: &[u32], card: &[u32]) -> u64 {
+    let nodes: Vec<&[u32]> = table.chunks_exact(6).filter(|card| card[0] == N).collect();
+    let [from, to] = [card[1], card[2]].map(|node| nodes[node as usize - 1]);
+    let side = |field: usize| u64::from(from[field].abs_diff(to[field]));
+    side(1) * side(1) + side(2) * side(2)
+}
+
+/// g, by the squares.
+fn nearest(film: u32, thickness: u32, square: u64) -> u128 {
+    let top = u128::from(film) * u128::from(thickness);
+    let reaches = |g: u128| ((2 * g - 1) * 60_000_000).pow(2) <= top * top * u128::from(square);
+    let (mut low, mut high) = (0, 1 << 15);
+    while low + 1 < high {
+        let middle = (low + high) / 2;
+        if reaches(middle) {
+            low = middle;
+        } else {
+            high = middle;
+        }
+    }
+    low
+}
