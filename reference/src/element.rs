@@ -37,9 +37,12 @@ pub fn film_load(deck: &Deck, corners: [usize; 3], film: u32, ambient: u32) -> i
     4 * film_share(film, twice_area(b, c)) * i64::from(ambient)
 }
 
-/// What the heat made in an element brings to each corner: the one division that goes down.
-pub fn heat_load(microwatts: u32) -> i64 {
-    65_536 * i64::from(microwatts) / 3
+/// What the heat made in an element brings to each of its corners, in the order of its card: equal parts, rounded down, and
+/// what is left over to the first corners, one each.
+pub fn heat_loads<const K: usize>(microwatts: u32) -> [i64; K] {
+    let heat = 65_536 * i64::from(microwatts);
+    let corners = K as i64;
+    std::array::from_fn(|corner| heat / corners + i64::from((corner as i64) < heat % corners))
 }
 
 /// An element's numbers in the matrices.
@@ -163,7 +166,18 @@ mod tests {
     }
 
     #[test]
-    fn heat_goes_down() {
-        assert_eq!([1, 2, 3].map(heat_load), [21_845, 43_690, 65_536]);
+    fn all_of_the_heat() {
+        let shares = [1, 2, 3, 5_000_000].map(heat_loads);
+        assert_eq!(shares[0], [21_846, 21_845, 21_845]);
+        assert_eq!(shares[1], [43_691, 43_691, 43_690]);
+        assert_eq!(shares[2], [65_536; 3]);
+        assert_eq!(
+            shares[3],
+            [109_226_666_667, 109_226_666_667, 109_226_666_666]
+        );
+        for microwatts in (1..=5_000_000).step_by(4_999) {
+            let heat = 65_536 * i64::from(microwatts);
+            assert_eq!(heat_loads::<3>(microwatts).iter().sum::<i64>(), heat);
+        }
     }
 }

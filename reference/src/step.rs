@@ -3,7 +3,7 @@
 use crate::answer::*;
 use crate::card::{F, G, H, MAX_NODES, TOP};
 use crate::edge;
-use crate::element::{corners, film_load, heat_load};
+use crate::element::{corners, film_load, heat_loads};
 use crate::factor::bound;
 use crate::judge::Deck;
 use crate::matrix::{multiply, multiply_sizes, start};
@@ -39,13 +39,15 @@ impl<'a> Stepper<'a> {
         let mut constant = [0; MAX_NODES];
         for card in deck.loads() {
             let named = || corners(&deck.element(card[1] as usize - 1));
-            let mut load = |nodes: &[usize], share: i64| {
-                nodes.iter().for_each(|&node| constant[node] += share);
+            let mut load = |nodes: &[usize], shares: &[i64]| {
+                for (&node, share) in nodes.iter().zip(shares) {
+                    constant[node] += share;
+                }
             };
             match card[0] {
-                H => load(&named(), heat_load(card[2])),
-                F => load(&named(), film_load(deck, named(), card[2], card[3])),
-                G => load(&edge::ends(&card), edge::load(deck, &card)),
+                H => load(&named(), &heat_loads::<3>(card[2])),
+                F => load(&named(), &[film_load(deck, named(), card[2], card[3]); 3]),
+                G => load(&edge::ends(&card), &[edge::load(deck, &card); 2]),
                 _ => {}
             }
         }

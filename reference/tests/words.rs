@@ -232,8 +232,14 @@ impl Words<'_> {
         }
         let elements = self.cards(E);
         for h in self.cards(H) {
-            for &node in &elements[h[0] as usize - 1][..3] {
+            let corners = &elements[h[0] as usize - 1][..3];
+            let mut left = 65_536 * h[1];
+            for &node in corners {
                 right[node as usize - 1] += 65_536 * h[1] / 3;
+                left -= 65_536 * h[1] / 3;
+            }
+            for &node in &corners[..left as usize] {
+                right[node as usize - 1] += 1;
             }
         }
         for f in self.cards(F) {

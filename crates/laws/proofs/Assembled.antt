@@ -62,7 +62,7 @@ cleared-free fix f i j e = cond-false (fix i || fix j) _ (f i j) e
 -- ---- rows that sum to zero
 
 -- one of m columns is a corner's
-column : (m x : ℕ) (h : Bool) (v : ℤ) → In 1 m x → sum m (λ j. cond (h && eqb x (suc j)) v (pos 0)) ≡ cond h v (pos 0)
+pub column : (m x : ℕ) (h : Bool) (v : ℤ) → In 1 m x → sum m (λ j. cond (h && eqb x (suc j)) v (pos 0)) ≡ cond h v (pos 0)
 column m x true v (lo, hi) =
     let e : x ≡ suc (x - 1) = omega arith in
     sum-single m (x - 1) (λ j. cond (eqb x (suc j)) v (pos 0)) (omega arith) (λ k l q. ap (λ (t : Bool). cond t v (pos 0)) (ne-eqb x (suc k) (λ z. q (omega arith))))

@@ -153,7 +153,7 @@ module _ (t : List ℕ) (c : ℕ) (card : List ℕ) (d : Deck t) (g : Change t c
   part-of x N h = refl
   part-of x M h = refl
   part-of x E h = ap bulk (element-of x h)
-  part-of x H h = λ i. let s = named-same x h i in loaded (s .corners) (λ a. heatShare (length (s .corners)) (getD x 2 0))
+  part-of x H h = λ i. let s = named-same x h i in loaded (s .corners) (heatShare (length (s .corners)) (getD x 2 0))
   part-of x F h = λ i. let s = named-same x h i in filmed (s .corners) (faceFilm (getD x 2 0) s) (getD x 3 0)
   part-of x G h = λ i. let s = shape-same (getD x 1 0 ∷ getD x 2 0 ∷ []) h i in filmed (s .corners) (edgeFilm (getD x 3 0) (getD x 5 0) s) (getD x 4 0)
   part-of x T h = refl

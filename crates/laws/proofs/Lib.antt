@@ -29,6 +29,7 @@ pub mod RoundTrip
 pub mod Changed
 pub mod Least
 pub mod Assembled
+pub mod Heat
 pub mod Refused
 pub mod Replaced
 pub mod Demand3

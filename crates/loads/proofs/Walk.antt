@@ -2,10 +2,10 @@
 use mathlib.Core.Path.{_≡_, refl, sym, ap, subst, _∙_}
 use mathlib.Core.Bool.{Bool, true, false, cond}
 use mathlib.Core.List.{List}
-use Prim.Native.Nat.{ℕ, suc, _+_, _*_, _/_, _-_, _^_, _≤_, _<_}
+use Prim.Native.Nat.{ℕ, suc, _+_, _*_, _/_, _%_, _-_, _^_, _≤_, _<_}
 use native.Mathlib.Nat.{mul-le-mul}
 use native.Mathlib.Omega.{arith}
-use lib.Dec.{eqb}
+use lib.Dec.{eqb, ltb}
 use lib.IntN.{ℤ, pos, natAbs, _+ℤ_, +ℤ-idr}
 use lib.ListN.{length, getD}
 use Rattle.whole.specs.Sums.{sum, table}
@@ -37,8 +37,12 @@ use Rattle.loads.specs.Asks.{AtRow, Room, Spread}
 abbrev heaviest : ℕ
 heaviest = 4 * 349500 * 33554432
 
-heat-size : (heat : ℕ) → heat ≤ 5000000 → 65536 * heat / 3 ≤ heaviest
-heat-size heat h = omega arith
+heat-size : (heat a : ℕ) → heat ≤ 5000000 → 65536 * heat / 3 + cond (ltb a (65536 * heat % 3)) 1 0 ≤ heaviest
+heat-size heat a h = go (ltb a (65536 * heat % 3))
+  where
+    go : (b : Bool) → 65536 * heat / 3 + cond b 1 0 ≤ heaviest
+    go true = omega arith
+    go false = omega arith
 
 film-size : (n w ambient : ℕ) → n ≤ 3 → w ≤ 349500 → ambient ≤ top → (1 + n) * w * ambient ≤ heaviest
 film-size n w ambient l h k =
@@ -70,7 +74,7 @@ module _ {t : List ℕ} (d : Deck t) (row : ℕ) (l : row < rows t) where
   light-by N e = record { few = omega arith; each = λ a. omega arith }
   light-by M e = record { few = omega arith; each = λ a. omega arith }
   light-by E e = record { few = omega arith; each = λ a. omega arith }
-  light-by H e = record { few = omega arith; each = λ a. heat-size (getD (rowAt t row) 2 0) (at 2 (omega arith) (λ v. v ≤ 5000000) (heat-in t d row l e .1)) }
+  light-by H e = record { few = omega arith; each = λ a. heat-size (getD (rowAt t row) 2 0) a (at 2 (omega arith) (λ v. v ≤ 5000000) (heat-in t d row l e .1)) }
   light-by F e = record {
     few = omega arith;
     each = λ a. film-size 3 (faceFilm (getD (rowAt t row) 2 0) (namedShape t (rowAt t row))) (getD (rowAt t row) 3 0) (omega arith)

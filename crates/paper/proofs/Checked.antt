@@ -61,6 +61,10 @@ rimmed edge = deck 1000 right 1000 2400 (element 1 2 3 1000) edge 1
 abbrev g : List ℕ → ℤ
 g edge = pos (partAt (rimmed edge) 6 .film)
 
+-- heat on an element whose card names node 3, then 1, then 2
+abbrev warmed′ : ℕ → List ℕ
+warmed′ µW = deck 1000 right 1000 2400 (element 3 1 2 1000) (letterOf H ∷ 1 ∷ µW ∷ 0 ∷ 0 ∷ 0 ∷ []) 1
+
 -- lent with a deck: slices of seven numbers, one past the matrix length, each 77; temperatures, one past the nodes
 abbrev on : List ℕ → Lent
 on t = let xs = replicate 7 (pos 77) in lent t xs xs xs xs (replicate 3 (pos 19660800) ++ pos 77 ∷ [])
@@ -135,6 +139,9 @@ cases =
     ∷ case 17 (seen (replaceCall (built (rimmed (rim 2 3 1 1)) .lent) 7 (rim 2 3 100000 4000)) a)
     (numbers (6000 ∷ 2000 ∷ 6442 ∷ 2000 ∷ 2971 ∷ 6442 ∷ 77 ∷ []))
     ∷ case 18 (far 2 ∷ far 3 ∷ []) (numbers (19304 ∷ 0 ∷ []))
+    -- [2]: heats of each remainder, the corners in their card's own order; all of it arrives
+    ∷ case 19 (table 3 (loadOf (warmed′ 1)) ++ table 3 (loadOf (warmed′ 2)) ++ table 3 (loadOf (warmed′ 3)))
+    (numbers (21845 ∷ 21845 ∷ 21846 ∷ 43691 ∷ 43690 ∷ 43691 ∷ 65536 ∷ 65536 ∷ 65536 ∷ []))
     ∷ []
 
 run : same (same eqZ) (map (λ (k : Case). k .got) cases) (map (λ (k : Case). k .want) cases) ≡ true

@@ -8,7 +8,7 @@ use Rattle.whole.specs.Sums.{sum, sumN, any}
 use Rattle.paper.specs.Cards.{field, isCard, rows}
 use Rattle.paper.specs.Corners.{mass, spread, share}
 use Rattle.paper.specs.Parts.{Part, partAt}
-use Rattle.paper.specs.declared.Kind.the-variants.{T}
+use Rattle.paper.specs.declared.Kind.the-variants.{H, T}
 
 -- what a part adds: P has the capacities, A all three kinds
 unfoldable pub addsP : Part → ℕ → ℕ → ℤ
@@ -32,6 +32,13 @@ K t i j = sum (rows t) (λ row. spread (partAt t row .corners) (partAt t row .co
 
 abbrev pub Film : List ℕ → ℕ → ℕ → ℤ
 Film t i j = sum (rows t) (λ row. spread (partAt t row .corners) (mass (partAt t row .film)) i j)
+
+-- what the H cards alone add at node i, and the sum of their µW
+abbrev pub heatOf : List ℕ → ℕ → ℤ
+heatOf t i = sum (rows t) (λ row. cond (isCard H t row) (addsLoad (partAt t row) i) (pos 0))
+
+abbrev pub powers : List ℕ → ℕ
+powers t = sumN (rows t) (λ row. cond (isCard H t row) (field t row 2) 0)
 
 -- the loads of node i
 unfoldable pub loadOf : List ℕ → ℕ → ℤ

@@ -1,7 +1,8 @@
 -- What a card adds, as one value: matrices, loads and their places all come of it.
-use mathlib.Core.Bool.{Bool, true, false}
+use mathlib.Core.Bool.{Bool, true, false, cond}
 use mathlib.Core.List.{List, [], _∷_}
-use Prim.Native.Nat.{ℕ, _+_, _-_, _*_, _/_, min}
+use Prim.Native.Nat.{ℕ, _+_, _-_, _*_, _/_, _%_, min}
+use lib.Dec.{ltb}
 use lib.IntN.{ℤ, pos}
 use lib.ListN.{length, getD}
 use Rattle.paper.specs.Ticks.{kelvin}
@@ -55,10 +56,10 @@ filmed ns w ambient = record {
 abbrev pub loaded : List ℕ → (ℕ → ℤ) → Part
 loaded ns q = record { corners = ns; stirs = false; conductance = nowhere; capacity = 0; film = 0; load = q }
 
--- ---- heat in µW, rounded down
+-- ---- heat in µW: an equal part to each of n corners, and of what is left over one more to each of the first
 
-unfoldable pub heatShare : ℕ → ℕ → ℤ
-heatShare n heat = pos (kelvin * heat / n)
+unfoldable pub heatShare : ℕ → ℕ → ℕ → ℤ
+heatShare n heat a = let all = kelvin * heat in pos (all / n + cond (ltb a (all % n)) 1 0)
 
 -- ---- by kind
 
@@ -79,7 +80,7 @@ partOf t card D = nothing
 partOf t card N = nothing
 partOf t card M = nothing
 partOf t card E = bulk (elementOf t card)
-partOf t card H = let s = namedShape t card in loaded (s .corners) (λ a. heatShare (length (s .corners)) (getD card 2 0))
+partOf t card H = let s = namedShape t card in loaded (s .corners) (heatShare (length (s .corners)) (getD card 2 0))
 partOf t card F = let s = namedShape t card in filmed (s .corners) (faceFilm (getD card 2 0) s) (getD card 3 0)
 partOf t card G = let s = edgeShape t card in filmed (s .corners) (edgeFilm (getD card 3 0) (getD card 5 0) s) (getD card 4 0)
 partOf t card T = nothing

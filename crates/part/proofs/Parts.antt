@@ -48,7 +48,7 @@ pub record As (t card : List ℕ) (it : Does) (x : Part) : Type 0 where
   pub conductance : (a b : ℕ) → x .conductance a b ≡ cond (it .conducts) (square 3 (elementOf t card .between) a b) (pos 0)
   pub capacity : x .capacity ≡ cond (it .conducts) (elementOf t card .stored) 0
   pub film : x .film ≡ cond (it .films) (filmOver t card it (eqb (it .corners) 2)) 0
-  pub load : (a : ℕ) → x .load a ≡ cond (it .heats) (heatShare 3 (getD card (it .value) 0)) (pos ((1 + it .corners) * x .film * getD card (it .value + 1) 0))
+  pub load : (a : ℕ) → x .load a ≡ cond (it .heats) (heatShare 3 (getD card (it .value) 0) a) (pos ((1 + it .corners) * x .film * getD card (it .value + 1) 0))
 
 no-load : (n v : ℕ) → pos 0 ≡ pos ((1 + n) * 0 * v)
 no-load n v = ap pos (omega arith)

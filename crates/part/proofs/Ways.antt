@@ -172,11 +172,10 @@ module _ (t card : List ℕ) (it : Does) (e : it ≡ does card) where
     unfolding elementOf
     conducts q p z = z ∙ ap (λ (b : Body). squareOf (square 3 (pair b))) p ∙ square-ext _ _ (λ i j k l. sym (conducts-by q i j))
 
-    load-by : {b : Bool} → it .heats ≡ b → (a : ℕ) → partFor t card .load a ≡ cond b (heatShare 3 (getD card (it .value) 0)) (pos ((1 + it .corners) * partFor t card .film * getD card (it .value + 1) 0))
-    load-by q a = part-is .load a ∙ ap (λ (b : Bool). cond b (heatShare 3 (getD card (it .value) 0)) (pos ((1 + it .corners) * partFor t card .film * getD card (it .value + 1) 0))) q
+    load-by : {b : Bool} → it .heats ≡ b → (a : ℕ) → partFor t card .load a ≡ cond b (heatShare 3 (getD card (it .value) 0) a) (pos ((1 + it .corners) * partFor t card .film * getD card (it .value + 1) 0))
+    load-by q a = part-is .load a ∙ ap (λ (b : Bool). cond b (heatShare 3 (getD card (it .value) 0) a) (pos ((1 + it .corners) * partFor t card .film * getD card (it .value + 1) 0))) q
 
-    pub heats : it .heats ≡ true → (a : ℕ) → pos (kelvin * getD card (it .value) 0 / 3) ≡ partFor t card .load a
-    unfolding heatShare
+    pub heats : it .heats ≡ true → (a : ℕ) → heatShare 3 (getD card (it .value) 0) a ≡ partFor t card .load a
     heats q a = sym (load-by q a)
 
     pub loads : {r : ℕ} → it .heats ≡ false → r ≡ partFor t card .film → (a : ℕ) → pos ((1 + it .corners) * r * getD card (it .value + 1) 0) ≡ partFor t card .load a

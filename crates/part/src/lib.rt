@@ -3,13 +3,14 @@ use paper::Kind;
 use paper::Node;
 use paper::Ticks;
 ghost use mathlib.Core.Path.{_≡_};
+ghost use mathlib.Core.Bool.{cond};
 ghost use mathlib.Core.List.{List};
 ghost use Prim.Native.Nat.{ℕ, _+_, _*_, _-_, _/_, _^_, _≤_, _<_, min};
+ghost use lib.Dec.{ltb};
 ghost use lib.IntN.{pos};
 ghost use lib.ListN.{getD};
-ghost use Rattle.paper.specs.Ticks.{kelvin};
 ghost use Rattle.paper.specs.Kinds.{kindOf};
-ghost use Rattle.paper.specs.Parts.{partOf, partFor, least, leastRow};
+ghost use Rattle.paper.specs.Parts.{heatShare, partOf, partFor, least, leastRow};
 ghost use Rattle.laws.proofs.Places.{squareA};
 ghost use Rattle.triangle.specs.Forms.{asShape, squareOf};
 ghost use Rattle.part.specs.Forms.{cornersOf, line, doesBy, baseOf};
@@ -199,11 +200,29 @@ pub fn square_a(table: &[u32], card: [u32; 6]) -> [[i64; 3]; 3]
 
 // ---- loads
 
-// A third of the heat, rounded down.
-fn heat_load(heat: u32) -> u64
-    ensures { λ r. ⌜ r ≡ kelvin * heat / 3 ⌝ }
+// A part of what is dealt out, and one more of what is left over.
+fn dealt(part: u64, rest: u64, corner: u64) -> u64
+    requires { ⌜ part < 2 ^ 63 ⌝ }
+    ensures { λ r. ⌜ r ≡ part + cond (ltb corner rest) 1 0 ⌝ }
 {
-    Ticks::KELVIN as u64 * heat as u64 / 3
+    if corner < rest {
+        return part + 1;
+    }
+    part
+}
+
+// A heat's shares: thirds, and what is left over to the first corners.
+fn heat_shares(heat: u32) -> [u64; 3]
+    ensures { λ r. ⌜ ((a : ℕ) → a < 3 → pos (getD r a 0) ≡ heatShare 3 heat a) ⌝ }
+{
+    let all = Ticks::KELVIN as u64 * heat as u64;
+    let part = all / 3;
+    let rest = all % 3;
+    [
+        dealt(part, rest, 0),
+        dealt(part, rest, 1),
+        dealt(part, rest, 2),
+    ]
 }
 
 // A corner's row of the film, which sums to 4 of it over a face and to 3 along an edge, times the ambient.
@@ -214,24 +233,16 @@ fn film_load(corners: usize, film: u64, ambient: Ticks) -> u64
     (1 + corners as u64) * film * ambient.0 as u64
 }
 
-// What one corner gets.
-fn load(table: &[u32], card: [u32; 6]) -> u64
-    requires { ⌜ Card (now table) card ⌝ }
-    ensures { λ r. ⌜ ((a : ℕ) → pos r ≡ partFor (now (table .entry)) card .load a) ⌝ }
-{
-    let it = by_letter(card[0]);
-    let at = it.value;
-    if it.heats {
-        return heat_load(card[at]);
-    }
-    film_load(it.corners, film(table, card), Ticks(card[at + 1]))
-}
-
 // The share of each corner.
 pub fn shares(table: &[u32], card: [u32; 6]) -> [u64; 3]
     requires { ⌜ Card (now table) card ⌝ }
     ensures { λ r. ⌜ ((a : ℕ) → a < 3 → pos (getD r a 0) ≡ partFor (now (table .entry)) card .load a) ⌝ }
 {
-    let v = load(table, card);
+    let it = by_letter(card[0]);
+    let at = it.value;
+    if it.heats {
+        return heat_shares(card[at]);
+    }
+    let v = film_load(it.corners, film(table, card), Ticks(card[at + 1]));
     [v, v, v]
 }

@@ -7,4 +7,5 @@ pub mod Edge
 pub mod Matrices
 pub mod Replacing
 pub mod Leaving
+pub mod Heat
 pub mod Step

@@ -387,6 +387,51 @@ pub fn triangle(n: usize) -> usize {
     n * (n + 1) / 2
 }
 
+/// A deck of one heated element and what to lend to its step, so that each of its nodes is a tick warmer after it where its
+/// load is just this or a little more, and as it was where it is a little less. Corners may be the same node.
+pub struct Scales {
+    pub table: Vec<u32>,
+    pub p: Vec<i64>,
+    pub a: Vec<i64>,
+    pub factor: Vec<i64>,
+    pub temperatures: Vec<i64>,
+}
+
+impl Scales {
+    /// As warm as this before the step.
+    pub const WARM: i64 = 1 << 24;
+
+    /// A fourth node, held at one tick, brings what no multiple of WARM does. A row of A' is 16 alone, so that a right side of
+    /// 8 more than 16·WARM is a half of a tick, and goes up.
+    pub fn new(corners: [u32; 3], microwatts: u32, loads: [i64; 3]) -> Scales {
+        let mut groups = Groups::base();
+        groups.nodes.push([100, 100]);
+        groups.elements[0][..3].copy_from_slice(&corners);
+        groups.heats.push([1, microwatts]);
+        groups.fixed.push([4, 1]);
+        let wanted = loads.map(|load| 16 * Scales::WARM + 8 - load);
+        let [d1, d2, d3] = wanted.map(|right| right.div_euclid(Scales::WARM));
+        let [r1, r2, r3] = wanted.map(|right| right.rem_euclid(Scales::WARM));
+        Scales {
+            table: groups.table(),
+            p: vec![d1, 0, d2, 0, 0, d3, r1, r2, r3, 0],
+            a: vec![16, 0, 16, 0, 0, 16, 0, 0, 0, 0],
+            factor: vec![16, 0, 16, 0, 0, 16, 0, 0, 0, 1 << 20],
+            temperatures: vec![Scales::WARM, Scales::WARM, Scales::WARM, 1],
+        }
+    }
+
+    /// Every three of three nodes, in every order, some of them the same.
+    pub fn corners() -> impl Iterator<Item = [u32; 3]> {
+        (0..27).map(|number| [number / 9 + 1, number / 3 % 3 + 1, number % 3 + 1])
+    }
+
+    /// Heats of every remainder by three, at both ends of the range and between.
+    pub const HEATS: [u32; 12] = [
+        1, 2, 3, 4, 5, 6, 750_000, 750_001, 750_002, 4_999_998, 4_999_999, 5_000_000,
+    ];
+}
+
 /// All that is lent to build, replace and step, a little longer than asked and
 /// full of marks, so that a number written where none may be is seen.
 #[derive(Clone, Debug, PartialEq)]

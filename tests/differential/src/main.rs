@@ -12,6 +12,7 @@ mod case;
 mod edges;
 mod face;
 mod figures;
+mod heats;
 mod limits;
 mod met;
 mod plan;

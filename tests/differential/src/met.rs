@@ -1,7 +1,7 @@
-//! What was met of G cards: counts that must not stay at zero. `tests/kernel` takes this file too.
+//! What was met of G cards and of heats: counts that must not stay at zero. `tests/kernel` takes this file too.
 
 use crate::case::{Call, Lent};
-use crate::decks::{G, N};
+use crate::decks::{E, G, H, N};
 
 /// Acceptance, and the refusals that a G card can be the cause of, or stand in the way of.
 const ANSWERS: [u64; 6] = [0, 3, 4, 7, 8, 13];
@@ -35,10 +35,15 @@ const THINGS: [&str; 15] = [
 ];
 const AS_BUILT: usize = 14;
 
+/// The corners of a heated element as its card has them: which is the least, the middle and the greatest node.
+const ORDERS: [&str; 7] = ["123", "132", "213", "231", "312", "321", "same"];
+
 #[derive(Default)]
 pub struct Met {
     answers: [[u64; 6]; 5],
     things: [u64; 15],
+    /// Heats in accepted steps, by the remainder of their units by three and by the order of the corners.
+    heats: [[u64; 7]; 3],
 }
 
 impl Met {
@@ -80,7 +85,21 @@ impl Met {
         }
     }
 
+    /// Of a deck that stepped.
+    fn heated(&mut self, table: &[u32]) {
+        let cards = || table.chunks_exact(6);
+        let elements: Vec<&[u32]> = cards().filter(|card| card[0] == E).collect();
+        for card in cards().filter(|card| card[0] == H) {
+            let order = order_of(&elements[card[1] as usize - 1][1..4]);
+            // 65,536 leaves 1.
+            self.heats[card[2] as usize % 3][order] += 1;
+        }
+    }
+
     fn accepted(&mut self, call: Call, table: &[u32]) {
+        if call == Call::Step {
+            self.heated(table);
+        }
         self.count(0, edges(table).count() == 160);
         self.count(2, table.len() == 5_052);
         let pairs = || edges(table).zip(edges(table).skip(1));
@@ -135,6 +154,13 @@ impl Met {
                 .collect();
             lines.push(format!("{name:14} {:>8}{counts}", met[0]));
         }
+        lines.push(
+            format!("{:14}", "heats left") + &ORDERS.map(|order| format!(" {order:>6}")).concat(),
+        );
+        for (left, met) in self.heats.iter().enumerate() {
+            let counts: String = met.iter().map(|count| format!(" {count:>6}")).collect();
+            lines.push(format!("{left:<14}{counts}"));
+        }
         let things = self.things.iter().zip(THINGS);
         lines.extend(things.map(|(count, thing)| format!("{count:>8} {thing}")));
         lines
@@ -148,6 +174,11 @@ impl Met {
                 if wanted[which] && self.answers[call][which] == 0 {
                     unmet.push(format!("{} with G, answer {answer}", Call::NAMES[call]));
                 }
+            }
+        }
+        for (left, met) in self.heats.iter().enumerate() {
+            for (order, _) in ORDERS.iter().zip(met).filter(|(_, count)| **count == 0) {
+                unmet.push(format!("heats that leave {left}, corners {order}"));
             }
         }
         let things = self.things.iter().zip(THINGS);
@@ -183,6 +214,14 @@ fn cards_of(bytes: &[u8]) -> Vec<u32> {
                 .chain(fields.map(|field| number(field).unwrap_or(0)))
         })
         .collect()
+}
+
+/// The place in ORDERS.
+fn order_of(corners: &[u32]) -> usize {
+    let rank = |node: u32| 1 + corners.iter().filter(|&&other| other < node).count();
+    let order: String = corners.iter().map(|&node| rank(node).to_string()).collect();
+    let place = ORDERS.iter().position(|&known| known == order);
+    place.unwrap_or(ORDERS.len() - 1)
 }
 
 fn square_of(table: &[u32], card: &[u32]) -> u64 {

@@ -3,13 +3,13 @@
 use crate::case::{Call, Lent};
 use crate::decks::{bytes_of, nodes_of, triangle, Chance, Groups, D, E, F, G, H, M, N, T, TOP, Z};
 use crate::trial::Trial;
-use crate::{edges, limits};
+use crate::{edges, heats, limits};
 use reference::Card;
 
 pub type Part = (&'static str, fn(&mut Trial));
 
 /// Decks, own buffers and foreign ones.
-pub const LENT: [Part; 17] = [
+pub const LENT: [Part; 18] = [
     ("decks read and written back", valid_decks),
     ("builds over slices short, exact and long", builds),
     ("the paper's checked decks", checked_decks),
@@ -30,6 +30,7 @@ pub const LENT: [Part; 17] = [
     ("a node that an edge alone carries", edges::alone),
     ("as many edges as there may be, and one more", edges::most),
     ("tables at the limits of length and count", limits::lengths),
+    ("heats weighed at each corner", heats::shares),
 ];
 
 /// Damages come last, so that a fault in the plain work is met as such.

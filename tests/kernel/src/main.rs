@@ -15,6 +15,8 @@ mod cases;
 mod decks;
 #[path = "../../differential/src/edges.rs"]
 mod edges;
+#[path = "../../differential/src/heats.rs"]
+mod heats;
 #[path = "../../differential/src/limits.rs"]
 mod limits;
 #[path = "../../differential/src/met.rs"]

@@ -1,12 +1,13 @@
 use borrow.Author.Needs.{needs}
 use Rattle.part.proofs.shares.Statement.{statement}
 use Rattle.part.proofs.shares.Tie as tie
-use mathlib.Core.Path.{_≡_}
+use mathlib.Core.Path.{_≡_, ap, _∙_}
 use Prim.Native.Nat.{ℕ, zero, suc, _<_}
 use native.Mathlib.Omega.{arith}
 use lib.IntN.{ℤ, pos}
 use lib.ListN.{getD}
 use mathlib.Core.List.{List, [], _∷_}
+use Rattle.part.proofs.Ways.{heats, loads, few-corners-here, in-card}
 
 three : (v : ℕ) (f : ℕ → ℤ) → ((a : ℕ) → pos v ≡ f a) → (a : ℕ) → a < 3 → pos (getD (v ∷ v ∷ v ∷ []) a 0) ≡ f a
 three v f e zero l = e 0
@@ -14,11 +15,57 @@ three v f e (suc zero) l = e 1
 three v f e (suc (suc zero)) l = e 2
 three v f e (suc (suc (suc a))) l = absurd (omega arith)
 
-load-requires : tie.Need-load-requires
-load-requires c κs = search needs
+array-read-by-letter : tie.Need-array-read-by-letter
+array-read-by-letter c = search needs
+
+by-letter-requires : tie.Need-by-letter-requires
+by-letter-requires c κs = search needs
+
+mul-heat-shares : tie.Need-mul-heat-shares
+mul-heat-shares c = omega (arith, in-card (c .before .before .before .args .table .now) (c .before .before .before .args .t2) (c .before .by-letter .result) (c .before .by-letter .ensures) 0 (omega arith))
+
+array-read-heat-shares : tie.Need-array-read-heat-shares
+array-read-heat-shares c = omega (arith, in-card (c .before .before .before .args .table .now) (c .before .before .before .args .t2) (c .before .by-letter .result) (c .before .by-letter .ensures) 0 (omega arith))
+
+heat-shares-requires : tie.Need-heat-shares-requires
+heat-shares-requires c κs = search needs
 
 returns : tie.Need-returns
-returns c = three (c .load .result) _ (c .load .ensures)
+returns c = λ a l. c .heat-shares .ensures a l ∙ heats (c .before .before .before .before .args .table .now) (c .before .before .before .before .args .t2) (c .before .before .by-letter .result) (c .before .before .by-letter .ensures) (c .before .before .before .before .pre) (c .before .if1 .taken) a
+
+film-requires : tie.Need-film-requires
+film-requires c κs = search needs
+
+add-t17 : tie.Need-add-t17
+add-t17 c = omega (arith, in-card (c .before .before .before .before .args .table .now) (c .before .before .before .before .args .t2) (c .before .before .by-letter .result) (c .before .before .by-letter .ensures) 1 (omega arith))
+
+mul-t18 : tie.Need-mul-t18
+mul-t18 c = omega (arith, in-card (c .before .before .before .before .args .table .now) (c .before .before .before .before .args .t2) (c .before .before .by-letter .result) (c .before .before .by-letter .ensures) 1 (omega arith))
+
+array-read-t9 : tie.Need-array-read-t9
+array-read-t9 c = omega (arith, in-card (c .before .before .before .before .args .table .now) (c .before .before .before .before .args .t2) (c .before .before .by-letter .result) (c .before .before .by-letter .ensures) 1 (omega arith))
+
+film-load-requires : tie.Need-film-load-requires
+film-load-requires c κs = (omega (arith, few-corners-here (c .before .before .before .before .args .table .now) (c .before .before .before .before .args .t2) (c .before .before .by-letter .result) (c .before .before .by-letter .ensures)), c .film .ensures .1)
+
+returns-2 : tie.Need-returns-2
+returns-2 c =
+    three (c .film-load .result) _
+    (λ a. ap pos (c .film-load .ensures) ∙ loads (c .before .before .before .before .before .args .table .now) (c .before .before .before .before .before .args .t2) (c .before .before .before .by-letter .result) (c .before .before .before .by-letter .ensures) (c .before .before .before .before .before .pre) (c .before .before .if1 .left) (c .before .film .ensures .0) a)
 
 pub shares-spec : {M : Type 1} → statement M
-shares-spec = tie.close (tie.spec load-requires returns)
+shares-spec =
+    tie.close
+    (tie.spec
+    array-read-by-letter
+    by-letter-requires
+    mul-heat-shares
+    array-read-heat-shares
+    heat-shares-requires
+    returns
+    film-requires
+    add-t17
+    mul-t18
+    array-read-t9
+    film-load-requires
+    returns-2)
