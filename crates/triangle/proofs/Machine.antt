@@ -51,8 +51,8 @@ flux-is t h a = times (cast t h (lit< tt)) (again a (lit< tt))
 pub above : (n : ℕ) → 1 ≤ n → n < 2 ^ 63 → pos 0 <ℤ toZ w64 n
 above n h k = subst (λ (z : ℤ). pos 0 <ℤ z) (sym (toZ-pos w64 k)) (record { lt = lt→ltb 0 n (omega arith) })
 
-pub work-size : (a t s : ℕ) → a ≤ 5000 → t ≤ 4000 → s ≤ 33538050 → a * t * s ≤ 5000 * 4000 * 33538050
-work-size a t s h k l = mul-le-mul {n₂ = 5000 * 4000} {m₂ = 33538050} (mul-le-mul {n₂ = 5000} {m₂ = 4000} h k) l
+pub work-size : (a t s : ℕ) → a ≤ 5000 → t ≤ 4000 → s ≤ 4095 * 4095 → a * t * s ≤ 5000 * 4000 * (4095 * 4095)
+work-size a t s h k l = mul-le-mul {n₂ = 5000 * 4000} {m₂ = 4095 * 4095} (mul-le-mul {n₂ = 5000} {m₂ = 4000} h k) l
 
 -- ---- a pair's dividend, step by step
 
