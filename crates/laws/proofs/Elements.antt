@@ -41,7 +41,7 @@ getD-map f [] a h = absurd (omega arith)
 getD-map f (n ∷ ns) zero h = refl
 getD-map f (n ∷ ns) (suc a) h = getD-map f ns a (omega arith)
 
-axis-same : (f : ℕ → ℕ) (ns : List ℕ) (a b : ℕ) → a < length ns → b < length ns → getD ns a 0 ≡ getD ns b 0 → getD (map f ns) a 0 ≡ getD (map f ns) b 0
+pub axis-same : (f : ℕ → ℕ) (ns : List ℕ) (a b : ℕ) → a < length ns → b < length ns → getD ns a 0 ≡ getD ns b 0 → getD (map f ns) a 0 ≡ getD (map f ns) b 0
 axis-same f ns a b ha hb e = getD-map f ns a ha ∙ ap f e ∙ sym (getD-map f ns b hb)
 
 -- a corner's coordinates

@@ -100,7 +100,7 @@ pub record Sound (x : Part) : Type 0 where
   pub symmetric : (a b : ℕ) → x .conductance a b ≡ x .conductance b a
   pub balanced : (a : ℕ) → a < length (x .corners) → sum (length (x .corners)) (λ b. x .conductance a b) ≡ pos 0
 
-bulk-sound : (e : Element) → ((i j : ℕ) → e .between i j ≡ e .between j i) → Sound (bulk e)
+pub bulk-sound : (e : Element) → ((i j : ℕ) → e .between i j ≡ e .between j i) → Sound (bulk e)
 bulk-sound e h = record {
   symmetric = square-symmetric (length (e .shape .corners)) (e .between) h;
   balanced = square-rows (length (e .shape .corners)) (e .between);
