@@ -25,7 +25,7 @@ use Rattle.part.specs.Forms.{cornersOf}
 use Rattle.part.specs.Asks.{Full}
 use Rattle.part.specs.declared.Corners.{Corners}
 use Rattle.part.proofs.Parts.{square-small, stored-size}
-use Rattle.packed.specs.Asks.{Bounded, Takes}
+use Rattle.packed.specs.Asks.{Takes}
 use Rattle.packed.proofs.Squares.{takes, gives}
 use Rattle.change.specs.Asks.{Changes, Renews}
 use Rattle.change.proofs.Forming.{old-card, solid-new, solid-old}

@@ -8,7 +8,7 @@ use lib.IntN.{ℤ, natAbs, _+ℤ_, _-ℤ_}
 use lib.ListN.{length, getD, take, drop}
 use lib.Seq.{length-take-le}
 use Rattle.whole.specs.Sums.{sumN}
-use Rattle.whole.specs.Packed.{tri, matrix, cell, entry, lower}
+use Rattle.whole.specs.Packed.{tri, matrix, cell, entry, lower, Bounded}
 use Rattle.whole.specs.Squares.{at, squareOf}
 use Rattle.whole.proofs.Signs.{natAbs-plus, natAbs-minus}
 use Rattle.whole.proofs.Sums.{sumN-one}
@@ -43,7 +43,7 @@ use Rattle.part.specs.Forms.{cornersOf, doesBy, does}
 use Rattle.part.specs.Asks.{Card, Solid, Full}
 use Rattle.part.specs.declared.Corners.{Corners}
 use Rattle.part.proofs.Parts.{stored-size, film-size, conductance-small}
-use Rattle.packed.specs.Asks.{Bounded, Takes}
+use Rattle.packed.specs.Asks.{Takes}
 use Rattle.packed.proofs.Squares.{takes, gives}
 use Rattle.change.specs.Asks.{Changes, Renews}
 use Rattle.change.proofs.Forming.{old-card, solid-new, solid-old, some-new, same-kind, stirs-new}

@@ -6,7 +6,7 @@ use native.Mathlib.Omega.{arith}
 use lib.IntN.{ℤ, pos, natAbs, _+ℤ_, +ℤ-idr}
 use lib.ListN.{length, getD, take}
 use lib.Seq.{getD-take}
-use Rattle.whole.specs.Packed.{tri, matrix, entry, lower}
+use Rattle.whole.specs.Packed.{tri, matrix, entry, lower, Bounded}
 use Rattle.whole.specs.Squares.{at, squareOf, Small}
 use Rattle.whole.proofs.Packed.{lower-ext, lower-eta, add}
 use Rattle.whole.proofs.Squares.{small-square, square-at}
@@ -16,7 +16,7 @@ use Rattle.triangle.specs.Forms.{numbers}
 use Rattle.part.specs.Forms.{cornersOf}
 use Rattle.part.specs.Asks.{Full}
 use Rattle.part.specs.declared.Corners.{Corners}
-use Rattle.packed.specs.Asks.{Bounded, Takes}
+use Rattle.packed.specs.Asks.{Takes}
 
 -- ---- only the first n corners count, and the first n rows of the square
 

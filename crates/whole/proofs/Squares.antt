@@ -9,7 +9,7 @@ use lib.IntN.{ℤ, pos, natAbs}
 use lib.ListN.{getD, length, length-append, List·getD-append, List·getD-eq-default}
 use lib.Seq.{getD-at}
 use Rattle.whole.specs.Sums.{table}
-use Rattle.whole.specs.Packed.{tri, cell}
+use Rattle.whole.specs.Packed.{tri, cell, Bounded}
 use Rattle.whole.specs.Squares.{at, rowsOf, squareOf, Small, pairsOf, among}
 use Rattle.whole.proofs.Sums.{table-length, table-at, table-ext}
 use Rattle.whole.proofs.Packed.{sides, lower-cell, lower-within}
@@ -99,6 +99,6 @@ among-pairs n p same i j h l x = ⊎-elim low high (sides i j)
         least : min i j ≡ i
         least = omega arith
 
-pub pairs-small : (n b : ℕ) (p : ℕ → ℕ → ℤ) → ((i j : ℕ) → i < n → j < n → natAbs (p i j) ≤ b) → (k : ℕ) → natAbs (cell (pairsOf n p) k) ≤ b
+pub pairs-small : (n b : ℕ) (p : ℕ → ℕ → ℤ) → ((i j : ℕ) → i < n → j < n → natAbs (p i j) ≤ b) → Bounded b (pairsOf n p)
 unfolding pairsOf
-pairs-small n b p h = lower-within (n - 1) b (λ i j. p (suc i) j) (λ i j l m. h (suc i) j (omega arith) (omega arith))
+pairs-small n b p h = record { each = lower-within (n - 1) b (λ i j. p (suc i) j) (λ i j l m. h (suc i) j (omega arith) (omega arith)) }
