@@ -8,7 +8,8 @@ use lib.IntN.{ℤ, natAbs, _+ℤ_, _-ℤ_}
 use lib.ListN.{length, getD, take, drop}
 use lib.Seq.{length-take-le}
 use Rattle.whole.specs.Sums.{sumN}
-use Rattle.whole.specs.Packed.{tri, matrix, cell, entry, lower}
+use Rattle.whole.specs.Packed.{tri, matrix, cell, entry, lower, Bounded}
+use Rattle.whole.specs.Squares.{at, squareOf}
 use Rattle.whole.proofs.Signs.{natAbs-plus, natAbs-minus}
 use Rattle.whole.proofs.Sums.{sumN-one}
 use Rattle.whole.proofs.Tests.{never}
@@ -36,13 +37,13 @@ use Rattle.laws.proofs.Least.{least-in, least-each, least-most}
 use Rattle.laws.proofs.Elements.{Formed, sound-one, two-distinct, distinct}
 use Rattle.laws.proofs.Changed.{part-here, corners-here, fixed-same, form-load, kind-here}
 use Rattle.laws.proofs.Places.{addSquare, squareP, squareA, moved-P, moved-A}
-use Rattle.triangle.specs.Forms.{numbers, at, squareOf}
+use Rattle.triangle.specs.Forms.{numbers}
 use Rattle.triangle.proofs.Sizes.{mass-size}
 use Rattle.part.specs.Forms.{cornersOf, doesBy, does}
 use Rattle.part.specs.Asks.{Card, Solid, Full}
 use Rattle.part.specs.declared.Corners.{Corners}
 use Rattle.part.proofs.Parts.{stored-size, film-size, conductance-small}
-use Rattle.packed.specs.Asks.{Bounded, Takes}
+use Rattle.packed.specs.Asks.{Takes}
 use Rattle.packed.proofs.Squares.{takes, gives}
 use Rattle.change.specs.Asks.{Changes, Renews}
 use Rattle.change.proofs.Forming.{old-card, solid-new, solid-old, some-new, same-kind, stirs-new}
@@ -186,13 +187,13 @@ module _ (t : List ℕ) (row : ℕ) (new : List ℕ) (h : Renews t row new) wher
       small-slice : Bounded (2 ^ 52) xs
       small-slice = record { each = λ p. subst (λ (z : List ℤ). natAbs (cell z p) ≤ 2 ^ 52) (sym (lower-eta (nodes t) xs long)) (lower-within (nodes t) (2 ^ 52) (entry xs) (λ i j l m. omega (arith, small i j l m)) p) }
 
-      module _ (q : List (List ℤ)) (s : q ≡ squareOf (λ i j. squareA (partFor t new) i j -ℤ squareA (partFor t (rowAt t row)) i j)) where
+      module _ (q : List (List ℤ)) (s : q ≡ squareOf 3 (λ i j. squareA (partFor t new) i j -ℤ squareA (partFor t (rowAt t row)) i j)) where
         pub takes-A : Takes (c .count) xs (numbers (c .nodes)) q
         takes-A = takes c full (partFor t new .corners) e q _ s (nodes t) xs (h .changes .deck .someN .1) long small-slice new-inside (λ i j a b. omega (arith, moved-size t row new h i j a b))
 
         pub added-A-is : addSquare (c .count) xs (numbers (c .nodes)) (at q) ≡ moved (nodes t) xs (addsA (partAt t′ row)) (addsA (partAt t row))
         added-A-is =
-            gives c full (partAt t row .corners) at-old q (λ i j. squareA (partAt t′ row) i j -ℤ squareA (partAt t row) i j) (s ∙ (λ d. squareOf (λ i j. squareA (sym x′-is d) i j -ℤ squareA (sym (part-row t row) d) i j))) xs
+            gives c full (partAt t row .corners) at-old q (λ i j. squareA (partAt t′ row) i j -ℤ squareA (partAt t row) i j) (s ∙ (λ d. squareOf 3 (λ i j. squareA (sym x′-is d) i j -ℤ squareA (sym (part-row t row) d) i j))) xs
             ∙ sym (moved-A (nodes t) (partAt t row) xs (part-corners t (h .changes .deck) row (h .changes .change .inside)) old-distinct (part-sound t row) long (partAt t′ row) (corners-here t row new (h .changes .deck) (h .changes .change)) (part-sound t′ row))
 
         pub small-added : Bounded (2 ^ 50) (addSquare (c .count) xs (numbers (c .nodes)) (at q))
@@ -211,13 +212,13 @@ module _ (t : List ℕ) (row : ℕ) (new : List ℕ) (h : Renews t row new) wher
                   (subst (λ (x : Part). length (x .corners) ≤ 3) (part-row t row) (subst (λ (ns : List ℕ). length ns ≤ 3) same-corners few)) i j,
             )
 
-      module _ (u : List (List ℤ)) (s : u ≡ squareOf (λ i j. squareP (partFor t new) i j -ℤ squareP (partFor t (rowAt t row)) i j)) where
+      module _ (u : List (List ℤ)) (s : u ≡ squareOf 3 (λ i j. squareP (partFor t new) i j -ℤ squareP (partFor t (rowAt t row)) i j)) where
         pub takes-P : Takes (c .count) xs (numbers (c .nodes)) u
         takes-P = takes c full (partFor t new .corners) e u _ s (nodes t) xs (h .changes .deck .someN .1) long small-slice new-inside (λ i j a b. omega (arith, stored-size-moved t row new (h .changes) i j))
 
         pub added-P-is : addSquare (c .count) xs (numbers (c .nodes)) (at u) ≡ moved (nodes t) xs (addsP (partAt t′ row)) (addsP (partAt t row))
         added-P-is =
-            gives c full (partAt t row .corners) at-old u (λ i j. squareP (partAt t′ row) i j -ℤ squareP (partAt t row) i j) (s ∙ (λ d. squareOf (λ i j. squareP (sym x′-is d) i j -ℤ squareP (sym (part-row t row) d) i j))) xs
+            gives c full (partAt t row .corners) at-old u (λ i j. squareP (partAt t′ row) i j -ℤ squareP (partAt t row) i j) (s ∙ (λ d. squareOf 3 (λ i j. squareP (sym x′-is d) i j -ℤ squareP (sym (part-row t row) d) i j))) xs
             ∙ sym (moved-P (nodes t) (partAt t row) xs (part-corners t (h .changes .deck) row (h .changes .change .inside)) old-distinct (part-sound t row) long (partAt t′ row) (corners-here t row new (h .changes .deck) (h .changes .change)) (part-sound t′ row))
 
   -- ---- THEOREM. The replacement as the code makes it: P and A with their squares, the factor from the first row on.

@@ -7,13 +7,14 @@ ghost use mathlib.Core.Bool.{cond};
 ghost use Prim.Native.Nat.{_+_, _-_, _*_, _<_, _≤_};
 ghost use lib.IntN.{_-ℤ_};
 ghost use lib.ListN.{length};
+ghost use Rattle.whole.specs.Squares.{at, squareOf};
 ghost use Rattle.paper.specs.Cards.{rowAt, rows, nodes, materials, elements, put};
 ghost use Rattle.paper.specs.Parts.{partFor};
 ghost use Rattle.paper.specs.Replacing.{stirs, formOf};
 ghost use Rattle.paper.specs.declared.Answer.the-variants.{Done};
 ghost use Rattle.laws.proofs.Decks.{Deck};
 ghost use Rattle.laws.proofs.Places.{squareP, squareA, addSquare};
-ghost use Rattle.triangle.specs.Forms.{numbers, at, squareOf};
+ghost use Rattle.triangle.specs.Forms.{numbers};
 ghost use Rattle.packed.specs.Asks.{Takes};
 ghost use Rattle.change.specs.Asks.{InBodies, Changes, Renews};
 
@@ -49,7 +50,7 @@ pub fn judge_form(table: &[u32], row: usize, new: [u32; 6]) -> Answer
 // To A.
 pub fn square(table: &[u32], row: usize, new: [u32; 6]) -> [[i64; 3]; 3]
     requires { ⌜ Renews (now table) row new ⌝ }
-    ensures { λ r. ⌜ r ≡ squareOf (λ i j. squareA (partFor (now (table .entry)) new) i j -ℤ squareA (partFor (now (table .entry)) (rowAt (now (table .entry)) row)) i j) ⌝ }
+    ensures { λ r. ⌜ r ≡ squareOf 3 (λ i j. squareA (partFor (now (table .entry)) new) i j -ℤ squareA (partFor (now (table .entry)) (rowAt (now (table .entry)) row)) i j) ⌝ }
 {
     let old = element::card_at(table, row);
     triangle::minus(part::square_a(table, new), part::square_a(table, old))
@@ -58,7 +59,7 @@ pub fn square(table: &[u32], row: usize, new: [u32; 6]) -> [[i64; 3]; 3]
 // To P: none where nothing is stored.
 pub fn stored(table: &[u32], row: usize, new: [u32; 6]) -> [[i64; 3]; 3]
     requires { ⌜ Changes (now table) row new ⌝ }
-    ensures { λ r. ⌜ r ≡ squareOf (λ i j. squareP (partFor (now (table .entry)) new) i j -ℤ squareP (partFor (now (table .entry)) (rowAt (now (table .entry)) row)) i j) ⌝ }
+    ensures { λ r. ⌜ r ≡ squareOf 3 (λ i j. squareP (partFor (now (table .entry)) new) i j -ℤ squareP (partFor (now (table .entry)) (rowAt (now (table .entry)) row)) i j) ⌝ }
 {
     let old = element::card_at(table, row);
     let is = triangle::mass(part::stored(table, new));

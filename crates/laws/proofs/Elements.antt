@@ -1,27 +1,26 @@
 -- One element that passes refusals 5 and 6: no two of its corners are the same, and its numbers are small.
 use mathlib.Core.Path.{_≡_, refl, sym, ap, subst, _∙_}
-use mathlib.Core.Bool.{true, not}
+use mathlib.Core.Bool.{true, false, not}
 use mathlib.Core.List.{List, [], _∷_, map}
-use Prim.Native.Nat.{ℕ, zero, suc, _+_, _-_, _*_, _/_, _≤_, _<_}
-use native.Mathlib.Nat.{mul-zero, div-zero}
+use Prim.Native.Nat.{ℕ, zero, suc, _+_, _-_, _*_, _≤_, _<_}
+use native.Mathlib.Nat.{mul-zero}
 use native.Mathlib.Decide.{decLt}
 use native.Mathlib.Omega.{arith}
-use borrow.Author.Tests.{leb-true, le-leb, not-false, not-true}
-use lib.IntN.{ℤ, pos, natAbs, _+ℤ_, _-ℤ_, _*ℤ_, +ℤ-invr, zero-*ℤ, *ℤ-zero}
+use borrow.Author.Tests.{leb-true, le-leb, lt-leb, not-false, not-true}
+use lib.IntN.{ℤ, pos, natAbs, _-ℤ_, _*ℤ_, +ℤ-invr, zero-*ℤ, *ℤ-zero}
 use lib.ListN.{length, getD}
-use Rattle.whole.specs.Nearest.{nearestN}
 use Rattle.whole.specs.Sums.{any}
-use Rattle.whole.proofs.Rounding.{nearest-zero, nearest-size}
+use Rattle.whole.proofs.Rounding.{nearest-zero, nearest-none}
 use Rattle.whole.proofs.Sums.{any-each, any-none}
 use Rattle.whole.proofs.Tests.{and-told}
 use Rattle.paper.specs.Kinds.{about}
 use Rattle.paper.specs.Cards.{field, rowAt, rows, nodes, materials, elements, elementRow, stepOf}
 use Rattle.paper.specs.Corners.{Shape, Body, shapeOf, area}
-use Rattle.paper.specs.Triangle.{b, c, S, pair, u}
+use Rattle.paper.specs.Triangle.{S, pair, u}
 use Rattle.paper.specs.Elements.{Element, bodyOf, elementOf, elementAt, soft, fair, formJudged, elementJudged}
 use Rattle.paper.specs.Parts.{namedRow, partOf, partAt}
 use Rattle.paper.specs.Building.{elementsFrom}
-use Rattle.paper.specs.declared.Answer.the-variants.{Done}
+use Rattle.paper.specs.declared.Answer.the-variants.{Done, Refused}
 use Rattle.paper.specs.declared.Refusal.the-variants.{Flat, Stiff}
 use Rattle.paper.specs.declared.Kind.{Kind}
 use Rattle.paper.specs.declared.Kind.the-variants.{D, N, M, E, H, F, G, T, Z, Other}
@@ -41,7 +40,7 @@ getD-map f [] a h = absurd (omega arith)
 getD-map f (n ∷ ns) zero h = refl
 getD-map f (n ∷ ns) (suc a) h = getD-map f ns a (omega arith)
 
-axis-same : (f : ℕ → ℕ) (ns : List ℕ) (a b : ℕ) → a < length ns → b < length ns → getD ns a 0 ≡ getD ns b 0 → getD (map f ns) a 0 ≡ getD (map f ns) b 0
+pub axis-same : (f : ℕ → ℕ) (ns : List ℕ) (a b : ℕ) → a < length ns → b < length ns → getD ns a 0 ≡ getD ns b 0 → getD (map f ns) a 0 ≡ getD (map f ns) b 0
 axis-same f ns a b ha hb e = getD-map f ns a ha ∙ ap f e ∙ sym (getD-map f ns b hb)
 
 -- a corner's coordinates
@@ -144,6 +143,25 @@ fair-told it e =
       pairs = λ i j l k. leb-true _ _ (not-false (soft (natAbs (it .between i j))) (any-each i (λ j. not (soft (natAbs (it .between i j)))) (any-each n (λ i. any i (λ j. not (soft (natAbs (it .between i j))))) q i k) j l));
     }
 
+-- ---- 5 and 6 as tests tell them
+
+module _ (it : Element) (n : ℕ) where
+  pub is-flat : it .size ≡ 0 → Refused (Flat n) ≡ formJudged it n
+  unfolding formJudged
+  is-flat h = rw (lt-leb 1 (it .size) (omega arith))
+
+  pub is-fair : 1 ≤ it .size → fair it ≡ true → Done ≡ formJudged it n
+  unfolding formJudged
+  is-fair h q = rw (le-leb 1 (it .size) h, q)
+
+  pub is-stiff : 1 ≤ it .size → fair it ≡ false → Refused (Stiff n) ≡ formJudged it n
+  unfolding formJudged
+  is-stiff h q = rw (le-leb 1 (it .size) h, q)
+
+pub stiff-u : (it : Element) → 4000000 < it .stored → false ≡ fair it
+unfolding fair
+stiff-u it h = rw (lt-leb (it .stored) 4000000 h)
+
 -- what 5 and 6 leave
 pub record Formed (it : Element) : Type 0 where
   pub some : 1 ≤ it .size
@@ -212,25 +230,22 @@ module _ (t : List ℕ) (d : Deck t) (pass : elementsFrom (elements t) 1 t ≡ D
 
 -- ---- within one element the order of 5 and 6 can't be seen
 
+pub none-is-fair : (it : Element) → it .stored ≡ 0 → ((i j : ℕ) → natAbs (it .between i j) ≡ 0) → fair it ≡ true
+unfolding fair
+none-is-fair it h p = rw (
+  le-leb (it .stored) 4000000 (omega arith),
+  any-none (length (it .shape .corners)) (λ i. any i (λ j. not (soft (natAbs (it .between i j))))) (λ i l. any-none i _ (λ j k. ap not (le-leb (natAbs (it .between i j)) 4000000 (omega (arith, p i j))))),
+)
+
 -- THEOREM. 6 asks nothing of an element with no area.
 pub flat-is-fair : (t card : List ℕ) → 1 ≤ stepOf t → elementOf t card .size ≡ 0 → fair (elementOf t card) ≡ true
-unfolding fair elementOf u pair nearestN
-flat-is-fair t card h z = rw (
-  le-leb (u (stepOf t) e) 4000000 (omega (arith, none)),
-  any-none (length (elementOf t card .shape .corners)) (λ i. any i (λ j. not (soft (natAbs (pair e i j))))) (λ i l. any-none i _ (λ j k. ap not (pairs i j))),
-)
+flat-is-fair t card h z = none-is-fair (elementOf t card) stored pairs
   where
     e : Body
     e = bodyOf t card
 
-    none : u (stepOf t) e ≡ 0
-    none = unfold u in nearest-zero _ (9600 * stepOf t) (omega arith) (ap (λ (k : ℕ). e .capacity * e .thickness * k) z ∙ mul-zero (e .capacity * e .thickness))
+    stored : elementOf t card .stored ≡ 0
+    stored = unfold elementOf in unfold u in nearest-zero _ (9600 * stepOf t) (omega arith) (ap (λ (k : ℕ). e .capacity * e .thickness * k) z ∙ mul-zero (e .capacity * e .thickness))
 
-    by-none : (n q : ℕ) → q ≡ 0 → nearestN n q ≡ 0
-    by-none n q k = ap (λ (m : ℕ). (2 * n + m) / (2 * m)) k ∙ div-zero (2 * n + 0)
-
-    pairs : (i j : ℕ) → soft (natAbs (pair e i j)) ≡ true
-    pairs i j = le-leb (natAbs (pair e i j)) 4000000 (omega (arith, nearest-size (top i j) (2000 * S (e .shape)), by-none (natAbs (top i j)) (2000 * S (e .shape)) (omega arith)))
-      where
-        top : ℕ → ℕ → ℤ
-        top i j = let s = e .shape in pos (e .thickness) *ℤ (pos (e .kx) *ℤ (b s i *ℤ b s j) +ℤ pos (e .ky) *ℤ (c s i *ℤ c s j))
+    pairs : (i j : ℕ) → natAbs (elementOf t card .between i j) ≡ 0
+    pairs i j = unfold elementOf in unfold pair in nearest-none _ (2000 * S (e .shape)) (ap (λ (k : ℕ). 2000 * k) z)

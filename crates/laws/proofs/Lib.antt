@@ -20,6 +20,8 @@ pub mod Kept
 pub mod NewCard
 pub mod InTurn
 pub mod Elements
+pub mod Faces
+pub mod Solids
 pub mod Weights
 pub mod Built
 pub mod Lent

@@ -11,7 +11,7 @@ use lib.ListN.{length, getD}
 use Rattle.whole.specs.Sums.{sum, sumN}
 use Rattle.whole.proofs.Signs.{natAbs-neg}
 use Rattle.whole.proofs.Tests.{never}
-use Rattle.whole.proofs.Sums.{sumN-ext, sumN-mono, sumN-plus, sumN-single, sumN-zero, sumN-once, sumN-swap, abs-sum}
+use Rattle.whole.proofs.Sums.{sumN-ext, sumN-mono, sumN-plus, sumN-single, sumN-zero, sumN-one, sumN-once, sumN-swap, abs-sum}
 use Rattle.paper.specs.Corners.{square, mass, spread}
 
 -- corners of which no two are the same
@@ -132,3 +132,7 @@ square-row n B a p l h =
         go : (t : Bool) → eqb a b ≡ t → cond t 0 (natAbs (p a b)) ≤ cond t 0 B
         go true e = omega arith
         go false e = h b m (λ q. never (sym e ∙ eq-eqb a b q))
+
+-- a number of it is at most its row's sum
+pub square-size : (n B a b : ℕ) (p : ℕ → ℕ → ℤ) → a < n → b < n → ((k : ℕ) → k < n → (a ≡ k → ⊥) → natAbs (p a k) ≤ B) → natAbs (square n p a b) + (B + B) ≤ sumN n (λ b. B) + sumN n (λ b. B)
+square-size n B a b p l m h = omega (arith, square-row n B a p l h, sumN-one (λ b. natAbs (square n p a b)) b n m)

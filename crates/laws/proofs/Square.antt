@@ -9,8 +9,10 @@ use lib.Dec.{eqb}
 use lib.IntN.{ℤ, pos, negℤ, _+ℤ_, *ℤ-comm, +ℤ-idr, +ℤ-idl, +ℤ-invr}
 use lib.ListN.{length, getD}
 use Rattle.whole.specs.Sums.{sum}
+use Rattle.whole.specs.Squares.{pairsOf, among}
 use Rattle.whole.proofs.Tests.{eqb-swap}
 use Rattle.whole.proofs.Sums.{sum-ext, sum-plus, sum-single, sum-swap, sum-zero}
+use Rattle.whole.proofs.Squares.{among-pairs}
 use Rattle.paper.specs.Kinds.{kindOf}
 use Rattle.paper.specs.Cards.{rowAt, rows, letter}
 use Rattle.paper.specs.Corners.{Body, square, mass, spread}
@@ -51,6 +53,26 @@ square-rows n p i h =
         sum-single n i (λ k. cond (eqb i k) x (pos 0)) h (λ k l q. ap (λ (t : Bool). cond t x (pos 0)) (ne-eqb i k (λ e. q (sym e))))
         ∙ ap (λ (t : Bool). cond t x (pos 0)) (eq-eqb i i refl)
 
+-- THEOREM. It is made of the pairs of n corners that are not the same.
+pub square-pairs : (n : ℕ) (p q : ℕ → ℕ → ℤ) → ((i j : ℕ) → i < n → j < n → (i ≡ j → ⊥) → p i j ≡ q i j) → (i j : ℕ) → i < n → j < n → square n p i j ≡ square n q i j
+unfolding square
+square-pairs n p q h i j l m = go (ℕ-discrete i j)
+  where
+    other : (k : ℕ) → k < n → cond (eqb i k) (pos 0) (p i k) ≡ cond (eqb i k) (pos 0) (q i k)
+    other k o = by (ℕ-discrete i k)
+      where
+        by : Dec (i ≡ k) → cond (eqb i k) (pos 0) (p i k) ≡ cond (eqb i k) (pos 0) (q i k)
+        by (yes e) = rw (eq-eqb i k e)
+        by (no x) = rw (ne-eqb i k x) (h i k l o x)
+
+    go : Dec (i ≡ j) → square n p i j ≡ square n q i j
+    go (yes e) = rw (eq-eqb i j e) (ap negℤ (sum-ext n _ _ other))
+    go (no x) = rw (ne-eqb i j x) (h i j l m x)
+
+-- THEOREM. So the pairs in a row, each once, are enough.
+pub of-pairs : (n : ℕ) (p : ℕ → ℕ → ℤ) → ((i j : ℕ) → p i j ≡ p j i) → (i j : ℕ) → i < n → j < n → square n (among (pairsOf n p)) i j ≡ square n p i j
+of-pairs n p same = square-pairs n (among (pairsOf n p)) p (among-pairs n p same)
+
 pub mass-symmetric : (w i j : ℕ) → mass w i j ≡ mass w j i
 unfolding mass
 mass-symmetric w i j = rw (eqb-swap i j)
@@ -78,7 +100,7 @@ pub record Sound (x : Part) : Type 0 where
   pub symmetric : (a b : ℕ) → x .conductance a b ≡ x .conductance b a
   pub balanced : (a : ℕ) → a < length (x .corners) → sum (length (x .corners)) (λ b. x .conductance a b) ≡ pos 0
 
-bulk-sound : (e : Element) → ((i j : ℕ) → e .between i j ≡ e .between j i) → Sound (bulk e)
+pub bulk-sound : (e : Element) → ((i j : ℕ) → e .between i j ≡ e .between j i) → Sound (bulk e)
 bulk-sound e h = record {
   symmetric = square-symmetric (length (e .shape .corners)) (e .between) h;
   balanced = square-rows (length (e .shape .corners)) (e .between);

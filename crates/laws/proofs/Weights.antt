@@ -7,16 +7,16 @@ use native.Mathlib.Nat.{mul-le-mul}
 use native.Mathlib.Omega.{arith}
 use borrow.Author.Tests.{eqb-true}
 use lib.Dec.{eqb}
-use lib.IntN.{ℤ, pos, natAbs, _+ℤ_, _-ℤ_, _*ℤ_}
+use lib.IntN.{ℤ, pos, natAbs, _+ℤ_}
 use lib.ListN.{length, getD}
 use Rattle.whole.specs.Nearest.{nearestN}
 use Rattle.whole.specs.Sums.{sum, sumN}
-use Rattle.whole.proofs.Signs.{natAbs-plus, natAbs-minus, natAbs-times}
-use Rattle.whole.proofs.Linear.{apart-size}
+use Rattle.whole.proofs.Signs.{natAbs-plus}
+use Rattle.whole.proofs.Areas.{area-size}
 use Rattle.whole.proofs.Sums.{sum-none, sumN-mono, sumN-plus, sumN-ext, sumN-zero, sumN-swap, sumN-one, sumN-upto, abs-sum}
 use Rattle.paper.specs.Kinds.{about, bodies}
 use Rattle.paper.specs.Cards.{field, rowAt, rows, nodes, materials, elements, elementRow}
-use Rattle.paper.specs.Corners.{Shape, shapeOf, from, area, mass, spread}
+use Rattle.paper.specs.Corners.{Shape, shapeOf, area, mass, spread}
 use Rattle.paper.specs.Triangle.{S, faceFilm}
 use Rattle.paper.specs.Edge.{edgeFilm}
 use Rattle.paper.specs.Elements.{bodyOf, elementOf, elementAt}
@@ -149,27 +149,21 @@ two-times : (c : ℕ) → sumN 2 (λ b. c) ≡ c + c
 unfolding sumN
 two-times c = omega arith
 
--- over a face
-product : (a b c d : ℤ) → natAbs a ≤ 4095 → natAbs b ≤ 4095 → natAbs c ≤ 4095 → natAbs d ≤ 4095 → natAbs (a *ℤ b -ℤ c *ℤ d) ≤ 33538050
-product a b c d ha hb hc hd =
-    omega (arith, natAbs-minus (a *ℤ b) (c *ℤ d), natAbs-times a b, natAbs-times c d, mul-le-mul ha hb, mul-le-mul hc hd)
-
--- corners that lie on the sheet
+-- over a face, whose corners lie on the sheet
 abbrev pub OnSheet : Shape → Type 0
 OnSheet s = (a : ℕ) → a < 3 → (getD (s .xs) a 0 ≤ 4095) × (getD (s .ys) a 0 ≤ 4095)
 
-pub S-size : (s : Shape) → OnSheet s → S s ≤ 33538050
+pub S-size : (s : Shape) → OnSheet s → S s ≤ 4095 * 4095
 unfolding S area
 S-size s h =
     let (x₀, y₀) = h 0 (omega arith) in
     let (x₁, y₁) = h 1 (omega arith) in
     let (x₂, y₂) = h 2 (omega arith) in
-    product (from (s .xs) 0 1) (from (s .ys) 0 2) (from (s .xs) 0 2) (from (s .ys) 0 1) (apart-size (getD (s .xs) 1 0) (getD (s .xs) 0 0) 4095 x₁ x₀) (apart-size (getD (s .ys) 2 0) (getD (s .ys) 0 0) 4095 y₂ y₀)
-    (apart-size (getD (s .xs) 2 0) (getD (s .xs) 0 0) 4095 x₂ x₀) (apart-size (getD (s .ys) 1 0) (getD (s .ys) 0 0) 4095 y₁ y₀)
+    area-size 4095 _ _ _ _ _ _ x₀ x₁ x₂ y₀ y₁ y₂
 
-pub face-size : (film : ℕ) (s : Shape) → film ≤ 100000 → S s ≤ 33538050 → faceFilm film s ≤ 349500
+pub face-size : (film : ℕ) (s : Shape) → film ≤ 100000 → S s ≤ 4095 * 4095 → faceFilm film s ≤ 349500
 unfolding faceFilm nearestN
-face-size film s h k = let m : film * S s ≤ 100000 * 33538050 = mul-le-mul h k in omega arith
+face-size film s h k = let m : film * S s ≤ 100000 * (4095 * 4095) = mul-le-mul h k in omega arith
 
 module _ (t : List ℕ) (d : Deck t) where
   -- THEOREM. An element's corners lie on the sheet.

@@ -9,16 +9,16 @@ use lib.Dec.{lit<}
 use lib.IntN.{ℤ, pos, natAbs, _+ℤ_}
 use lib.ListN.{length, getD, set}
 use lib.Seq.{getD-set-same, getD-set-other, set-out}
-use Rattle.whole.specs.Packed.{tri, cell, place, entry}
+use Rattle.whole.specs.Packed.{tri, cell, place, entry, Bounded}
+use Rattle.whole.specs.Squares.{at, Small}
 use Rattle.whole.proofs.Signs.{natAbs-plus}
 use Rattle.whole.proofs.Calc.{rd, num, size-of}
 use Rattle.whole.proofs.Packed.{place-in, add}
 use Rattle.paper.specs.declared.Node.{Node}
 use Rattle.laws.proofs.Places.{cornerRow, addRow, addSquare, length-row, length-square}
-use Rattle.triangle.specs.Forms.{numbers, at}
-use Rattle.triangle.specs.Asks.{Small}
+use Rattle.triangle.specs.Forms.{numbers}
 use Rattle.part.proofs.Leasts.{nth, nth-is}
-use Rattle.packed.specs.Asks.{Bounded, AddsAt, AddsRow, Takes}
+use Rattle.packed.specs.Asks.{AddsAt, AddsRow, Takes}
 
 -- ---- sizes
 

@@ -9,6 +9,7 @@ use lib.Dec.{eqb}
 use lib.ListN.{length, getD, replicate}
 use Rattle.whole.specs.Sums.{sum}
 use Rattle.whole.specs.Packed.{tri, cell, entry, lower}
+use Rattle.whole.specs.Squares.{at, squareOf}
 use Rattle.whole.proofs.Tests.{never}
 use Rattle.whole.proofs.Sums.{sum-more, sum-none}
 use Rattle.whole.proofs.Packed.{length-lower, lower-at, lower-ext, lower-zeros, lower-size}
@@ -27,7 +28,7 @@ use Rattle.laws.proofs.Spans.{part-corners, body-inner, in-loads}
 use Rattle.laws.proofs.Square.{part-sound}
 use Rattle.laws.proofs.Elements.{sound, part-distinct}
 use Rattle.laws.proofs.Places.{addSquare, squareP, squareA, added-P, added-A}
-use Rattle.triangle.specs.Forms.{numbers, at, squareOf}
+use Rattle.triangle.specs.Forms.{numbers}
 use Rattle.triangle.proofs.Sizes.{mass-size}
 use Rattle.part.specs.Forms.{cornersOf, doesBy, does}
 use Rattle.part.specs.Asks.{Card, Solid, Full}
@@ -131,24 +132,24 @@ module _ (t : List ℕ) (row : ℕ) (xs : List ℤ) (k : Walked t row xs) (q : p
   card = stirring t row (k .sound .deck) (k .inside) q
 
   module _ (r : List (List ℤ)) where
-    pub a-takes : r ≡ squareOf (squareA (partFor t (rowAt t row))) → Takes (c .count) xs (numbers (c .nodes)) r
+    pub a-takes : r ≡ squareOf 3 (squareA (partFor t (rowAt t row))) → Takes (c .count) xs (numbers (c .nodes)) r
     a-takes s =
         takes c full (x .corners) at-row r (squareA (partFor t (rowAt t row))) s (nodes t) xs (k .sound .deck .someN .1) (k .long) (k .small) (part-corners t (k .sound .deck) row (k .inside))
         (λ i j a b. omega (arith, square-small t (rowAt t row) card (solid-row t row (k .sound) (k .inside)) i j a b))
 
-    pub a-gives : {ys : List ℤ} → r ≡ squareOf (squareA (partFor t (rowAt t row))) → ys ≡ addSquare (c .count) xs (numbers (c .nodes)) (at r) → ys ≡ lower (nodes t) (λ i j. entry xs i j +ℤ addsA x i j)
+    pub a-gives : {ys : List ℤ} → r ≡ squareOf 3 (squareA (partFor t (rowAt t row))) → ys ≡ addSquare (c .count) xs (numbers (c .nodes)) (at r) → ys ≡ lower (nodes t) (λ i j. entry xs i j +ℤ addsA x i j)
     a-gives s g =
-        g ∙ gives c full (x .corners) at-row r (squareA x) (s ∙ ap (λ (y : Part). squareOf (squareA y)) (sym (part-row t row))) xs
+        g ∙ gives c full (x .corners) at-row r (squareA x) (s ∙ ap (λ (y : Part). squareOf 3 (squareA y)) (sym (part-row t row))) xs
         ∙ added-A (nodes t) x xs (part-corners t (k .sound .deck) row (k .inside)) (part-distinct t (k .sound .deck) (k .sound .passed) row (k .inside)) (part-sound t row) (k .long)
 
-    pub p-takes : {w : ℕ} → w ≡ partFor t (rowAt t row) .capacity → r ≡ squareOf (mass w) → Takes (c .count) xs (numbers (c .nodes)) r
+    pub p-takes : {w : ℕ} → w ≡ partFor t (rowAt t row) .capacity → r ≡ squareOf 3 (mass w) → Takes (c .count) xs (numbers (c .nodes)) r
     p-takes {w} z s =
         takes c full (x .corners) at-row r (mass w) s (nodes t) xs (k .sound .deck .someN .1) (k .long) (k .small) (part-corners t (k .sound .deck) row (k .inside))
         (λ i j a b. omega (arith, mass-size w i j, z, stored-size t (rowAt t row) card))
 
-    pub p-gives : {ys : List ℤ} {w : ℕ} → w ≡ partFor t (rowAt t row) .capacity → r ≡ squareOf (mass w) → ys ≡ addSquare (c .count) xs (numbers (c .nodes)) (at r) → ys ≡ lower (nodes t) (λ i j. entry xs i j +ℤ addsP x i j)
+    pub p-gives : {ys : List ℤ} {w : ℕ} → w ≡ partFor t (rowAt t row) .capacity → r ≡ squareOf 3 (mass w) → ys ≡ addSquare (c .count) xs (numbers (c .nodes)) (at r) → ys ≡ lower (nodes t) (λ i j. entry xs i j +ℤ addsP x i j)
     p-gives {ys} {w} z s g =
-        g ∙ gives c full (x .corners) at-row r (squareP x) (s ∙ ap (λ (v : ℕ). squareOf (mass v)) (z ∙ ap (λ (y : Part). y .capacity) (sym (part-row t row)))) xs
+        g ∙ gives c full (x .corners) at-row r (squareP x) (s ∙ ap (λ (v : ℕ). squareOf 3 (mass v)) (z ∙ ap (λ (y : Part). y .capacity) (sym (part-row t row)))) xs
         ∙ added-P (nodes t) x xs (part-corners t (k .sound .deck) row (k .inside)) (part-distinct t (k .sound .deck) (k .sound .passed) row (k .inside)) (part-sound t row) (k .long)
 
 -- ---- the walk over the table: the slice is the sum over the first rows

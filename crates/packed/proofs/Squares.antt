@@ -6,17 +6,17 @@ use native.Mathlib.Omega.{arith}
 use lib.IntN.{ℤ, pos, natAbs, _+ℤ_, +ℤ-idr}
 use lib.ListN.{length, getD, take}
 use lib.Seq.{getD-take}
-use Rattle.whole.specs.Packed.{tri, matrix, entry, lower}
+use Rattle.whole.specs.Packed.{tri, matrix, entry, lower, Bounded}
+use Rattle.whole.specs.Squares.{at, squareOf, Small}
 use Rattle.whole.proofs.Packed.{lower-ext, lower-eta, add}
+use Rattle.whole.proofs.Squares.{small-square, square-at}
 use Rattle.laws.proofs.Spans.{Inside, inside-each}
 use Rattle.laws.proofs.Places.{cornerRow, addRow, addSquare}
-use Rattle.triangle.specs.Forms.{numbers, at, squareOf}
-use Rattle.triangle.specs.Asks.{Small}
-use Rattle.triangle.proofs.Squares.{small-square, square-at}
+use Rattle.triangle.specs.Forms.{numbers}
 use Rattle.part.specs.Forms.{cornersOf}
 use Rattle.part.specs.Asks.{Full}
 use Rattle.part.specs.declared.Corners.{Corners}
-use Rattle.packed.specs.Asks.{Bounded, Takes}
+use Rattle.packed.specs.Asks.{Takes}
 
 -- ---- only the first n corners count, and the first n rows of the square
 
@@ -38,7 +38,7 @@ square-ext (suc a) xs ns ms q r e f =
 
 -- ---- the corners ns as code has them, and f's square
 
-module _ (c : Corners) (full : Full c) (ns : List ℕ) (e : cornersOf c ≡ ns) (q : List (List ℤ)) (f : ℕ → ℕ → ℤ) (s : q ≡ squareOf f) where
+module _ (c : Corners) (full : Full c) (ns : List ℕ) (e : cornersOf c ≡ ns) (q : List (List ℤ)) (f : ℕ → ℕ → ℤ) (s : q ≡ squareOf 3 f) where
   count-is : c .count ≡ length ns
   count-is = sym (full .full) ∙ ap length e
 
@@ -53,13 +53,13 @@ module _ (c : Corners) (full : Full c) (ns : List ℕ) (e : cornersOf c ≡ ns) 
     most = full .few;
     corners = λ k l. rw (corner-at k l) (inside-each m ns inside k (omega (arith, count-is)));
     small = small;
-    square = subst (Small (2 ^ 52)) (sym s) (small-square (2 ^ 52) f size);
+    square = subst (Small (2 ^ 52)) (sym s) (small-square 3 (2 ^ 52) f size);
   }
 
   pub gives : (xs : List ℤ) → addSquare (c .count) xs (numbers (c .nodes)) (at q) ≡ addSquare (length ns) xs ns f
   gives xs =
       square-ext (c .count) xs (numbers (c .nodes)) ns (at q) f corner-at
-      (λ a b l k. ap (λ (z : List (List ℤ)). at z a b) s ∙ square-at f a b (omega (arith, full .few)) (omega (arith, full .few)))
+      (λ a b l k. ap (λ (z : List (List ℤ)). at z a b) s ∙ square-at 3 f a b (omega (arith, full .few)) (omega (arith, full .few)))
       ∙ ap (λ (n : ℕ). addSquare n xs ns f) count-is
 
 -- a slice to which nothing is added

@@ -7,13 +7,14 @@ use borrow.Author.Tests.{not-true, not-false}
 use lib.IntN.{ℤ, pos, _+ℤ_}
 use lib.ListN.{length}
 use Rattle.whole.specs.Packed.{entry, lower}
+use Rattle.whole.specs.Squares.{at, squareOf}
 use Rattle.paper.specs.Kinds.{kindOf}
 use Rattle.paper.specs.Cards.{rowAt, letter, field, nodes}
 use Rattle.paper.specs.Corners.{mass}
 use Rattle.paper.specs.Parts.{partOf, partFor, partAt}
 use Rattle.paper.specs.Matrices.{addsP, addsA}
 use Rattle.laws.proofs.Places.{addSquare, squareA}
-use Rattle.triangle.specs.Forms.{numbers, at, squareOf}
+use Rattle.triangle.specs.Forms.{numbers}
 use Rattle.part.specs.Forms.{cornersOf}
 use Rattle.part.specs.Asks.{Card, Solid, Full}
 use Rattle.part.specs.declared.Corners.{Corners}
@@ -51,15 +52,15 @@ module _ (t : List ℕ) (row : ℕ) {l : ℕ} (el : l ≡ field t row 0) {b : Bo
       at-row : cornersOf c ≡ partFor t (rowAt t row) .corners
       at-row = e ∙ ap (λ (z : List ℕ). partFor t z .corners) ec
 
-      pub turn-a-takes : r ≡ squareOf (squareA (partFor t card)) → Takes (c .count) xs (numbers (c .nodes)) r
-      turn-a-takes s = a-takes t row xs k moves c full at-row r (s ∙ ap (λ (z : List ℕ). squareOf (squareA (partFor t z))) ec)
+      pub turn-a-takes : r ≡ squareOf 3 (squareA (partFor t card)) → Takes (c .count) xs (numbers (c .nodes)) r
+      turn-a-takes s = a-takes t row xs k moves c full at-row r (s ∙ ap (λ (z : List ℕ). squareOf 3 (squareA (partFor t z))) ec)
 
-      pub turn-a-gives : {ys : List ℤ} → r ≡ squareOf (squareA (partFor t card)) → ys ≡ addSquare (c .count) xs (numbers (c .nodes)) (at r) → ys ≡ lower (nodes t) (λ i j. entry xs i j +ℤ addsA (partAt t row) i j)
-      turn-a-gives s g = a-gives t row xs k moves c full at-row r (s ∙ ap (λ (z : List ℕ). squareOf (squareA (partFor t z))) ec) g
+      pub turn-a-gives : {ys : List ℤ} → r ≡ squareOf 3 (squareA (partFor t card)) → ys ≡ addSquare (c .count) xs (numbers (c .nodes)) (at r) → ys ≡ lower (nodes t) (λ i j. entry xs i j +ℤ addsA (partAt t row) i j)
+      turn-a-gives s g = a-gives t row xs k moves c full at-row r (s ∙ ap (λ (z : List ℕ). squareOf 3 (squareA (partFor t z))) ec) g
 
-      pub turn-p-takes : {w : ℕ} → w ≡ partFor t card .capacity → r ≡ squareOf (mass w) → Takes (c .count) xs (numbers (c .nodes)) r
+      pub turn-p-takes : {w : ℕ} → w ≡ partFor t card .capacity → r ≡ squareOf 3 (mass w) → Takes (c .count) xs (numbers (c .nodes)) r
       turn-p-takes z s = p-takes t row xs k moves c full at-row r (z ∙ ap (λ (y : List ℕ). partFor t y .capacity) ec) s
 
-      pub turn-p-gives : {ys : List ℤ} {w : ℕ} → w ≡ partFor t card .capacity → r ≡ squareOf (mass w) → ys ≡ addSquare (c .count) xs (numbers (c .nodes)) (at r)
+      pub turn-p-gives : {ys : List ℤ} {w : ℕ} → w ≡ partFor t card .capacity → r ≡ squareOf 3 (mass w) → ys ≡ addSquare (c .count) xs (numbers (c .nodes)) (at r)
           → ys ≡ lower (nodes t) (λ i j. entry xs i j +ℤ addsP (partAt t row) i j)
       turn-p-gives z s g = p-gives t row xs k moves c full at-row r (z ∙ ap (λ (y : List ℕ). partFor t y .capacity) ec) s g

@@ -4,16 +4,12 @@ use mathlib.Core.List.{List}
 use Prim.Native.Nat.{ℕ, suc, _-_, _*_, _≤_, _<_, _^_}
 use lib.IntN.{ℤ, natAbs}
 use lib.ListN.{length, getD}
-use Rattle.whole.specs.Packed.{matrix, cell, place}
+use Rattle.whole.specs.Packed.{matrix, cell, place, Bounded}
+use Rattle.whole.specs.Squares.{Small}
 use Rattle.paper.specs.Cards.{rows, nodes, elements}
 use Rattle.paper.specs.Building.{elementsFrom}
 use Rattle.paper.specs.declared.Answer.the-variants.{Done}
 use Rattle.laws.proofs.Decks.{Deck, In}
-use Rattle.triangle.specs.Asks.{Small}
-
--- numbers of size at most b
-pub record Bounded (b : ℕ) (xs : List ℤ) : Type 0 where
-  pub each : (k : ℕ) → natAbs (cell xs k) ≤ b
 
 -- a place in the slice for the nodes a and b
 pub record AddsAt (xs : List ℤ) (a b : ℕ) : Type 0 where

@@ -8,6 +8,7 @@ ghost use lib.Dec.{eqb};
 ghost use lib.IntN.{ℤ, pos, natAbs, _+ℤ_};
 ghost use lib.ListN.{length, replicate};
 ghost use Rattle.whole.specs.Packed.{matrix, place, entry, lower};
+ghost use Rattle.whole.specs.Squares.{at};
 ghost use Rattle.whole.proofs.Packed.{add};
 ghost use Rattle.paper.specs.Cards.{nodes};
 ghost use Rattle.paper.specs.Parts.{partAt};
@@ -15,7 +16,7 @@ ghost use Rattle.paper.specs.Matrices as matrices;
 ghost use Rattle.paper.specs.Matrices.{addsP, addsA, fixes, fixed, cleared};
 ghost use Rattle.laws.proofs.Decks.{Deck};
 ghost use Rattle.laws.proofs.Places.{addRow, addSquare};
-ghost use Rattle.triangle.specs.Forms.{numbers, at};
+ghost use Rattle.triangle.specs.Forms.{numbers};
 ghost use Rattle.packed.specs.Asks.{AddsAt, AddsRow, Takes, Sound, Walked, Clears, Fixes};
 
 // ---- places

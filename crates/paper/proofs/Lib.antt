@@ -6,3 +6,4 @@ pub mod Texts
 pub mod Edges
 pub mod Orders
 pub mod Redone
+pub mod Solids

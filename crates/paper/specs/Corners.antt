@@ -1,4 +1,4 @@
--- Squares and loads over any number of corners: 3 of a triangle. Corners from 0.
+-- Squares and loads over any number of corners: 3 of a triangle, 4 of a tetrahedron. Corners from 0.
 use mathlib.Core.Bool.{cond, _&&_}
 use mathlib.Core.List.{List, map}
 use Prim.Native.Nat.{ℕ, suc, _*_}

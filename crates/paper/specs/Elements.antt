@@ -9,6 +9,8 @@ use Rattle.whole.specs.Sums.{any}
 use Rattle.paper.specs.Cards.{rowAt, field, materialRow, elementRow, stepOf}
 use Rattle.paper.specs.Corners.{Shape, Body, shapeOf}
 use Rattle.paper.specs.Triangle.{S, pair, u}
+use Rattle.paper.specs.Tetrahedron.{Tetrahedron}
+use Rattle.paper.specs.Tetrahedron as solid
 use Rattle.paper.specs.declared.Answer.{Answer}
 use Rattle.paper.specs.declared.Answer.the-variants.{Done, Refused}
 use Rattle.paper.specs.declared.Refusal.the-variants.{Flat, Stiff}
@@ -36,6 +38,11 @@ unfoldable pub elementOf : List ℕ → List ℕ → Element
 elementOf t card =
     let e = bodyOf t card in
     record { shape = e .shape; size = S (e .shape); between = pair e; stored = u (stepOf t) e }
+
+-- of a tetrahedron, over a step of so many ms
+abbrev pub solidOf : ℕ → Tetrahedron → Element
+solidOf ms e =
+    record { shape = e .space .shape; size = solid.S (e .space); between = solid.pair e; stored = solid.u ms e }
 
 -- the card in a row
 abbrev pub elementAt : List ℕ → ℕ → Element

@@ -25,10 +25,9 @@ use Rattle.laws.proofs.Tables.{row-field}
 use Rattle.laws.proofs.Edge.{Ranges, g-most}
 use Rattle.laws.proofs.Spans.{Inside, inside-each, nodes-are, materials-are, elements-are, in-told}
 use Rattle.laws.proofs.Places.{squareA}
-use Rattle.triangle.specs.Forms.{at, squareOf, madeOf}
-use Rattle.triangle.specs.Asks.{Small, Sized, Placed, Step}
+use Rattle.triangle.specs.Forms.{madeOf}
+use Rattle.triangle.specs.Asks.{Sized, Placed, Step}
 use Rattle.triangle.proofs.Sizes.{S-small, u-size, film-small, mass-size, conductance-size}
-use Rattle.triangle.proofs.Squares.{small-square, square-at, square-ext}
 use Rattle.element.specs.Asks.{ElementCard, EdgeCard}
 use Rattle.element.proofs.Ranges.{card-of, placed-of, on-grid-of, sized-of, step-of, made-is}
 use Rattle.part.specs.Forms.{firstNodes, doesBy, does, baseBy, baseOf, none}

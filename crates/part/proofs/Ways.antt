@@ -9,7 +9,9 @@ use lib.Dec.{eqb}
 use lib.IntN.{ℤ, pos, natAbs, _+ℤ_}
 use lib.ListN.{length, getD, take}
 use Rattle.whole.specs.Sums.{table}
+use Rattle.whole.specs.Squares.{at, squareOf, rowsOf, Small}
 use Rattle.whole.proofs.Signs.{natAbs-plus}
+use Rattle.whole.proofs.Squares.{small-square, square-at, square-ext}
 use Rattle.paper.specs.Ticks.{kelvin}
 use Rattle.paper.specs.Kinds.{kindAt, kindOf}
 use Rattle.paper.specs.Cards.{rowAt, elements, elementRow, stepOf}
@@ -23,10 +25,9 @@ use Rattle.paper.specs.declared.Node.{Node}
 use Rattle.laws.proofs.Decks.{In}
 use Rattle.laws.proofs.Edge.{Ranges}
 use Rattle.laws.proofs.Places.{squareA}
-use Rattle.triangle.specs.Forms.{asShape, asBody, at, squareOf}
-use Rattle.triangle.specs.Asks.{Small, Sized, Placed, Solid}
+use Rattle.triangle.specs.Forms.{asShape, asBody}
+use Rattle.triangle.specs.Asks.{Sized, Placed, Solid}
 use Rattle.triangle.proofs.Sizes.{mass-size}
-use Rattle.triangle.proofs.Squares.{small-square, square-at, square-ext}
 use Rattle.element.specs.Asks.{ElementCard, EdgeCard}
 use Rattle.element.proofs.Ranges.{placed-of, sized-of, step-of}
 use Rattle.part.specs.Forms.{cornersOf, firstNodes, doesBy, does, baseBy, baseOf}
@@ -164,13 +165,13 @@ module _ (t card : List ℕ) (it : Does) (e : it ≡ does card) where
     conducts-by : {b : Bool} → it .conducts ≡ b → (i j : ℕ) → partFor t card .conductance i j ≡ cond b (square 3 (elementOf t card .between) i j) (pos 0)
     conducts-by q i j = as-part t card .conductance i j ∙ ap (λ (b : Bool). cond b (square 3 (elementOf t card .between) i j) (pos 0)) (told (λ d. d .conducts) q)
 
-    pub conducts-none : it .conducts ≡ false → (pos 0 ∷ pos 0 ∷ pos 0 ∷ []) ∷ (pos 0 ∷ pos 0 ∷ pos 0 ∷ []) ∷ (pos 0 ∷ pos 0 ∷ pos 0 ∷ []) ∷ [] ≡ squareOf (partFor t card .conductance)
-    unfolding squareOf table
-    conducts-none q = square-ext (λ i j. pos 0) (partFor t card .conductance) (λ i j k l. sym (conducts-by q i j))
+    pub conducts-none : it .conducts ≡ false → (pos 0 ∷ pos 0 ∷ pos 0 ∷ []) ∷ (pos 0 ∷ pos 0 ∷ pos 0 ∷ []) ∷ (pos 0 ∷ pos 0 ∷ pos 0 ∷ []) ∷ [] ≡ squareOf 3 (partFor t card .conductance)
+    unfolding rowsOf table
+    conducts-none q = square-ext 3 (λ i j. pos 0) (partFor t card .conductance) (λ i j k l. sym (conducts-by q i j))
 
-    pub conducts : {r : List (List ℤ)} {b : Body} → it .conducts ≡ true → b ≡ bodyOf t card → r ≡ squareOf (square 3 (pair b)) → r ≡ squareOf (partFor t card .conductance)
+    pub conducts : {r : List (List ℤ)} {b : Body} → it .conducts ≡ true → b ≡ bodyOf t card → r ≡ squareOf 3 (square 3 (pair b)) → r ≡ squareOf 3 (partFor t card .conductance)
     unfolding elementOf
-    conducts q p z = z ∙ ap (λ (b : Body). squareOf (square 3 (pair b))) p ∙ square-ext _ _ (λ i j k l. sym (conducts-by q i j))
+    conducts q p z = z ∙ ap (λ (b : Body). squareOf 3 (square 3 (pair b))) p ∙ square-ext 3 _ _ (λ i j k l. sym (conducts-by q i j))
 
     load-by : {b : Bool} → it .heats ≡ b → (a : ℕ) → partFor t card .load a ≡ cond b (heatShare 3 (getD card (it .value) 0) a) (pos ((1 + it .corners) * partFor t card .film * getD card (it .value + 1) 0))
     load-by q a = part-is .load a ∙ ap (λ (b : Bool). cond b (heatShare 3 (getD card (it .value) 0) a) (pos ((1 + it .corners) * partFor t card .film * getD card (it .value + 1) 0))) q
@@ -184,25 +185,25 @@ module _ (t card : List ℕ) (it : Does) (e : it ≡ does card) where
 -- ---- a square in A
 
 module _ (t card : List ℕ) (h : Card t card) (s : asks.Solid t card) {k m w : List (List ℤ)} {c f : ℕ}
-    (ek : k ≡ squareOf (partFor t card .conductance)) (ec : c ≡ partFor t card .capacity) (em : m ≡ squareOf (mass c)) (ef : f ≡ partFor t card .film) (ew : w ≡ squareOf (mass f)) where
-  mass-small : (v : ℕ) {q : List (List ℤ)} → v ≤ 2 ^ 37 → q ≡ squareOf (mass v) → Small (2 ^ 60) q
-  mass-small v l e = subst (Small (2 ^ 60)) (sym e) (small-square (2 ^ 60) (mass v) (λ i j a b. omega (arith, mass-size v i j)))
+    (ek : k ≡ squareOf 3 (partFor t card .conductance)) (ec : c ≡ partFor t card .capacity) (em : m ≡ squareOf 3 (mass c)) (ef : f ≡ partFor t card .film) (ew : w ≡ squareOf 3 (mass f)) where
+  mass-small : (v : ℕ) {q : List (List ℤ)} → v ≤ 2 ^ 37 → q ≡ squareOf 3 (mass v) → Small (2 ^ 60) q
+  mass-small v l e = subst (Small (2 ^ 60)) (sym e) (small-square 3 (2 ^ 60) (mass v) (λ i j a b. omega (arith, mass-size v i j)))
 
   pub asks-first : Small (2 ^ 60) k × Small (2 ^ 60) m
   asks-first = (
-    subst (Small (2 ^ 60)) (sym ek) (small-square (2 ^ 60) (partFor t card .conductance) (λ i j a b. omega (arith, conductance-small t card h s i j a b))),
+    subst (Small (2 ^ 60)) (sym ek) (small-square 3 (2 ^ 60) (partFor t card .conductance) (λ i j a b. omega (arith, conductance-small t card h s i j a b))),
     mass-small c (omega (arith, ec, stored-size t card h)) em,
   )
 
-  number : {q : List (List ℤ)} (g : ℕ → ℕ → ℤ) → q ≡ squareOf g → (i j : ℕ) → i < 3 → j < 3 → at q i j ≡ g i j
-  number g e i j a b = ap (λ (z : List (List ℤ)). at z i j) e ∙ square-at g i j a b
+  number : {q : List (List ℤ)} (g : ℕ → ℕ → ℤ) → q ≡ squareOf 3 g → (i j : ℕ) → i < 3 → j < 3 → at q i j ≡ g i j
+  number g e i j a b = ap (λ (z : List (List ℤ)). at z i j) e ∙ square-at 3 g i j a b
 
   both : (i j : ℕ) → i < 3 → j < 3 → at k i j +ℤ at m i j ≡ partFor t card .conductance i j +ℤ mass (partFor t card .capacity) i j
   both i j a b = λ d. number (partFor t card .conductance) ek i j a b d +ℤ (number (mass c) em i j a b ∙ ap (λ (v : ℕ). mass v i j) ec) d
 
-  pub asks-second : {q : List (List ℤ)} → q ≡ squareOf (λ i j. at k i j +ℤ at m i j) → Small (2 ^ 60) q × Small (2 ^ 60) w
+  pub asks-second : {q : List (List ℤ)} → q ≡ squareOf 3 (λ i j. at k i j +ℤ at m i j) → Small (2 ^ 60) q × Small (2 ^ 60) w
   asks-second e = (
-    subst (Small (2 ^ 60)) (sym e) (small-square (2 ^ 60) (λ i j. at k i j +ℤ at m i j) size),
+    subst (Small (2 ^ 60)) (sym e) (small-square 3 (2 ^ 60) (λ i j. at k i j +ℤ at m i j) size),
     mass-small f (omega (arith, ef, film-size t card h)) ew,
   )
     where
@@ -212,5 +213,5 @@ module _ (t card : List ℕ) (h : Card t card) (s : asks.Solid t card) {k m w : 
           two : (x y : ℤ) → natAbs (x +ℤ y) ≤ natAbs x + natAbs y
           two x y = natAbs-plus x y
 
-  pub in-A : {q r : List (List ℤ)} → q ≡ squareOf (λ i j. at k i j +ℤ at m i j) → r ≡ squareOf (λ i j. at q i j +ℤ at w i j) → r ≡ squareOf (squareA (partFor t card))
-  in-A e g = g ∙ square-ext _ _ (λ i j a b. λ d. (number (λ i j. at k i j +ℤ at m i j) e i j a b ∙ both i j a b) d +ℤ (number (mass f) ew i j a b ∙ ap (λ (v : ℕ). mass v i j) ef) d)
+  pub in-A : {q r : List (List ℤ)} → q ≡ squareOf 3 (λ i j. at k i j +ℤ at m i j) → r ≡ squareOf 3 (λ i j. at q i j +ℤ at w i j) → r ≡ squareOf 3 (squareA (partFor t card))
+  in-A e g = g ∙ square-ext 3 _ _ (λ i j a b. λ d. (number (λ i j. at k i j +ℤ at m i j) e i j a b ∙ both i j a b) d +ℤ (number (mass f) ew i j a b ∙ ap (λ (v : ℕ). mass v i j) ef) d)

@@ -9,10 +9,11 @@ ghost use Prim.Native.Nat.{ℕ, _+_, _*_, _-_, _/_, _^_, _≤_, _<_, min};
 ghost use lib.Dec.{ltb};
 ghost use lib.IntN.{pos};
 ghost use lib.ListN.{getD};
+ghost use Rattle.whole.specs.Squares.{squareOf};
 ghost use Rattle.paper.specs.Kinds.{kindOf};
 ghost use Rattle.paper.specs.Parts.{heatShare, partOf, partFor, least, leastRow};
 ghost use Rattle.laws.proofs.Places.{squareA};
-ghost use Rattle.triangle.specs.Forms.{asShape, squareOf};
+ghost use Rattle.triangle.specs.Forms.{asShape};
 ghost use Rattle.part.specs.Forms.{cornersOf, line, doesBy, baseOf};
 ghost use Rattle.part.specs.Asks.{Card, Solid, Full};
 
@@ -176,7 +177,7 @@ fn film(table: &[u32], card: [u32; 6]) -> u64
 
 fn conductance(table: &[u32], card: [u32; 6]) -> [[i64; 3]; 3]
     requires { ⌜ Card (now table) card × Solid (now table) card ⌝ }
-    ensures { λ r. ⌜ r ≡ squareOf (partFor (now (table .entry)) card .conductance) ⌝ }
+    ensures { λ r. ⌜ r ≡ squareOf 3 (partFor (now (table .entry)) card .conductance) ⌝ }
 {
     let it = by_letter(card[0]);
     if !it.conducts {
@@ -189,7 +190,7 @@ fn conductance(table: &[u32], card: [u32; 6]) -> [[i64; 3]; 3]
 // Its square in A: all three.
 pub fn square_a(table: &[u32], card: [u32; 6]) -> [[i64; 3]; 3]
     requires { ⌜ Card (now table) card × Solid (now table) card ⌝ }
-    ensures { λ r. ⌜ r ≡ squareOf (squareA (partFor (now (table .entry)) card)) ⌝ }
+    ensures { λ r. ⌜ r ≡ squareOf 3 (squareA (partFor (now (table .entry)) card)) ⌝ }
 {
     let within = triangle::plus(
         conductance(table, card),

@@ -8,6 +8,7 @@ use lib.IntN.{ℤ, pos, natAbs, _-ℤ_}
 use lib.ListN.{length, getD, take, drop, replicate, length-drop}
 use lib.Seq.{length-take-le, getD-take, drop-drop}
 use Rattle.whole.specs.Packed.{tri, matrix, cell, entry}
+use Rattle.whole.specs.Squares.{at, squareOf}
 use Rattle.whole.proofs.Sums.{any-ext, any-each, any-none}
 use Rattle.whole.proofs.Packed.{tri-below, tri-le}
 use Rattle.paper.specs.Refusals.{Outcome, refused, done, then, after, answerOf}
@@ -23,7 +24,7 @@ use Rattle.paper.specs.declared.Refusal.{Refusal}
 use Rattle.laws.proofs.Outcomes.{done-refused}
 use Rattle.laws.proofs.Refused.{OfFactor, rows-inside}
 use Rattle.laws.proofs.Places.{addSquare, squareA}
-use Rattle.triangle.specs.Forms.{numbers, at, squareOf}
+use Rattle.triangle.specs.Forms.{numbers}
 use Rattle.part.specs.Forms.{cornersOf}
 use Rattle.part.specs.Asks.{Full}
 use Rattle.part.specs.declared.Corners.{Corners}
@@ -80,7 +81,7 @@ module _ (t : List ℕ) (p a f w : List ℤ) (row : ℕ) (new : List ℕ) (h : O
 
   -- the corners and the square, as code has them
   module _ (c : Corners) (full : Full c) (e : cornersOf c ≡ partFor t new .corners) (q : List (List ℤ))
-      (sq : q ≡ squareOf (λ i j. squareA (partFor t new) i j -ℤ squareA (partFor t (rowAt t row)) i j)) where
+      (sq : q ≡ squareOf 3 (λ i j. squareA (partFor t new) i j -ℤ squareA (partFor t (rowAt t row)) i j)) where
     pub least-asks : Full c × (1 ≤ c .count) × (1 ≤ least (cornersOf c) (getD (cornersOf c) 0 1))
     least-asks = (full, some-corners t row new (h .renews) c full e .0, some-corners t row new (h .renews) c full e .1)
 

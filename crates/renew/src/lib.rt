@@ -4,10 +4,11 @@ use part::Corners;
 ghost use mathlib.Core.Path.{_≡_};
 ghost use lib.IntN.{pos};
 ghost use lib.ListN.{length, replicate, drop};
+ghost use Rattle.whole.specs.Squares.{at};
 ghost use Rattle.paper.specs.Cards.{put};
 ghost use Rattle.paper.specs.Building.{slices};
 ghost use Rattle.laws.proofs.Places.{addSquare};
-ghost use Rattle.triangle.specs.Forms.{numbers, at};
+ghost use Rattle.triangle.specs.Forms.{numbers};
 ghost use Rattle.renew.specs.Asks.{storedSquare, Accepts, Open, Renewed};
 
 // The factor made in the work slice: `below` is the lower part of the factor, from the number at `start` on.

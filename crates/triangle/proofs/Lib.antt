@@ -1,4 +1,4 @@
--- Squares of functions, and the sizes of an element's numbers.
+-- The conductance out of three pairs, and the sizes of an element's numbers.
 pub mod Squares
 pub mod Sizes
 mod Machine

@@ -1,16 +1,15 @@
 -- What the code's expressions are, as the machine has them, and that none overflows.
-use mathlib.Core.Path.{_≡_, ap, subst, sym, _∙_}
+use mathlib.Core.Path.{_≡_, ap, _∙_}
 use mathlib.Core.List.{List}
 use Prim.Native.Nat.{ℕ, _+_, _*_, _^_, _≤_, _<_}
 use native.Mathlib.Nat.{le-refl, mul-le-mul}
 use native.Mathlib.Omega.{arith}
-use lib.Dec.{lit<, lt→ltb}
+use lib.Dec.{lit<}
 use lib.IntN.{ℤ, pos, negℤ, natAbs, _+ℤ_, _-ℤ_, _*ℤ_, +ℤ-idl}
 use lib.ListN.{getD}
-use lib.Signed.{mag, _<ℤ_}
+use lib.Signed.{mag}
 use mir.Syntax.{w64}
 use mir.Val.{toZ}
-use mir.Facts.{toZ-pos}
 use Rattle.whole.specs.Sums.{table}
 use Rattle.whole.specs.Packed.{cell}
 use Rattle.whole.proofs.Sums.{table-at}
@@ -48,11 +47,8 @@ sum-is a b = plus (again a (lit< tt)) (again b (lit< tt))
 pub flux-is : {x v : ℤ} (t : ℕ) → t ≤ 4000 → Is x v sumSize → Is (toZ w64 t *ℤ rd x) (pos t *ℤ v) (4000 * sumSize)
 flux-is t h a = times (cast t h (lit< tt)) (again a (lit< tt))
 
-pub above : (n : ℕ) → 1 ≤ n → n < 2 ^ 63 → pos 0 <ℤ toZ w64 n
-above n h k = subst (λ (z : ℤ). pos 0 <ℤ z) (sym (toZ-pos w64 k)) (record { lt = lt→ltb 0 n (omega arith) })
-
-pub work-size : (a t s : ℕ) → a ≤ 5000 → t ≤ 4000 → s ≤ 33538050 → a * t * s ≤ 5000 * 4000 * 33538050
-work-size a t s h k l = mul-le-mul {n₂ = 5000 * 4000} {m₂ = 33538050} (mul-le-mul {n₂ = 5000} {m₂ = 4000} h k) l
+pub work-size : (a t s : ℕ) → a ≤ 5000 → t ≤ 4000 → s ≤ 4095 * 4095 → a * t * s ≤ 5000 * 4000 * (4095 * 4095)
+work-size a t s h k l = mul-le-mul {n₂ = 5000 * 4000} {m₂ = 4095 * 4095} (mul-le-mul {n₂ = 5000} {m₂ = 4000} h k) l
 
 -- ---- a pair's dividend, step by step
 

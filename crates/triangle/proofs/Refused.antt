@@ -1,4 +1,4 @@
--- Refusals 5 and 6, test by test.
+-- Refusal 6, test by test.
 use mathlib.Core.Path.{_≡_, refl, ap, _∙_}
 use mathlib.Core.Bool.{Bool, true, false, not, _&&_, _||_}
 use Prim.Native.Nat.{ℕ, suc, _^_, _≤_, _<_}
@@ -11,9 +11,7 @@ use lib.Signed.{mag}
 use Rattle.whole.specs.Sums.{any}
 use Rattle.whole.proofs.Signs.{got}
 use Rattle.whole.proofs.Calc.{rd}
-use Rattle.paper.specs.Elements.{Element, soft, fair, formJudged}
-use Rattle.paper.specs.declared.Answer.the-variants.{Done, Refused}
-use Rattle.paper.specs.declared.Refusal.the-variants.{Flat, Stiff}
+use Rattle.paper.specs.Elements.{Element, soft, fair}
 
 -- the size of what a call gave
 pub size-of-call : {z v : ℤ} {n : ℕ} → n ≡ natAbs (rd z) → mag z < 2 ^ 63 → z ≡ v → n ≡ natAbs v
@@ -28,10 +26,6 @@ module _ (it : Element) (corners : length (it .shape .corners) ≡ 3) where
   unfolding fair any
   fair-is = rw corners
 
-  pub stiff-u : 4000000 < it .stored → false ≡ fair it
-  unfolding fair
-  stiff-u h = rw (lt-leb (it .stored) 4000000 h)
-
   pub stiff-10 : it .stored ≤ 4000000 → 4000000 < natAbs (it .between 1 0) → false ≡ fair it
   stiff-10 h k = rw (fair-is, le-leb (it .stored) 4000000 h, lt-leb (natAbs (it .between 1 0)) 4000000 k)
 
@@ -45,16 +39,3 @@ module _ (it : Element) (corners : length (it .shape .corners) ≡ 3) where
       twice : (b : Bool) → b ≡ not (not b)
       twice true = refl
       twice false = refl
-
-module _ (it : Element) (n : ℕ) where
-  pub is-flat : it .size ≡ 0 → Refused (Flat n) ≡ formJudged it n
-  unfolding formJudged
-  is-flat h = rw (lt-leb 1 (it .size) (omega arith))
-
-  pub is-fair : 1 ≤ it .size → fair it ≡ true → Done ≡ formJudged it n
-  unfolding formJudged
-  is-fair h q = rw (le-leb 1 (it .size) h, q)
-
-  pub is-stiff : 1 ≤ it .size → fair it ≡ false → Refused (Stiff n) ≡ formJudged it n
-  unfolding formJudged
-  is-stiff h q = rw (le-leb 1 (it .size) h, q)

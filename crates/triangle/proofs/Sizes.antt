@@ -1,19 +1,20 @@
 -- Sizes of one element's numbers, before the test of 6.
 use mathlib.Core.Bool.{Bool, true, false, cond}
 use mathlib.Core.List.{List}
-use Prim.Native.Nat.{ℕ, zero, suc, _+_, _*_, _^_, _≤_, _<_}
+use Prim.Native.Nat.{ℕ, zero, suc, _*_, _^_, _≤_, _<_}
 use native.Mathlib.Nat.{mul-le-mul}
 use native.Mathlib.Omega.{arith}
 use lib.Dec.{eqb}
-use lib.IntN.{ℤ, pos, negℤ, natAbs, _+ℤ_, _-ℤ_, _*ℤ_}
+use lib.IntN.{ℤ, pos, natAbs, _+ℤ_, _-ℤ_, _*ℤ_}
 use lib.ListN.{getD}
-use Rattle.whole.specs.Sums.{sum}
-use Rattle.whole.specs.Nearest.{nearestN}
-use Rattle.whole.proofs.Signs.{natAbs-plus, natAbs-minus, natAbs-times, natAbs-neg}
+use Rattle.whole.specs.Sums.{sumN}
+use Rattle.whole.proofs.Signs.{natAbs-plus, natAbs-times}
 use Rattle.whole.proofs.Linear.{apart-size}
 use Rattle.whole.proofs.Rounding.{nearest-size, nearestN-by}
-use Rattle.paper.specs.Corners.{Shape, Body, from, area, square, mass}
+use Rattle.paper.specs.Corners.{Shape, Body, square, mass}
 use Rattle.paper.specs.Triangle.{b, c, S, pair, u, faceFilm}
+use Rattle.laws.proofs.Sizes.{square-size}
+use Rattle.laws.proofs.Weights.{S-size, face-size}
 use Rattle.triangle.specs.Asks.{OnGrid, Placed, Sized, Step}
 
 pub grid-apart : (z : List ℕ) (i j : ℕ) → OnGrid z → i < 3 → j < 3 → natAbs (pos (getD z i 0) -ℤ pos (getD z j 0)) ≤ 4095
@@ -33,18 +34,8 @@ c-size s (suc zero) p h = grid-apart (s .xs) 0 2 (p .x) (omega arith) (omega ari
 c-size s (suc (suc zero)) p h = grid-apart (s .xs) 1 0 (p .x) (omega arith) (omega arith)
 c-size s (suc (suc (suc a))) p h = absurd (omega arith)
 
-product : (x y z w : ℤ) → natAbs x ≤ 4095 → natAbs y ≤ 4095 → natAbs z ≤ 4095 → natAbs w ≤ 4095 → natAbs (x *ℤ y -ℤ z *ℤ w) ≤ 33538050
-product x y z w hx hy hz hw =
-    omega (arith, natAbs-minus (x *ℤ y) (z *ℤ w), natAbs-times x y, natAbs-times z w, mul-le-mul hx hy, mul-le-mul hz hw)
-
-pub S-small : (s : Shape) → Placed s → S s ≤ 33538050
-unfolding S area
-S-small s p =
-    product (from (s .xs) 0 1) (from (s .ys) 0 2) (from (s .xs) 0 2) (from (s .ys) 0 1)
-    (grid-apart (s .xs) 1 0 (p .x) (omega arith) (omega arith))
-    (grid-apart (s .ys) 2 0 (p .y) (omega arith) (omega arith))
-    (grid-apart (s .xs) 2 0 (p .x) (omega arith) (omega arith))
-    (grid-apart (s .ys) 1 0 (p .y) (omega arith) (omega arith))
+pub S-small : (s : Shape) → Placed s → S s ≤ 4095 * 4095
+S-small s p = S-size s (λ a l. (p .x a l, p .y a l))
 
 -- k times two factors of 0 to 4,095 in size
 term-size : (k : ℕ) (x y : ℤ) → k ≤ 500000 → natAbs x ≤ 4095 → natAbs y ≤ 4095 → natAbs (pos k *ℤ (x *ℤ y)) ≤ 500000 * (4095 * 4095)
@@ -73,12 +64,11 @@ pub u-size : (ms : ℕ) (e : Body) → Sized e → Step ms → u ms e ≤ 2 ^ 37
 unfolding u
 u-size ms e z h =
     let n = e .capacity * e .thickness * S (e .shape) in
-    let big : n ≤ 5000 * 4000 * 33538050 = mul-le-mul {n₂ = 5000 * 4000} {m₂ = 33538050} (mul-le-mul {n₂ = 5000} {m₂ = 4000} (z .capacity) (z .thickness)) (S-small (e .shape) (z .placed)) in
+    let big : n ≤ 5000 * 4000 * (4095 * 4095) = mul-le-mul {n₂ = 5000 * 4000} {m₂ = 4095 * 4095} (mul-le-mul {n₂ = 5000} {m₂ = 4000} (z .capacity) (z .thickness)) (S-small (e .shape) (z .placed)) in
     omega (arith, h .least, nearestN-by n 9600 (9600 * ms) (omega arith) (omega (arith, h .least)))
 
 pub film-small : (film : ℕ) (s : Shape) → film ≤ 100000 → Placed s → faceFilm film s ≤ 349500
-unfolding faceFilm nearestN
-film-small film s h p = let m : film * S s ≤ 100000 * 33538050 = mul-le-mul {n₂ = 100000} {m₂ = 33538050} h (S-small s p) in omega arith
+film-small film s h p = face-size film s h (S-small s p)
 
 -- ---- squares
 
@@ -90,28 +80,8 @@ mass-size w i j = go (eqb i j)
     go true = omega arith
     go false = omega arith
 
--- minus a sum of three
-three : (x y z : ℤ) → natAbs (negℤ (pos 0 +ℤ x +ℤ y +ℤ z)) ≤ natAbs x + natAbs y + natAbs z
-three x y z = rw (natAbs-neg (pos 0 +ℤ x +ℤ y +ℤ z)) (omega (arith, natAbs-plus (pos 0 +ℤ x +ℤ y) z, natAbs-plus (pos 0 +ℤ x) y, natAbs-plus (pos 0) x))
-
 pub conductance-size : (e : Body) (i j : ℕ) → Sized e → 1 ≤ S (e .shape) → i < 3 → j < 3 → natAbs (square 3 (pair e) i j) ≤ 2 ^ 47
-unfolding square sum
-conductance-size e i j z some h l = go (eqb i j)
-  where
-    p : (k : ℕ) → k < 3 → natAbs (cond (eqb i k) (pos 0) (pair e i k)) ≤ 2 ^ 45
-    p k m = one (eqb i k)
-      where
-        one : (t : Bool) → natAbs (cond t (pos 0) (pair e i k)) ≤ 2 ^ 45
-        one true = omega arith
-        one false = pair-size e i k z some h m
-
-    go : (t : Bool) → natAbs (cond t (negℤ (sum 3 (λ k. cond (eqb i k) (pos 0) (pair e i k)))) (pair e i j)) ≤ 2 ^ 47
-    go true =
-        omega (
-          arith,
-          three (cond (eqb i 0) (pos 0) (pair e i 0)) (cond (eqb i 1) (pos 0) (pair e i 1)) (cond (eqb i 2) (pos 0) (pair e i 2)),
-          p 0 (omega arith),
-          p 1 (omega arith),
-          p 2 (omega arith),
-        )
-    go false = omega (arith, pair-size e i j z some h l)
+unfolding sumN
+conductance-size e i j z some h l =
+    let s = square-size 3 (2 ^ 45) i j (pair e) h l (λ k m q. pair-size e i k z some h m) in
+    omega arith

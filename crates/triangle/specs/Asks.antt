@@ -2,11 +2,9 @@
 use mathlib.Core.Path.{_≡_}
 use mathlib.Core.List.{List}
 use Prim.Native.Nat.{ℕ, _≤_, _<_}
-use lib.IntN.{ℤ, natAbs}
 use lib.ListN.{length, getD}
 use Rattle.paper.specs.Corners.{Shape, Body}
 use Rattle.paper.specs.Triangle.{S}
-use Rattle.triangle.specs.Forms.{at}
 
 -- three coordinates
 abbrev pub OnGrid : List ℕ → Type 0
@@ -33,7 +31,3 @@ pub record Solid (e : Body) (s : ℕ) : Type 0 where
 pub record Step (ms : ℕ) : Type 0 where
   pub least : 1 ≤ ms
   pub most : ms ≤ 60000
-
--- a square of numbers of size at most n
-pub record Small (n : ℕ) (q : List (List ℤ)) : Type 0 where
-  pub each : (i j : ℕ) → natAbs (at q i j) ≤ n

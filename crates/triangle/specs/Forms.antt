@@ -1,9 +1,6 @@
--- What the code's structs and squares stand for.
-use mathlib.Core.List.{List, [], _∷_, map}
+-- What the code's structs stand for.
+use mathlib.Core.List.{List, map}
 use Prim.Native.Nat.{ℕ}
-use lib.IntN.{ℤ, pos}
-use lib.ListN.{getD}
-use Rattle.whole.specs.Sums.{table}
 use Rattle.paper.specs.Corners as paper
 use Rattle.paper.specs.Triangle.{S, pair, u}
 use Rattle.paper.specs.Elements.{Element}
@@ -23,10 +20,3 @@ asBody e = record { shape = asShape (e .shape); kx = e .kx; ky = e .ky; capacity
 -- the element that a body makes, over a step of so many ms
 abbrev pub madeOf : ℕ → paper.Body → Element
 madeOf ms e = record { shape = e .shape; size = S (e .shape); between = pair e; stored = u ms e }
-
--- the number in row i, column j of a square, and the square of a function
-abbrev pub at : List (List ℤ) → ℕ → ℕ → ℤ
-at q i j = getD (getD q i []) j (pos 0)
-
-unfoldable pub squareOf : (ℕ → ℕ → ℤ) → List (List ℤ)
-squareOf f = table 3 (f 0) ∷ table 3 (f 1) ∷ table 3 (f 2) ∷ []

@@ -7,14 +7,14 @@ ghost use mathlib.Core.Path.{_≡_};
 ghost use Prim.Native.Nat.{ℕ, _+_, _*_, _^_, _<_, _≤_};
 ghost use lib.IntN.{ℤ, pos, natAbs, _+ℤ_, _-ℤ_};
 ghost use lib.ListN.{getD};
-ghost use Rattle.whole.specs.Nearest.{nearestN};
 ghost use Rattle.whole.specs.Sums.{table};
 ghost use Rattle.whole.specs.Packed.{cell};
+ghost use Rattle.whole.specs.Squares.{at, squareOf, Small};
 ghost use Rattle.paper.specs.Corners.{square, mass};
 ghost use Rattle.paper.specs.Triangle.{b, c, S, pair, u, faceFilm};
 ghost use Rattle.paper.specs.Elements.{fair, formJudged};
-ghost use Rattle.triangle.specs.Forms.{asShape, asBody, madeOf, at, squareOf};
-ghost use Rattle.triangle.specs.Asks.{OnGrid, Placed, Sized, Solid, Step, Small};
+ghost use Rattle.triangle.specs.Forms.{asShape, asBody, madeOf};
+ghost use Rattle.triangle.specs.Asks.{OnGrid, Placed, Sized, Solid, Step};
 
 // An element's place: its corners and their coordinates.
 pub struct Shape {
@@ -97,7 +97,7 @@ fn pair(e: Triangle, s: u64, i: usize, j: usize) -> i64
 // A diagonal is minus the sum of its two rounded neighbours.
 pub fn conductance(e: Triangle, s: u64) -> [[i64; 3]; 3]
     requires { ⌜ Solid (asBody e) s ⌝ }
-    ensures { λ r. ⌜ r ≡ squareOf (square 3 (pair (asBody e))) ⌝ }
+    ensures { λ r. ⌜ r ≡ squareOf 3 (square 3 (pair (asBody e))) ⌝ }
 {
     let p = pair(e, s, 0, 1);
     let q = pair(e, s, 0, 2);
@@ -111,20 +111,13 @@ pub fn conductance(e: Triangle, s: u64) -> [[i64; 3]; 3]
 
 // ---- capacity and film
 
-fn nearest(a: u64, q: u64) -> u64
-    requires { ⌜ (a ≤ 2 ^ 62) × (1 ≤ q) × (q < 2 ^ 63) ⌝ }
-    ensures { λ r. ⌜ r ≡ nearestN a q ⌝ }
-{
-    whole::nearest(a as i64, q as i64) as u64
-}
-
 // u over a step of so many ms, where s is S.
 pub fn capacity(e: Triangle, s: u64, ms: u32) -> u64
     requires { ⌜ Sized (asBody e) × (s ≡ S (asShape (e .shape))) × Step ms ⌝ }
     ensures { λ r. ⌜ r ≡ u ms (asBody e) ⌝ }
 {
     let n = e.capacity as u64 * e.thickness as u64 * s;
-    nearest(n, 9_600 * ms as u64)
+    whole::rounded(n, 9_600 * ms as u64)
 }
 
 // Over its face.
@@ -132,13 +125,13 @@ pub fn film(film: u32, s: Shape) -> u64
     requires { ⌜ Placed (asShape s) × (film ≤ 100000) ⌝ }
     ensures { λ r. ⌜ r ≡ faceFilm film (asShape s) ⌝ }
 {
-    nearest(film as u64 * twice_area(s), 9_600_000)
+    whole::rounded(film as u64 * twice_area(s), 9_600_000)
 }
 
 // 2w on the diagonal, w off it.
 pub fn mass(w: u64) -> [[i64; 3]; 3]
     requires { ⌜ w ≤ 2 ^ 37 ⌝ }
-    ensures { λ r. ⌜ r ≡ squareOf (mass w) ⌝ }
+    ensures { λ r. ⌜ r ≡ squareOf 3 (mass w) ⌝ }
 {
     let d = (2 * w) as i64;
     let o = w as i64;
@@ -163,7 +156,7 @@ fn minus_row(p: [i64; 3], q: [i64; 3]) -> [i64; 3]
 
 pub fn plus(p: [[i64; 3]; 3], q: [[i64; 3]; 3]) -> [[i64; 3]; 3]
     requires { ⌜ Small (2 ^ 60) p × Small (2 ^ 60) q ⌝ }
-    ensures { λ r. ⌜ r ≡ squareOf (λ i j. at p i j +ℤ at q i j) ⌝ }
+    ensures { λ r. ⌜ r ≡ squareOf 3 (λ i j. at p i j +ℤ at q i j) ⌝ }
 {
     [
         plus_row(p[0], q[0]),
@@ -175,7 +168,7 @@ pub fn plus(p: [[i64; 3]; 3], q: [[i64; 3]; 3]) -> [[i64; 3]; 3]
 // As new minus old.
 pub fn minus(p: [[i64; 3]; 3], q: [[i64; 3]; 3]) -> [[i64; 3]; 3]
     requires { ⌜ Small (2 ^ 60) p × Small (2 ^ 60) q ⌝ }
-    ensures { λ r. ⌜ r ≡ squareOf (λ i j. at p i j -ℤ at q i j) ⌝ }
+    ensures { λ r. ⌜ r ≡ squareOf 3 (λ i j. at p i j -ℤ at q i j) ⌝ }
 {
     [
         minus_row(p[0], q[0]),

@@ -4,8 +4,9 @@
 use mathlib.Core.Path.{_≡_, refl, sym, subst, _∙_}
 use Prim.Native.Nat.{ℕ, _+_, _*_, _^_, _≤_, _<_}
 use native.Mathlib.Nat.{le-refl, le-trans, lt-of-le-of-lt, mul-le-mul, add-le-add}
+use lib.Dec.{lt→ltb}
 use lib.IntN.{ℤ, pos, natAbs, _+ℤ_, _-ℤ_, _*ℤ_}
-use lib.Signed.{mag}
+use lib.Signed.{mag, _<ℤ_}
 use mir.Syntax.{w64}
 use mir.Val.{SFits, toZ, ofZ}
 use mir.Facts.{toZ-ofZ, toZ-pos}
@@ -32,6 +33,10 @@ num x h k = arg (small (lt-of-le-of-lt h k)) h
 -- an unsigned number that is cast to i64: `cast n (..) (lit< tt)`
 pub cast : (n : ℕ) {m : ℕ} → n ≤ m → m < 2 ^ 63 → Is (toZ w64 n) (pos n) m
 cast n h k = record { eq = toZ-pos w64 (lt-of-le-of-lt h k); size = h }
+
+-- and is above 0, as a divisor must be
+pub above : (n : ℕ) → 1 ≤ n → n < 2 ^ 63 → pos 0 <ℤ toZ w64 n
+above n h k = subst (λ (z : ℤ). pos 0 <ℤ z) (sym (toZ-pos w64 k)) (record { lt = lt→ltb 0 n h })
 
 -- a call's result, whose `ensures` says that it is u: `res (c .f .ok) (c .f .ensures) (..)`
 pub res : {z u v : ℤ} {n : ℕ} → mag z < 2 ^ 63 → z ≡ u → Is u v n → Is (rd z) v n

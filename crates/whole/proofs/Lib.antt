@@ -9,4 +9,6 @@ pub mod Sums
 pub mod First
 pub mod Largest
 pub mod Packed
+pub mod Squares
 pub mod Lists
+pub mod Areas

@@ -1,7 +1,7 @@
 -- Laws of the nearest: how near it is, its size, and the code's ways to it.
 use mathlib.Core.Path.{_≡_, refl, sym, ap, subst, _∙_}
 use Prim.Native.Nat.{ℕ, zero, suc, _+_, _*_, _-_, _/_, _%_, _^_, _≤_, _<_}
-use native.Mathlib.Nat.{le-refl, mul-le-mul, mul-left-comm, div-add-mod, mul-add, zero-mul, le-mul-of-pos-right, div-lt-iff-lt-mul, suc-mul, le-of-suc-le-suc, mul-assoc, mul-comm, mod-lt}
+use native.Mathlib.Nat.{le-refl, mul-le-mul, mul-left-comm, div-add-mod, mul-add, zero-mul, le-mul-of-pos-right, div-lt-iff-lt-mul, suc-mul, le-of-suc-le-suc, mul-assoc, mul-comm, mod-lt, div-zero}
 use native.Mathlib.Decide.{decLt}
 use native.Mathlib.Omega.{arith}
 use lib.IntN.{ℤ, pos, negsuc, negℤ, natAbs, _+ℤ_, _-ℤ_, _*ℤ_, negℤ-negℤ}
@@ -46,6 +46,11 @@ nearest-split a b =
 -- 0 / b is 0
 pub nearest-zero : (a b : ℕ) → 0 < b → a ≡ 0 → nearestN a b ≡ 0
 nearest-zero a b h e = omega (arith, nearestN-le a b h)
+
+-- by nothing
+pub nearest-none : (a : ℤ) (q : ℕ) → q ≡ 0 → natAbs (nearest a q) ≡ 0
+unfolding nearestN
+nearest-none a q e = nearest-size a q ∙ ap (λ (m : ℕ). (2 * natAbs a + m) / (2 * m)) e ∙ div-zero (2 * natAbs a + 0)
 
 -- y's sign put on signed l n
 abbrev pub flipBy : ℤ → ℤ → ℤ

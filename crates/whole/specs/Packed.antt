@@ -1,9 +1,9 @@
 -- A symmetric matrix as its lower triangle by rows. Rows and columns from 0: row i starts at tri i and has i + 1 numbers.
 use mathlib.Core.Bool.{cond}
 use mathlib.Core.List.{List, [], _++_}
-use Prim.Native.Nat.{ℕ, zero, suc, _+_}
+use Prim.Native.Nat.{ℕ, zero, suc, _+_, _≤_}
 use lib.Dec.{leb}
-use lib.IntN.{ℤ, pos}
+use lib.IntN.{ℤ, pos, natAbs}
 use lib.ListN.{getD}
 use Rattle.whole.specs.Sums.{table}
 
@@ -22,6 +22,10 @@ matrix n = tri n
 -- the number at k, 0 past the end
 abbrev pub cell : List ℤ → ℕ → ℤ
 cell xs k = getD xs k (pos 0)
+
+-- numbers of size at most b
+pub record Bounded (b : ℕ) (xs : List ℤ) : Type 0 where
+  pub each : (k : ℕ) → natAbs (cell xs k) ≤ b
 
 -- where row i, column j stands, on either side of the diagonal
 unfoldable pub place : ℕ → ℕ → ℕ

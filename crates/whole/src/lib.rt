@@ -5,7 +5,7 @@ ghost use mathlib.Core.Path.{_≡_};
 ghost use Prim.Native.Nat.{ℕ, _+_, _*_, _^_, _<_, _≤_};
 ghost use lib.IntN.{ℤ, pos, natAbs, _+ℤ_, _-ℤ_, _*ℤ_};
 ghost use lib.Signed.{_<ℤ_};
-ghost use Rattle.whole.specs.Nearest.{signed, nearest};
+ghost use Rattle.whole.specs.Nearest.{signed, nearestN, nearest};
 ghost use Rattle.whole.specs.Packed.{tri, matrix, place};
 
 // The size of x: of the least i64 too.
@@ -46,15 +46,20 @@ pub fn minus(a: i64, b: i64) -> i64
     a - b
 }
 
-// a / b to the nearest.
+// a / b to the nearest, of sizes.
+pub fn rounded(a: u64, b: u64) -> u64
+    requires { ⌜ (a ≤ 2 ^ 62) × (1 ≤ b) × (b < 2 ^ 63) ⌝ }
+    ensures { λ r. ⌜ r ≡ nearestN a b ⌝ }
+{
+    (2 * a + b) / (2 * b)
+}
+
+// And of numbers with a sign.
 pub fn nearest(a: i64, b: i64) -> i64
     requires { ⌜ (natAbs a ≤ 2 ^ 62) × (pos 0 <ℤ b) ⌝ }
     ensures { λ r. ⌜ r ≡ nearest a (natAbs b) ⌝ }
 {
-    let m = size(a);
-    let d = size(b);
-    let q = (2 * m + d) / (2 * d);
-    sign(a, q)
+    sign(a, rounded(size(a), size(b)))
 }
 
 // w * 2^20 / d to the nearest.

@@ -5,7 +5,8 @@ use mathlib.Core.List.{List, _++_}
 use Prim.Native.Nat.{ℕ, _^_, _≤_}
 use lib.IntN.{ℤ, pos}
 use lib.ListN.{length, replicate, drop}
-use Rattle.whole.specs.Packed.{start, matrix, lower, entry}
+use Rattle.whole.specs.Packed.{start, matrix, lower, entry, Bounded}
+use Rattle.whole.specs.Squares.{at}
 use Rattle.paper.specs.Refusals.{Outcome, refused, done, answerOf}
 use Rattle.paper.specs.Cards.{nodes}
 use Rattle.paper.specs.Matrices.{fixed, cleared}
@@ -13,9 +14,9 @@ use Rattle.paper.specs.Lent.{noFactor}
 use Rattle.paper.specs.declared.Answer.{Answer}
 use Rattle.laws.proofs.Decks.{Deck}
 use Rattle.laws.proofs.Places.{addSquare}
-use Rattle.triangle.specs.Forms.{numbers, at}
+use Rattle.triangle.specs.Forms.{numbers}
 use Rattle.part.specs.declared.Corners.{Corners}
-use Rattle.packed.specs.Asks.{Bounded, Takes}
+use Rattle.packed.specs.Asks.{Takes}
 
 -- what was made, or else this
 abbrev pub made : {X : Type 0} → Outcome X → X → X

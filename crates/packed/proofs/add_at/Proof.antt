@@ -8,10 +8,9 @@ use native.Mathlib.Omega.{arith}
 use lib.Dec.{lit<}
 use lib.IntN.{ℤ, natAbs, _+ℤ_}
 use lib.ListN.{set}
-use Rattle.whole.specs.Packed.{cell, place}
+use Rattle.whole.specs.Packed.{cell, place, Bounded}
 use Rattle.whole.proofs.Calc.{Is, rd, num, plus, fits, again}
 use Rattle.whole.proofs.Packed.{tri-96, place-in}
-use Rattle.packed.specs.Asks.{Bounded}
 
 sum-is : (xs : List ℤ) (k : ℕ) (v : ℤ) → Bounded (2 ^ 56) xs → natAbs v ≤ 2 ^ 52 → Is (rd (cell xs k) +ℤ rd v) (cell xs k +ℤ v) (2 ^ 56 + 2 ^ 52)
 sum-is xs k v h l = plus (num (cell xs k) (h .each k) (lit< tt)) (num v l (lit< tt))

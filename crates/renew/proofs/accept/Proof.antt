@@ -4,7 +4,8 @@ use Rattle.renew.proofs.accept.Tie as tie
 use mathlib.Core.Path.{_≡_, sym, ap, subst, _∙_}
 use mathlib.Core.List.{List}
 use lib.IntN.{ℤ}
-use Rattle.triangle.specs.Forms.{numbers, at}
+use Rattle.whole.specs.Squares.{at}
+use Rattle.triangle.specs.Forms.{numbers}
 use Rattle.laws.proofs.Places.{addSquare}
 use Rattle.packed.specs.Asks.{Takes}
 use Rattle.change.proofs.Forming.{row-room}

@@ -1,4 +1,4 @@
--- The dividend is at most 5,000 · 4,000 · 33,538,050.
+-- The dividend is at most 5,000 · 4,000 · 4,095 · 4,095.
 use borrow.Author.Needs.{needs}
 use Rattle.triangle.proofs.capacity.Statement.{statement}
 use Rattle.triangle.proofs.capacity.Tie as tie
@@ -11,7 +11,7 @@ use Rattle.paper.specs.Triangle.{u}
 use Rattle.triangle.proofs.Sizes.{S-small}
 use Rattle.triangle.proofs.Machine.{work-size}
 
-big : (s : tie.Start) → s .args .e .capacity * s .args .e .thickness * s .args .s ≤ 5000 * 4000 * 33538050
+big : (s : tie.Start) → s .args .e .capacity * s .args .e .thickness * s .args .s ≤ 5000 * 4000 * (4095 * 4095)
 big s =
     work-size (s .args .e .capacity) (s .args .e .thickness) (s .args .s) (s .pre .0 .capacity) (s .pre .0 .thickness)
     (omega (arith, s .pre .1, S-small _ (s .pre .0 .placed)))
@@ -30,11 +30,11 @@ mul-n c =
 mul-n-2 : tie.Need-mul-n-2
 mul-n-2 c = omega (arith, big (c .before .before))
 
-mul-nearest : tie.Need-mul-nearest
-mul-nearest c = search needs
+mul-rounded : tie.Need-mul-rounded
+mul-rounded c = search needs
 
-nearest-requires : tie.Need-nearest-requires
-nearest-requires c κs =
+rounded-requires : tie.Need-rounded-requires
+rounded-requires c κs =
     let s = c .before .before in
     (omega (arith, big s), omega (arith, s .pre .2 .least), omega (arith, s .pre .2 .most))
 
@@ -42,8 +42,8 @@ returns : tie.Need-returns
 unfolding u
 returns c =
     let s = c .before .before .before in
-    c .nearest .ensures ∙ ap (λ (z : ℕ). nearestN (s .args .e .capacity * s .args .e .thickness * z) (9600 * s .args .ms)) (s .pre .1)
+    c .rounded .ensures ∙ ap (λ (z : ℕ). nearestN (s .args .e .capacity * s .args .e .thickness * z) (9600 * s .args .ms)) (s .pre .1)
 
 pub capacity-spec : {M : Type 1} → statement M
 capacity-spec =
-    tie.close (tie.spec cast-n cast-n-2 mul-n mul-n-2 mul-nearest nearest-requires returns)
+    tie.close (tie.spec cast-n cast-n-2 mul-n mul-n-2 mul-rounded rounded-requires returns)

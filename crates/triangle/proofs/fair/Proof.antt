@@ -7,13 +7,14 @@ use Prim.Native.Nat.{ℕ}
 use native.Mathlib.Omega.{arith}
 use lib.Dec.{leb}
 use Rattle.triangle.specs.Forms.{asBody, madeOf}
-use Rattle.triangle.proofs.Refused.{size-of-call, stiff-u, stiff-10, stiff-20, last-21}
+use Rattle.laws.proofs.Elements.{stiff-u}
+use Rattle.triangle.proofs.Refused.{size-of-call, stiff-10, stiff-20, last-21}
 
 capacity-requires : tie.Need-capacity-requires
 capacity-requires c κs = search needs
 
 returns : tie.Need-returns
-returns c = stiff-u (madeOf (c .before .before .args .ms) (asBody (c .before .before .args .e))) (c .before .before .pre .0 .sized .placed .three) (omega (arith, c .before .capacity .ensures, c .if1 .taken))
+returns c = stiff-u (madeOf (c .before .before .args .ms) (asBody (c .before .before .args .e))) (omega (arith, c .before .capacity .ensures, c .if1 .taken))
 
 pair-requires : tie.Need-pair-requires
 pair-requires c κs = search needs

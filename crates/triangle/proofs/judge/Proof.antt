@@ -5,7 +5,7 @@ use Rattle.triangle.proofs.judge.Tie as tie
 use mathlib.Core.Path.{_∙_, sym}
 use native.Mathlib.Omega.{arith}
 use Rattle.triangle.specs.Forms.{asBody, madeOf}
-use Rattle.triangle.proofs.Refused.{is-flat, is-fair, is-stiff}
+use Rattle.laws.proofs.Elements.{is-flat, is-fair, is-stiff}
 
 twice-area-requires : tie.Need-twice-area-requires
 twice-area-requires c κs = search needs

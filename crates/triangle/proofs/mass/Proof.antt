@@ -12,7 +12,7 @@ use lib.IntN.{pos}
 use mir.Val.{toZ}
 use Rattle.whole.specs.Sums.{table}
 use Rattle.paper.specs.Corners.{mass}
-use Rattle.triangle.specs.Forms.{squareOf}
+use Rattle.whole.specs.Squares.{rowsOf}
 
 mul-d : tie.Need-mul-d
 mul-d c = search needs
@@ -24,7 +24,7 @@ cast-o : tie.Need-cast-o
 cast-o c = search needs
 
 returns : tie.Need-returns
-unfolding squareOf mass table
+unfolding rowsOf mass table
 returns c =
     let w = c .args .w in
     let o : toZ w64 w ≡ pos w = toZ-pos w64 (omega arith) in

@@ -4,7 +4,7 @@ use Rattle.triangle.proofs.minus.Statement.{statement}
 use Rattle.triangle.proofs.minus.Tie as tie
 use mathlib.Core.List.{[], _∷_}
 use native.Mathlib.Omega.{arith}
-use Rattle.triangle.specs.Forms.{squareOf}
+use Rattle.whole.specs.Squares.{rowsOf}
 
 array-copy-out-minus-row : tie.Need-array-copy-out-minus-row
 array-copy-out-minus-row c = search needs
@@ -34,7 +34,7 @@ minus-row-requires-3 : tie.Need-minus-row-requires-3
 minus-row-requires-3 c κs k = omega (arith, c .before .before .before .before .before .before .before .before .pre .0 .each 2 k, c .before .before .before .before .before .before .before .before .pre .1 .each 2 k)
 
 returns : tie.Need-returns
-unfolding squareOf
+unfolding rowsOf
 returns c = λ d. c .before .before .before .before .before .before .minus-row .ensures d ∷ c .before .before .before .minus-row2 .ensures d ∷ c .minus-row3 .ensures d ∷ []
 
 pub minus-spec : {M : Type 1} → statement M

@@ -11,11 +11,11 @@ use mir.Syntax.{w64}
 use mir.Facts.{toZ-pos}
 use Rattle.whole.specs.Nearest.{nearest}
 use Rattle.whole.proofs.Signs.{small, got}
-use Rattle.whole.proofs.Calc.{fits, again, wide, size-of}
+use Rattle.whole.proofs.Calc.{above, fits, again, wide, size-of}
 use Rattle.paper.specs.Triangle as paper
 use Rattle.triangle.specs.Forms.{asBody}
 use Rattle.triangle.proofs.Sizes.{S-small}
-use Rattle.triangle.proofs.Machine.{flux, above}
+use Rattle.triangle.proofs.Machine.{flux}
 
 b-requires : tie.Need-b-requires
 b-requires c κs = search needs

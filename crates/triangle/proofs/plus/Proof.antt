@@ -4,7 +4,7 @@ use Rattle.triangle.proofs.plus.Statement.{statement}
 use Rattle.triangle.proofs.plus.Tie as tie
 use mathlib.Core.List.{[], _∷_}
 use native.Mathlib.Omega.{arith}
-use Rattle.triangle.specs.Forms.{squareOf}
+use Rattle.whole.specs.Squares.{rowsOf}
 
 array-copy-out-plus-row : tie.Need-array-copy-out-plus-row
 array-copy-out-plus-row c = search needs
@@ -34,7 +34,7 @@ plus-row-requires-3 : tie.Need-plus-row-requires-3
 plus-row-requires-3 c κs k = omega (arith, c .before .before .before .before .before .before .before .before .pre .0 .each 2 k, c .before .before .before .before .before .before .before .before .pre .1 .each 2 k)
 
 returns : tie.Need-returns
-unfolding squareOf
+unfolding rowsOf
 returns c = λ d. c .before .before .before .before .before .before .plus-row .ensures d ∷ c .before .before .before .plus-row2 .ensures d ∷ c .plus-row3 .ensures d ∷ []
 
 pub plus-spec : {M : Type 1} → statement M

@@ -1,22 +1,15 @@
 -- The sizes of a and b, divided, with the sign of a.
 use borrow.Author.Needs.{needs}
+use Rattle.whole.proofs.nearest.Statement.{statement}
+use Rattle.whole.proofs.nearest.Tie as tie
 use mathlib.Core.Path.{_≡_, _∙_, ap}
-use Prim.Native.Nat.{ℕ, _+_, _*_, _/_, _<_, _^_}
+use Prim.Native.Nat.{ℕ, _<_, _^_}
 use native.Mathlib.Omega.{arith}
 use lib.IntN.{ℤ, natAbs}
 use mir.Facts.{toZ-ofZ}
 use Rattle.whole.specs.Nearest.{signed, nearestN, nearest}
 use Rattle.whole.proofs.Rounding.{nearestN-le, above-zero, above-zero-size}
-use Rattle.whole.proofs.nearest.Statement.{statement}
-use Rattle.whole.proofs.nearest.Tie as tie
 
-size-requires : tie.Need-size-requires
-size-requires c κs = search needs
-
-size-requires-2 : tie.Need-size-requires-2
-size-requires-2 c κs = search needs
-
--- what the two calls gave, and the bounds
 pub record Sizes (a b : ℤ) (m d : ℕ) : Type 0 where
   pub m-is : m ≡ natAbs a
   pub d-is : d ≡ natAbs b
@@ -33,37 +26,25 @@ sizes c =
       fits = above-zero-size (s .pre .1) (s .fits .b);
     }
 
-mul-q : tie.Need-mul-q
-mul-q c = omega (arith, sizes c)
+q-is : (c : tie.After-rounded) → c .rounded .result ≡ nearestN (natAbs (c .before .before .before .args .a)) (natAbs (c .before .before .before .args .b))
+q-is c = let z = sizes (c .before) in c .rounded .ensures ∙ (λ i. nearestN (z .m-is i) (z .d-is i))
 
-add-q : tie.Need-add-q
-add-q c = omega (arith, sizes c)
+size-requires : tie.Need-size-requires
+size-requires c κs = search needs
 
-mul-q-2 : tie.Need-mul-q-2
-mul-q-2 c = omega (arith, sizes c)
+size-requires-2 : tie.Need-size-requires-2
+size-requires-2 c κs = search needs
 
-div-q : tie.Need-div-q
-div-q c = omega (arith, sizes c)
-
--- the quotient is nearestN of the sizes
-q-is : (c : tie.After-size2) → (2 * c .before .size .result + c .size2 .result) / (2 * c .size2 .result) ≡ nearestN (natAbs (c .before .before .args .a)) (natAbs (c .before .before .args .b))
-unfolding nearestN
-q-is c = let z = sizes c in λ i. (2 * z .m-is i + z .d-is i) / (2 * z .d-is i)
+rounded-requires : tie.Need-rounded-requires
+rounded-requires c κs = (omega (arith, sizes c), omega (arith, sizes c), omega (arith, sizes c))
 
 sign-requires : tie.Need-sign-requires
-sign-requires c κs =
-    let s = c .before .before in
-    omega (arith, q-is c, nearestN-le (natAbs (s .args .a)) (natAbs (s .args .b)) (sizes c .some))
+sign-requires c κs = omega (arith, q-is c, nearestN-le (natAbs (c .before .before .before .args .a)) (natAbs (c .before .before .before .args .b)) (sizes (c .before) .some))
 
 returns : tie.Need-returns
 unfolding nearest
-returns c =
-    let s = c .before .before .before in
-    toZ-ofZ (record { sfits = c .sign .ok })
-    ∙ c .sign .ensures
-    ∙ (λ i. signed (toZ-ofZ (s .fits .a) i) (q-is (c .before) i))
+returns c = toZ-ofZ (record { sfits = c .sign .ok }) ∙ c .sign .ensures ∙ (λ i. signed (toZ-ofZ (c .before .before .before .before .fits .a) i) (q-is (c .before) i))
 
 pub nearest-spec : {M : Type 1} → statement M
 nearest-spec =
-    tie.close
-    (tie.spec size-requires size-requires-2 mul-q add-q mul-q-2 div-q sign-requires returns)
+    tie.close (tie.spec size-requires size-requires-2 rounded-requires sign-requires returns)
