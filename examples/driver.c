@@ -79,7 +79,7 @@ static uint64_t panel_light(struct panel *panel, int on)
 	return panel_set(panel, 'H', 2, on ? 750000 : 1, 0);
 }
 
-/* The film over each element, in mW/(m2 K), and the air about it. */
+/* The film over each triangle, in mW/(m2 K), and the air about it. */
 static uint64_t panel_case(struct panel *panel, int open)
 {
 	return open ? panel_set(panel, 'F', 2, 40000, 278 * GORMULAST_KELVIN)

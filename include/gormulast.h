@@ -37,7 +37,7 @@ extern "C" {
 	row(TRAILER, 2, "the last card is no trailer, or its counts don't fit") \
 	row(FORM, 3, "card %u is malformed, or stands where it may not") \
 	row(RANGE, 4, "card %u has a field out of its range, or a key that does not rise") \
-	row(FLAT, 5, "element %u has no area") \
+	row(FLAT, 5, "element %u has no area or no volume") \
 	row(STIFF, 6, "element %u conducts or stores too much") \
 	row(PIVOT, 7, "row %u of the factor has a pivot under 16") \
 	row(BOUND, 8, "row %u has a number of the factor or of a step past its bound") \
@@ -66,7 +66,8 @@ static inline const char *gormulast_words(unsigned number)
 #define GORMULAST_KELVIN 65536
 #define GORMULAST_TOP    33554432
 
-/* A card is 42 bytes in a deck and six numbers in a table: its letter, five fields. */
+/* A card is 42 bytes in a deck and six numbers in a table: its letter, five fields. A deck is solid where its last element is a V
+ * card: then each N has a z in its third field and each M a kz in its fourth, which elsewhere are blank, 0 in a table. */
 #define GORMULAST_CARD_BYTES   42
 #define GORMULAST_CARD_NUMBERS 6
 
@@ -106,10 +107,11 @@ uint64_t gormulast_build(const uint32_t *table, size_t table_length,
 			 int64_t *work, size_t work_length);
 
 /* One card of the deck anew, and what depends on it. Cards are numbered from 1, D being 1. An E card may change its material
- * and thickness, a G card its film, ambient and thickness, an H, F or T card its values.
+ * and thickness, a V card its material, a G card its film, ambient and thickness, an H, F or T card its values.
  *   0        the table holds the new card. After E and F also: six places of p and a and the factor's rows from the
- *            element's least corner on are those of the new deck; work is zero. After G also: three places of a and the
- *            factor's rows from its lower node on; work is zero. After H and T all matrices stay
+ *            element's least corner on are those of the new deck; work is zero. After V also: ten places of p and a and
+ *            the same rows; work is zero. After G also: three places of a and the factor's rows from its lower node on;
+ *            work is zero. After H and T all matrices stay
  *   7, 8     work is zero; all else stays
  *   else     all stay
  * Each over the matrix length: numbers past it stay. Refuses with any but 11 and 12. */

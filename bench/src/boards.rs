@@ -3,6 +3,7 @@
 use reference::{Answer, Card, MAX_ROWS};
 
 const E: u32 = b'E' as u32;
+const V: u32 = b'V' as u32;
 const G: u32 = b'G' as u32;
 const H: u32 = b'H' as u32;
 
@@ -68,10 +69,15 @@ impl Board {
         self.cards(H).next().expect("a board is heated")
     }
 
-    /// The E card whose least corner is nearest to a node: that corner, the card's number, the card.
+    /// The V card, or the E card where there is no V, whose least corner is nearest to a node: that corner, the card's number, the
+    /// card. Its fifth field can be one more: a material, or a thickness.
     pub fn element_near(&self, node: u32) -> (u32, u32, Card) {
-        self.cards(E)
-            .map(|(number, card)| (card[1].min(card[2]).min(card[3]), number, card))
+        let (letter, corners) = match self.cards(V).next() {
+            Some(_) => (V, 4),
+            None => (E, 3),
+        };
+        self.cards(letter)
+            .map(|(number, card)| (least(&card[1..=corners]), number, card))
             .min_by_key(|(least, ..)| least.abs_diff(node))
             .expect("a deck has an element")
     }
@@ -82,4 +88,8 @@ impl Board {
             .map(|(number, card)| (card[1], number, card))
             .min_by_key(|(low, ..)| low.abs_diff(node))
     }
+}
+
+fn least(nodes: &[u32]) -> u32 {
+    nodes.iter().copied().fold(u32::MAX, u32::min)
 }

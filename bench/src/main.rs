@@ -34,8 +34,9 @@ fn main() {
         // In each quarter of the nodes, and in the middle.
         for eighths in [1, 3, 4, 5, 7] {
             let (least, card, even) = board.element_near(board.nodes as u32 * eighths / 8);
+            let letter = char::from(even[0] as u8);
             show(
-                &format!("replace at {least}"),
+                &format!("replace {letter} at {least}"),
                 board,
                 replaces(board, card, even, 5),
             );
@@ -145,7 +146,7 @@ fn builds(board: &Board) -> Times {
     )
 }
 
-/// A field one more and back: an element's thickness, an edge's film, a heat.
+/// A field one more and back: a triangle's thickness, a tetrahedron's material, an edge's film, a heat.
 fn replaces(board: &Board, card: u32, even: Card, field: usize) -> Times {
     let mut odd = even;
     odd[field] += 1;

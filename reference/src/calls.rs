@@ -2,10 +2,10 @@
 
 use crate::answer::*;
 use crate::card::*;
-use crate::element::{change, Form};
+use crate::element::{change, triangle, Element, Form};
 use crate::judge::{in_range, well_formed, Counts, Deck, Turn};
 use crate::step::{on_scale, Stepper};
-use crate::{edge, factor as factoring, matrix, text};
+use crate::{edge, factor as factoring, matrix, solid, text};
 
 /// Reads the deck at the end of the bytes into the table. Answers also the bounds
 /// of the part from D to Z, both whole; 0 and 0 on a refusal.
@@ -21,26 +21,28 @@ fn try_read(bytes: &[u8], table: &mut [u32]) -> Result<usize, Refusal> {
         return Err(Refusal::whole(LENGTH));
     }
     let at_trailer = bytes.len() - CARD_BYTES;
-    let trailer = text::scan(&bytes[at_trailer..]).ok_or(Refusal::whole(TRAILER))?;
+    let (trailer, _) = text::scan(&bytes[at_trailer..], false).ok_or(Refusal::whole(TRAILER))?;
     let counts = Counts::of(&trailer).ok_or(Refusal::whole(TRAILER))?;
     let start = at_trailer
         .checked_sub(counts.bytes_back())
         .ok_or(Refusal::whole(TRAILER))?;
+    let solid = u32::from(bytes[start + CARD_BYTES * counts.last_element()]) == V;
 
     // Nothing may be written before the last card is judged: the cards are scanned twice.
     let cards = || {
         bytes[start..at_trailer]
             .chunks_exact(CARD_BYTES)
-            .map(text::scan)
+            .map(|card| text::scan(card, solid))
     };
-    let mut turn = Turn::first(counts);
+    let mut turn = Turn::first(counts, solid);
     for (index, card) in cards().enumerate() {
-        turn.judge(&card.ok_or(Refusal::at_index(FORM, index))?)?;
+        let (card, filled) = card.ok_or(Refusal::at_index(FORM, index))?;
+        turn.judge(&card, filled)?;
     }
     if table.len() < 6 * counts.rows() {
         return Err(Refusal::whole(SHORT));
     }
-    let all = cards().flatten().chain([trailer]);
+    let all = cards().flatten().map(|(card, _)| card).chain([trailer]);
     for (row, card) in table.chunks_exact_mut(6).zip(all) {
         row.copy_from_slice(&card);
     }
@@ -58,7 +60,7 @@ fn try_write(table: &[u32], bytes: &mut [u8]) -> Result<(), Refusal> {
         return Err(Refusal::whole(SHORT));
     }
     for (part, card) in bytes.chunks_exact_mut(CARD_BYTES).zip(deck.cards()) {
-        text::print(&card, part);
+        text::print(&card, deck.solid, part);
     }
     Ok(())
 }
@@ -91,38 +93,37 @@ fn try_build(
         cut(work, length)?,
     ];
 
-    let mut forms = [Form::EMPTY; MAX_ELEMENTS];
-    let forms = &mut forms[..deck.counts.elements];
-    for (element, form) in forms.iter_mut().enumerate() {
-        *form = Form::of(&deck, element, &deck.element(element))?;
-        form.judge(element)?;
+    let mut elements = [Element::EMPTY; MAX_ELEMENTS];
+    let elements = &mut elements[..deck.counts.elements];
+    for (number, element) in elements.iter_mut().enumerate() {
+        *element = Element::of(&deck, number)?;
+        element.judge(number)?;
     }
     for card in deck.loads().filter(|card| card[0] == F) {
-        let form = &mut forms[card[1] as usize - 1];
-        *form = form.with_film(card[2]);
+        elements[card[1] as usize - 1].cover(card[2]);
     }
 
     work.fill(0);
-    add_all(work, &deck, forms);
+    add_all(work, &deck, elements);
     matrix::fix(work, 0, n, &deck.fixed());
     let result = factoring::rows(&[], work, 0, n);
     if result.is_ok() {
         factor.copy_from_slice(work);
         p.fill(0);
         a.fill(0);
-        for form in forms.iter() {
-            matrix::add(p, form.corners, form.capacity());
+        for element in elements.iter() {
+            element.add_capacity(p);
         }
-        add_all(a, &deck, forms);
+        add_all(a, &deck, elements);
     }
     work.fill(0);
     result
 }
 
-/// A of the elements' forms and of the deck's edges, into zeros.
-fn add_all(matrix: &mut [i64], deck: &Deck, forms: &[Form]) {
-    for form in forms {
-        matrix::add(matrix, form.corners, form.total());
+/// A of the elements and of the deck's edges, into zeros.
+fn add_all(matrix: &mut [i64], deck: &Deck, elements: &[Element]) {
+    for element in elements {
+        element.add_total(matrix);
     }
     for card in deck.loads().filter(|card| card[0] == G) {
         matrix::add(
@@ -168,25 +169,24 @@ fn try_replace(
     judge_lent(n, p, a, factor)?;
 
     let old = deck.card(index);
+    let lent = [p, a, factor, work];
     match new[0] {
         E | F => {
             let (old_form, new_form) = forms_of_change(&deck, index, &old, &new)?;
-            let change_p = change(new_form.capacity(), old_form.capacity());
-            let change_a = change(new_form.total(), old_form.total());
-            redo(
-                &deck,
-                [p, a, factor, work],
-                new_form.corners,
-                change_p,
-                change_a,
-            )?;
+            exchange(&deck, lent, &old_form, &new_form)?;
+        }
+        V => {
+            let element = index - deck.counts.first_element();
+            let new_form = solid::form(&deck, element, &new)?;
+            new_form.judge(element)?;
+            exchange(&deck, lent, &solid::form(&deck, element, &old)?, &new_form)?;
         }
         G => {
             // Of A alone, and no element is judged.
             let more = edge::share(&deck, &new) - edge::share(&deck, &old);
             redo(
                 &deck,
-                [p, a, factor, work],
+                lent,
                 edge::ends(&new),
                 [[0; 2]; 2],
                 edge::square(more),
@@ -196,6 +196,18 @@ fn try_replace(
     }
     table[6 * index..6 * index + 6].copy_from_slice(&new);
     Ok(())
+}
+
+/// P, A and the factor with an element's new form in the place of its old one.
+fn exchange<const K: usize>(
+    deck: &Deck,
+    lent: [&mut [i64]; 4],
+    old: &Form<K>,
+    new: &Form<K>,
+) -> Result<(), Refusal> {
+    let change_p = change(new.capacity(), old.capacity());
+    let change_a = change(new.total(), old.total());
+    redo(deck, lent, new.corners, change_p, change_a)
 }
 
 /// P and A with a change at some nodes, and the factor redone from the least of them; or 7 or 8, and the work slice alone written.
@@ -234,8 +246,9 @@ fn judge_new(deck: &Deck, card: u32, new: &Card) -> Result<usize, Refusal> {
         .filter(|&index| index < deck.counts.rows())
         .ok_or(Refusal::at(REPLACEMENT, card))?;
     let old = deck.card(index);
-    // The letter and what must stay with it: E's corners, G's ends, or the element or node named.
+    // The letter and what must stay with it: E's or V's corners, G's ends, or the element or node named.
     let kept = match new[0] {
+        V => 5,
         E => 4,
         G => 3,
         H | F | T => 2,
@@ -244,8 +257,8 @@ fn judge_new(deck: &Deck, card: u32, new: &Card) -> Result<usize, Refusal> {
     if old[..kept] != new[..kept] {
         return Err(Refusal::at(REPLACEMENT, card));
     }
-    // It still rises, since its key stays.
-    if !in_range(&deck.counts, new) {
+    // It still rises and lies well, since its key stays.
+    if !in_range(&deck.counts, deck.solid, new) {
         return Err(Refusal::at(RANGE, card));
     }
     Ok(index)
@@ -258,15 +271,15 @@ fn forms_of_change(
     index: usize,
     old: &Card,
     new: &Card,
-) -> Result<(Form, Form), Refusal> {
+) -> Result<(Form<3>, Form<3>), Refusal> {
     let (element, old_form, new_form);
     if new[0] == E {
         element = index - deck.counts.first_element();
-        new_form = Form::of(deck, element, new)?;
-        old_form = Form::of(deck, element, old)?;
+        new_form = triangle(deck, element, new)?;
+        old_form = triangle(deck, element, old)?;
     } else {
         element = new[1] as usize - 1;
-        let form = Form::of(deck, element, &deck.element(element))?;
+        let form = triangle(deck, element, &deck.element(element))?;
         new_form = form.with_film(new[2]);
         old_form = form.with_film(old[2]);
     }

@@ -7,6 +7,7 @@ pub const D: u32 = b'D' as u32;
 pub const N: u32 = b'N' as u32;
 pub const M: u32 = b'M' as u32;
 pub const E: u32 = b'E' as u32;
+pub const V: u32 = b'V' as u32;
 pub const H: u32 = b'H' as u32;
 pub const F: u32 = b'F' as u32;
 pub const G: u32 = b'G' as u32;
@@ -28,12 +29,15 @@ pub const MAX_BYTES: usize = 65_536;
 /// The top of the temperature scale, in ticks of 1/65,536 K.
 pub const TOP: u32 = 33_554_432;
 
-/// How many fields a letter's card uses; None of a letter that is none of the nine.
-pub fn fields_used(letter: u32) -> Option<usize> {
+/// How many fields a letter's card uses; None of a letter that is none of the ten. In a solid deck, one whose last
+/// element is a V, an N has its z and an M its kz.
+pub fn fields_used(letter: u32, solid: bool) -> Option<usize> {
     match letter {
-        N | H | T => Some(2),
-        D | M | F => Some(3),
-        E | G | Z => Some(5),
+        H | T => Some(2),
+        D | F => Some(3),
+        E | V | G | Z => Some(5),
+        N => Some(2 + usize::from(solid)),
+        M => Some(3 + usize::from(solid)),
         _ => None,
     }
 }

@@ -14,8 +14,10 @@ pub fn ends(card: &Card) -> [usize; 2] {
 /// g of a G card; 0 where its nodes are at one point.
 pub fn share(deck: &Deck, card: &Card) -> i64 {
     let [from, to] = ends(card).map(|node| deck.point(node));
-    let (across, up) = (from[0].abs_diff(to[0]), from[1].abs_diff(to[1]));
-    nearest_by_squares(card[3], card[5], across * across + up * up)
+    let square = (0..3)
+        .map(|axis| from[axis].abs_diff(to[axis]).pow(2))
+        .sum();
+    nearest_by_squares(card[3], card[5], square)
 }
 
 /// The whole number nearest film·t·L/120,000,000, halves up, of L's square: g is such a number, or less, just

@@ -1,12 +1,14 @@
-//! One triangle: its twice area, its form in P and A, its shares of heat.
+//! The elements: a form over any number of corners, and the triangle. The tetrahedron is in `solid`.
 
 use crate::answer::*;
-use crate::card::Card;
+use crate::card::{Card, V};
 use crate::judge::Deck;
+use crate::matrix;
 use crate::round::nearest;
+use crate::solid;
 
-/// An element matrix.
-pub type Square = [[i64; 3]; 3];
+/// An element matrix over K corners.
+pub type Square<const K: usize> = [[i64; K]; K];
 
 /// The greatest u, and the greatest magnitude of a pair's conductance.
 const STIFFEST: i64 = 4_000_000;
@@ -17,7 +19,7 @@ pub fn corners(card: &Card) -> [usize; 3] {
 }
 
 /// The paper's b and c of each corner, from the corners' points.
-fn sides([[x1, y1], [x2, y2], [x3, y3]]: [[i64; 2]; 3]) -> ([i64; 3], [i64; 3]) {
+fn sides([[x1, y1, _], [x2, y2, _], [x3, y3, _]]: [[i64; 3]; 3]) -> ([i64; 3], [i64; 3]) {
     ([y2 - y3, y3 - y1, y1 - y2], [x3 - x2, x1 - x3, x2 - x1])
 }
 
@@ -47,92 +49,111 @@ pub fn heat_loads<const K: usize>(microwatts: u32) -> [i64; K] {
 
 /// An element's numbers in the matrices.
 #[derive(Clone, Copy)]
-pub struct Form {
-    pub corners: [usize; 3],
+pub struct Form<const K: usize> {
+    pub corners: [usize; K],
+    /// Twice the area, or six times the volume.
     s: i64,
-    /// Conductance of the pairs 23, 31, 12: each named by the corner opposite.
-    pairs: [i64; 3],
+    /// Conductance, its rows of sum zero.
+    conductance: Square<K>,
     u: i64,
     v: i64,
 }
 
-impl Form {
-    pub const EMPTY: Form = Form {
-        corners: [0; 3],
-        s: 0,
-        pairs: [0; 3],
-        u: 0,
-        v: 0,
-    };
-
-    /// The form without film, or 5. `element` is counted from 0 and only names the place.
-    pub fn of(deck: &Deck, element: usize, card: &Card) -> Result<Form, Refusal> {
-        let corners = corners(card);
-        let (b, c) = sides(corners.map(|node| deck.point(node)));
-        let s = twice_area(b, c);
-        if s == 0 {
-            return Err(Refusal::at_index(FLAT, element));
-        }
-        let [kx, ky, capacity] = deck.material(card[4] as usize - 1);
-        let t = i64::from(card[5]);
-        let pair =
-            |i: usize, j: usize| nearest(t * (kx * b[i] * b[j] + ky * c[i] * c[j]), 2_000 * s);
-        Ok(Form {
-            corners,
-            s,
-            pairs: [pair(1, 2), pair(2, 0), pair(0, 1)],
-            u: nearest(capacity * t * s, 9_600 * deck.milliseconds()),
-            v: 0,
-        })
+/// The form of an E card without film, or 5. `element` is counted from 0 and only names the place.
+pub fn triangle(deck: &Deck, element: usize, card: &Card) -> Result<Form<3>, Refusal> {
+    let corners = corners(card);
+    let (b, c) = sides(corners.map(|node| deck.point(node)));
+    let s = twice_area(b, c);
+    if s == 0 {
+        return Err(Refusal::at_index(FLAT, element));
     }
+    let [kx, ky, capacity, _] = deck.material(card[4] as usize - 1);
+    let t = i64::from(card[5]);
+    let pair = |i: usize, j: usize| nearest(t * (kx * b[i] * b[j] + ky * c[i] * c[j]), 2_000 * s);
+    let u = nearest(capacity * t * s, 9_600 * deck.milliseconds());
+    Ok(Form::new(corners, s, pair, u))
+}
 
-    /// Refusal 6.
-    pub fn judge(&self, element: usize) -> Result<(), Refusal> {
-        if self.u > STIFFEST || self.pairs.iter().any(|pair| pair.abs() > STIFFEST) {
-            return Err(Refusal::at_index(STIFF, element));
-        }
-        Ok(())
-    }
-
-    pub fn with_film(self, film: u32) -> Form {
+impl Form<3> {
+    pub fn with_film(self, film: u32) -> Form<3> {
         Form {
             v: film_share(film, self.s),
             ..self
         }
     }
+}
+
+impl<const K: usize> Form<K> {
+    const EMPTY: Form<K> = Form {
+        corners: [0; K],
+        s: 0,
+        conductance: [[0; K]; K],
+        u: 0,
+        v: 0,
+    };
+
+    /// Of the rounded conductance of each pair. A diagonal conductance is not rounded
+    /// by itself, so that each row of conductances sums to zero.
+    pub fn new(corners: [usize; K], s: i64, pair: impl Fn(usize, usize) -> i64, u: i64) -> Form<K> {
+        let mut conductance = [[0; K]; K];
+        for i in 0..K {
+            for j in 0..i {
+                let between = pair(i, j);
+                conductance[i][j] = between;
+                conductance[j][i] = between;
+                conductance[i][i] -= between;
+                conductance[j][j] -= between;
+            }
+        }
+        Form {
+            corners,
+            s,
+            conductance,
+            u,
+            v: 0,
+        }
+    }
+
+    /// Refusal 6.
+    pub fn judge(&self, element: usize) -> Result<(), Refusal> {
+        let rows = self.conductance.iter().enumerate();
+        let stiff = rows
+            .flat_map(|(i, row)| &row[..i])
+            .any(|pair| pair.abs() > STIFFEST);
+        if self.u > STIFFEST || stiff {
+            return Err(Refusal::at_index(STIFF, element));
+        }
+        Ok(())
+    }
 
     /// The share of P.
-    pub fn capacity(&self) -> Square {
+    pub fn capacity(&self) -> Square<K> {
         even(self.u)
     }
 
-    /// The share of A: capacity, film and conductance. A diagonal conductance is
-    /// not rounded by itself, so that each row of conductances sums to zero.
-    pub fn total(&self) -> Square {
-        let [p23, p31, p12] = self.pairs;
-        let conductance = [
-            [-p12 - p31, p12, p31],
-            [p12, -p12 - p23, p23],
-            [p31, p23, -p31 - p23],
-        ];
-        combine(conductance, even(self.u + self.v), |a, b| a + b)
+    /// The share of A: capacity, film and conductance.
+    pub fn total(&self) -> Square<K> {
+        combine(self.conductance, even(self.u + self.v), |a, b| a + b)
     }
 }
 
 /// Twice the share on the diagonal, once off it.
-fn even(share: i64) -> Square {
-    let twice = 2 * share;
-    [
-        [twice, share, share],
-        [share, twice, share],
-        [share, share, twice],
-    ]
+fn even<const K: usize>(share: i64) -> Square<K> {
+    let mut square = [[share; K]; K];
+    for i in 0..K {
+        square[i][i] = 2 * share;
+    }
+    square
 }
 
-fn combine(a: Square, b: Square, with: impl Fn(i64, i64) -> i64) -> Square {
+fn combine<const K: usize>(
+    a: Square<K>,
+    b: Square<K>,
+    with: impl Fn(i64, i64) -> i64,
+) -> Square<K> {
     let mut square = a;
-    for i in 0..3 {
-        for j in 0..3 {
+    for i in 0..K {
+        for j in 0..K {
             square[i][j] = with(a[i][j], b[i][j]);
         }
     }
@@ -140,8 +161,57 @@ fn combine(a: Square, b: Square, with: impl Fn(i64, i64) -> i64) -> Square {
 }
 
 /// New minus old.
-pub fn change(new: Square, old: Square) -> Square {
+pub fn change<const K: usize>(new: Square<K>, old: Square<K>) -> Square<K> {
     combine(new, old, |a, b| a - b)
+}
+
+/// An element by its kind.
+#[derive(Clone, Copy)]
+pub enum Element {
+    Triangle(Form<3>),
+    Tetrahedron(Form<4>),
+}
+
+impl Element {
+    pub const EMPTY: Element = Element::Triangle(Form::EMPTY);
+
+    /// Of an element, counted from 0, without film; or 5.
+    pub fn of(deck: &Deck, number: usize) -> Result<Element, Refusal> {
+        let card = deck.element(number);
+        Ok(match card[0] {
+            V => Element::Tetrahedron(solid::form(deck, number, &card)?),
+            _ => Element::Triangle(triangle(deck, number, &card)?),
+        })
+    }
+
+    /// Refusal 6.
+    pub fn judge(&self, number: usize) -> Result<(), Refusal> {
+        match self {
+            Element::Triangle(form) => form.judge(number),
+            Element::Tetrahedron(form) => form.judge(number),
+        }
+    }
+
+    /// A film over its face; a tetrahedron has none.
+    pub fn cover(&mut self, film: u32) {
+        if let Element::Triangle(form) = self {
+            *form = form.with_film(film);
+        }
+    }
+
+    pub fn add_capacity(&self, matrix: &mut [i64]) {
+        match self {
+            Element::Triangle(form) => matrix::add(matrix, form.corners, form.capacity()),
+            Element::Tetrahedron(form) => matrix::add(matrix, form.corners, form.capacity()),
+        }
+    }
+
+    pub fn add_total(&self, matrix: &mut [i64]) {
+        match self {
+            Element::Triangle(form) => matrix::add(matrix, form.corners, form.total()),
+            Element::Tetrahedron(form) => matrix::add(matrix, form.corners, form.total()),
+        }
+    }
 }
 
 #[cfg(test)]
@@ -154,9 +224,9 @@ mod tests {
             let (b, c) = sides(points);
             twice_area(b, c)
         };
-        assert_eq!(s([[0, 0], [100, 0], [0, 100]]), 10_000);
-        assert_eq!(s([[0, 0], [0, 100], [100, 0]]), 10_000);
-        assert_eq!(s([[0, 0], [50, 50], [100, 100]]), 0);
+        assert_eq!(s([[0, 0, 0], [100, 0, 0], [0, 100, 0]]), 10_000);
+        assert_eq!(s([[0, 0, 7], [0, 100, 7], [100, 0, 7]]), 10_000);
+        assert_eq!(s([[0, 0, 0], [50, 50, 0], [100, 100, 0]]), 0);
     }
 
     #[test]
@@ -178,6 +248,7 @@ mod tests {
         for microwatts in (1..=5_000_000).step_by(4_999) {
             let heat = 65_536 * i64::from(microwatts);
             assert_eq!(heat_loads::<3>(microwatts).iter().sum::<i64>(), heat);
+            assert_eq!(heat_loads::<4>(microwatts), [heat / 4; 4]);
         }
     }
 }

@@ -39,6 +39,10 @@ impl Counts {
         self.first_material() + self.materials
     }
 
+    pub fn last_element(&self) -> usize {
+        self.first_load() - 1
+    }
+
     pub fn first_load(&self) -> usize {
         self.first_element() + self.elements
     }
@@ -61,12 +65,17 @@ fn within(value: u32, least: u32, most: u32) -> bool {
     least <= value && value <= most
 }
 
-/// A letter that is one of the nine, and nothing in its unused fields.
+/// A letter that is one of the ten, and nothing in the fields that it uses in no deck.
 pub fn well_formed(card: &Card) -> bool {
-    match fields_used(card[0]) {
+    match fields_used(card[0], true) {
         Some(used) => card[1 + used..].iter().all(|&field| field == 0),
         None => false,
     }
+}
+
+/// Does a card of a table have a z or kz, as only in a solid deck it may? A 0 is none.
+fn filled(card: &Card) -> bool {
+    fields_used(card[0], false).is_some_and(|used| card[1 + used..].iter().any(|&field| field != 0))
 }
 
 /// May this letter stand at this index, after that letter and so many G cards?
@@ -78,10 +87,10 @@ fn allowed(counts: &Counts, index: usize, before: u32, edges: usize, letter: u32
     } else if index < counts.first_element() {
         letter == M
     } else if index < counts.first_load() {
-        letter == E
+        letter == V || (letter == E && before != V)
     } else {
         match letter {
-            H => before == E || before == H,
+            H => before == E || before == V || before == H,
             F => before != G && before != T,
             G => before != T && edges < MAX_EDGES,
             T => true,
@@ -91,20 +100,27 @@ fn allowed(counts: &Counts, index: usize, before: u32, edges: usize, letter: u32
 }
 
 /// Every field in its range; the letter is one that may stand before Z.
-pub fn in_range(counts: &Counts, card: &Card) -> bool {
+pub fn in_range(counts: &Counts, solid: bool, card: &Card) -> bool {
     let nodes = counts.nodes as u32;
     let materials = counts.materials as u32;
     let elements = counts.elements as u32;
     let [letter, a, b, c, d, e] = *card;
     match letter {
         D => within(a, 1, 60_000) && b <= TOP && within(c, 1, 100_000),
+        N if solid => a <= 1_023 && b <= 1_023 && c <= 1_023,
         N => a <= 4_095 && b <= 4_095,
-        M => within(a, 1, 500_000) && within(b, 1, 500_000) && within(c, 1, 5_000),
+        M => {
+            within(a, 1, 500_000)
+                && within(b, 1, 500_000)
+                && within(c, 1, 5_000)
+                && (!solid || within(d, 1, 500_000))
+        }
         E => {
             [a, b, c].iter().all(|&node| within(node, 1, nodes))
                 && within(d, 1, materials)
                 && within(e, 1, 4_000)
         }
+        V => [a, b, c, d].iter().all(|&node| within(node, 1, nodes)) && within(e, 1, materials),
         H => within(a, 1, elements) && within(b, 1, 5_000_000),
         F => within(a, 1, elements) && within(b, 1, 100_000) && c <= TOP,
         G => {
@@ -132,36 +148,64 @@ fn rising(before: &Card, card: &Card) -> bool {
 /// The cards before Z, one after another.
 pub struct Turn {
     counts: Counts,
+    solid: bool,
     index: usize,
     /// The card before it; of D, none.
     before: Card,
+    /// The E cards so far.
+    triangles: usize,
     /// The G cards so far.
     edges: usize,
+    /// z of the nodes so far: 0 in a flat deck.
+    levels: [u32; MAX_NODES],
 }
 
 impl Turn {
-    pub fn first(counts: Counts) -> Turn {
+    pub fn first(counts: Counts, solid: bool) -> Turn {
         Turn {
             counts,
+            solid,
             index: 0,
             before: [0; 6],
+            triangles: 0,
             edges: 0,
+            levels: [0; MAX_NODES],
         }
     }
 
-    /// The next card: 3, then 4.
-    pub fn judge(&mut self, card: &Card) -> Result<(), Refusal> {
+    /// The next card: 3, then 4. `filled` says that it has a z or kz where the deck is flat.
+    pub fn judge(&mut self, card: &Card, filled: bool) -> Result<(), Refusal> {
         let (counts, index, before) = (&self.counts, self.index, &self.before);
         if !well_formed(card) || !allowed(counts, index, before[0], self.edges, card[0]) {
             return Err(Refusal::at_index(FORM, index));
         }
-        if !in_range(counts, card) || !rising(before, card) {
+        let flat_and_filled = filled && !self.solid;
+        if flat_and_filled
+            || !in_range(counts, self.solid, card)
+            || !self.lies_well(card)
+            || !rising(before, card)
+        {
             return Err(Refusal::at_index(RANGE, index));
+        }
+        match card[0] {
+            N => self.levels[index - 1] = card[3],
+            E => self.triangles += 1,
+            G => self.edges += 1,
+            _ => {}
         }
         self.index += 1;
         self.before = *card;
-        self.edges += usize::from(card[0] == G);
         Ok(())
+    }
+
+    /// The nodes of an E, which are in range, lie at one z; the element of an F is an E.
+    fn lies_well(&self, card: &Card) -> bool {
+        let level = |field: usize| self.levels[card[field] as usize - 1];
+        match card[0] {
+            E => level(1) == level(2) && level(1) == level(3),
+            F => card[1] as usize <= self.triangles,
+            _ => true,
+        }
     }
 }
 
@@ -170,6 +214,8 @@ impl Turn {
 pub struct Deck<'a> {
     table: &'a [u32],
     pub counts: Counts,
+    /// Its last element is a V.
+    pub solid: bool,
 }
 
 impl<'a> Deck<'a> {
@@ -181,11 +227,17 @@ impl<'a> Deck<'a> {
         let counts = Counts::of(&card_of(table, last))
             .filter(|counts| counts.trailer() == last)
             .ok_or(Refusal::whole(TRAILER))?;
-        let mut turn = Turn::first(counts);
+        let solid = table[6 * counts.last_element()] == V;
+        let mut turn = Turn::first(counts, solid);
         for index in 0..last {
-            turn.judge(&card_of(table, index))?;
+            let card = card_of(table, index);
+            turn.judge(&card, filled(&card))?;
         }
-        Ok(Deck { table, counts })
+        Ok(Deck {
+            table,
+            counts,
+            solid,
+        })
     }
 
     /// The card at an index, D being 0.
@@ -208,19 +260,19 @@ impl<'a> Deck<'a> {
         self.card(0)[3]
     }
 
-    /// x and y of a node, counted from 0.
-    pub fn point(&self, node: usize) -> [i64; 2] {
+    /// x, y and z of a node, counted from 0; z is 0 in a flat deck.
+    pub fn point(&self, node: usize) -> [i64; 3] {
         let card = self.card(1 + node);
-        [i64::from(card[1]), i64::from(card[2])]
+        [card[1], card[2], card[3]].map(i64::from)
     }
 
-    /// kx, ky and the heat capacity of a material, counted from 0.
-    pub fn material(&self, material: usize) -> [i64; 3] {
+    /// kx, ky, the heat capacity and kz of a material, counted from 0; kz is 0 in a flat deck.
+    pub fn material(&self, material: usize) -> [i64; 4] {
         let card = self.card(self.counts.first_material() + material);
-        [i64::from(card[1]), i64::from(card[2]), i64::from(card[3])]
+        [card[1], card[2], card[3], card[4]].map(i64::from)
     }
 
-    /// The E card of an element, counted from 0.
+    /// The E or V card of an element, counted from 0.
     pub fn element(&self, element: usize) -> Card {
         self.card(self.counts.first_element() + element)
     }

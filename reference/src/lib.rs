@@ -17,6 +17,7 @@ mod factor;
 mod judge;
 mod matrix;
 mod round;
+mod solid;
 mod step;
 mod text;
 

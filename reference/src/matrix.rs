@@ -20,7 +20,7 @@ fn rows(matrix: &[i64], n: usize) -> impl Iterator<Item = &[i64]> {
     (0..n).map(move |i| &matrix[start(i)..=start(i) + i])
 }
 
-/// Adds the matrix of an element or an edge at nodes that differ: six places of a triangle, three of an edge.
+/// Adds the matrix of an element or an edge at nodes that differ: six places of a triangle, ten of a tetrahedron, three of an edge.
 pub fn add<const K: usize>(matrix: &mut [i64], nodes: [usize; K], square: [[i64; K]; K]) {
     for i in 0..K {
         for j in 0..=i {

@@ -1,13 +1,14 @@
 //! One implicit step.
 
 use crate::answer::*;
-use crate::card::{F, G, H, MAX_NODES, TOP};
+use crate::card::{F, G, H, MAX_NODES, TOP, V};
 use crate::edge;
 use crate::element::{corners, film_load, heat_loads};
 use crate::factor::bound;
 use crate::judge::Deck;
 use crate::matrix::{multiply, multiply_sizes, start};
 use crate::round::{nearest, r, r_wide, ONE};
+use crate::solid;
 
 const MAX_Y: i64 = 1 << 52;
 const MAX_X: i64 = 1 << 36;
@@ -38,13 +39,17 @@ impl<'a> Stepper<'a> {
 
         let mut constant = [0; MAX_NODES];
         for card in deck.loads() {
-            let named = || corners(&deck.element(card[1] as usize - 1));
+            let element = || deck.element(card[1] as usize - 1);
+            let named = || corners(&element());
             let mut load = |nodes: &[usize], shares: &[i64]| {
                 for (&node, share) in nodes.iter().zip(shares) {
                     constant[node] += share;
                 }
             };
             match card[0] {
+                H if element()[0] == V => {
+                    load(&solid::corners(&element()), &heat_loads::<4>(card[2]))
+                }
                 H => load(&named(), &heat_loads::<3>(card[2])),
                 F => load(&named(), &[film_load(deck, named(), card[2], card[3]); 3]),
                 G => load(&edge::ends(&card), &[edge::load(deck, &card); 2]),

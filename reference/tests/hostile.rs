@@ -61,7 +61,10 @@ fn spoiled_buffers() {
         let table = if chance.one_in(2) {
             Groups::wild(&mut chance).table()
         } else {
-            Groups::sheet(&mut chance, 2, 3).table()
+            match chance.one_in(3) {
+                true => Groups::block(&mut chance, 2, 2, 2).table(),
+                false => Groups::sheet(&mut chance, 2, 3).table(),
+            }
         };
         let mut before = Lent::new(table);
         before.build();
@@ -89,7 +92,12 @@ fn spoiled_buffers() {
         }
         let mut lent = before.clone();
         if let Answer::Refused(refusal) = lent.replace(number, new) {
-            unwritten(&before, &lent, refusal.number, [E, F, G].contains(&new[0]));
+            unwritten(
+                &before,
+                &lent,
+                refusal.number,
+                [E, V, F, G].contains(&new[0]),
+            );
             met[refusal.number as usize] += 1;
         }
         let mut lent = before.clone();

@@ -6,11 +6,16 @@ use common::*;
 use reference::{read, write, Answer};
 
 fn any_deck(chance: &mut Chance) -> Vec<u32> {
-    if chance.one_in(3) {
-        let (columns, rows) = (chance.within(2, 12), chance.within(2, 8));
-        Groups::sheet(chance, columns, rows).table()
-    } else {
-        Groups::wild(chance).table()
+    match chance.within(0, 5) {
+        0 | 1 => {
+            let (columns, rows) = (chance.within(2, 12), chance.within(2, 8));
+            Groups::sheet(chance, columns, rows).table()
+        }
+        2 => {
+            let [columns, rows, floors] = [0; 3].map(|_| chance.within(2, 4));
+            Groups::block(chance, columns, rows, floors).table()
+        }
+        _ => Groups::wild(chance).table(),
     }
 }
 
@@ -45,14 +50,16 @@ fn a_written_table_is_read_again() {
 #[test]
 fn read_bytes_are_written_again() {
     let mut chance = Chance::seeded(2);
-    let (mut accepted, mut refusals) = (0, [0; 14]);
-    for _ in 0..20 {
-        let bytes = bytes_of(&Groups::wild(&mut chance).table());
+    // Of flat decks and of solid ones.
+    let (mut accepted, mut refusals) = ([0; 2], [[0; 14]; 2]);
+    for turn in 0..40 {
+        let solid = turn % 2;
+        let bytes = bytes_of(&Groups::wild_of(&mut chance, solid == 1).table());
         for _ in 0..500 {
             let mut bytes = bytes.clone();
             for _ in 0..chance.within(1, 2) {
                 let at = chance.index(bytes.len());
-                bytes[at] = chance.pick(b"0123456789 \nDNMEHFGTZ\0\xff");
+                bytes[at] = chance.pick(b"0123456789 \nDNMEVHFGTZ\0\xff");
             }
             let mut table = vec![9; 5_052];
             let (answer, start, end) = read(&bytes, &mut table);
@@ -60,15 +67,18 @@ fn read_bytes_are_written_again() {
                 Answer::Done => {
                     let length = (end - start) / 7;
                     assert_eq!(bytes_of(&table[..length]), bytes[start..end]);
-                    accepted += 1;
+                    accepted[solid] += 1;
                 }
                 Answer::Refused(refusal) => {
                     assert_eq!((start, end), (0, 0));
                     assert_eq!(table, vec![9; 5_052]);
-                    refusals[refusal.number as usize] += 1;
+                    refusals[solid][refusal.number as usize] += 1;
                 }
             }
         }
     }
-    assert!(accepted > 300 && refusals[2] > 100 && refusals[3] > 1_000 && refusals[4] > 100);
+    assert!(accepted.iter().all(|&times| times > 300));
+    assert!(refusals
+        .iter()
+        .all(|met| met[2] > 100 && met[3] > 1_000 && met[4] > 100));
 }

@@ -1,7 +1,7 @@
 /* stack DECK: how much stack each call takes, by painting it.
  *
  * Each call runs on a stack of its own that was painted before; what is no longer painted after it was used. An empty call
- * says how much of that is not the call's. The deck has E, H, F, G and T cards and builds.
+ * says how much of that is not the call's. The deck builds; a letter that it has no card of is passed over.
  */
 #include <gormulast.h>
 #include <stdio.h>
@@ -90,13 +90,15 @@ static void measure(const char *name, void (*call)(void), size_t most)
 /* Replaces the last card of each letter. */
 static void measure_replaces(void)
 {
-	static const char letters[] = "EHFGT";
+	static const char letters[] = "EVHFGT";
 	char name[] = "replace ?";
 	const char *letter;
 
 	for (letter = letters; *letter; letter++) {
-		for (card = (uint32_t)rows; card-- > 0 && table[6 * card] != (uint32_t)*letter;)
+		for (card = (uint32_t)rows; card > 0 && table[6 * card - 6] != (uint32_t)*letter; card--)
 			;
+		if (card-- == 0)
+			continue;
 		name[8] = *letter;
 		measure(name, call_replace, 2048);
 	}

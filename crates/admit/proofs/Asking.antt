@@ -15,9 +15,9 @@ use Rattle.whole.proofs.Packed.{tri-below, tri-le, length-lower}
 use Rattle.whole.proofs.Tests.{nor-told}
 use Rattle.paper.specs.Refusals.{Outcome, refused, done, then, andThen, after, answerOf}
 use Rattle.paper.specs.Kinds.{about, aboutOf, edge, kindOf, kindAt}
-use Rattle.paper.specs.Cards.{columnsOf, inRange, orderOf, rowAt, rows, nodes, elements, countsAt, put}
+use Rattle.paper.specs.Cards.{columnsOf, inRange, orderOf, rowAt, rows, nodes, elements, elementRow, countsAt, put}
 use Rattle.paper.specs.Judge.{judged, newJudged, nameAt, answers, clean}
-use Rattle.paper.specs.Parts.{partOf, partFor, least}
+use Rattle.paper.specs.Parts.{namedRow, partOf, partFor, least}
 use Rattle.paper.specs.Matrices.{addsP, addsA, fixed, cleared}
 use Rattle.paper.specs.Factor.{small, rowsFrom}
 use Rattle.paper.specs.Building.{Slices, slices}
@@ -28,10 +28,13 @@ use Rattle.paper.specs.declared.Answer.{Answer}
 use Rattle.paper.specs.declared.Answer.the-variants.{Done, Refused}
 use Rattle.paper.specs.declared.Refusal.{Refusal}
 use Rattle.paper.specs.declared.Refusal.the-variants.{Form, Range, Replacement}
-use Rattle.paper.specs.declared.Kind.the-variants.{Other}
+use Rattle.paper.specs.declared.Kind.the-variants.{E, «V», F, Other}
 use Rattle.laws.proofs.Outcomes.{done-refused, both-done, cond-done}
 use Rattle.laws.proofs.Refused.{Plain, plain-told, judged-plain, new-plain, element-plain, inside-told, rows-inside}
-use Rattle.laws.proofs.Decks.{Deck}
+use Rattle.laws.proofs.Decks.{Deck, Change, kindIn}
+use Rattle.laws.proofs.Tables.{row-field}
+use Rattle.laws.proofs.Spans.{solid-deck, film-flat}
+use Rattle.laws.proofs.Changed.{kind-here}
 use Rattle.laws.proofs.Judged.{deck, range-each}
 use Rattle.laws.proofs.NewCard.{change, stays, new-place}
 use Rattle.laws.proofs.Lent.{Passes, lent-told, enough-told}
@@ -97,12 +100,26 @@ new-range t card new e =
     let (_, e₂) = cond-done (answers t card new) _ (Replacement card) e₁ in
     cond-done (inRange (columnsOf (countsAt t) new) new 5 0) Done (Range card) e₂ .0
 
+-- the card whose place it takes has its kind, so the deck of a tetrahedron is solid, and names its element, so a film is of a triangle
+deep-deck : (t : List ℕ) (row : ℕ) (new : List ℕ) → Deck t → Change t row new → kindAt new ≡ «V» → countsAt t .solid ≡ true
+deep-deck t row new d g e = solid-deck t d row (g .inside) (kind-here t row new d g ∙ e)
+
+same-face : (t : List ℕ) (row : ℕ) (new : List ℕ) → Deck t → Change t row new → kindAt new ≡ F → kindIn t (namedRow t new) ≡ E
+same-face t row new d g e =
+    let key : getD (rowAt t row) 1 0 ≡ getD new 1 0 = row-field t row 1 (omega arith) ∙ sym (g .kept 1 (omega (arith, g .some))) in
+    subst (λ (k : ℕ). kindIn t (elementRow t k) ≡ E) key (film-flat t d row (g .inside) (kind-here t row new d g ∙ e))
+
 pub changes-of : (t : List ℕ) (card : ℕ) (new : List ℕ) → length new ≡ 6 → judged t ≡ Done → newJudged t card new ≡ Done → Changes t (card - 1) new
 changes-of t card new six ok fit = record {
   deck = deck t ok;
   change = change t card new six ok fit;
   deck′ = deck (put t (card - 1) new) (stays t card new six ok fit);
-  card = record { deck = deck t ok; fits = λ k l. range-each (columnsOf (countsAt t) new) new 5 0 k (new-range t card new fit) (omega arith) (omega arith) };
+  card = record {
+    deck = deck t ok;
+    fits = λ k l. range-each (columnsOf (countsAt t) new) new 5 0 k (new-range t card new fit) (omega arith) (omega arith);
+    deep = deep-deck t (card - 1) new (deck t ok) (change t card new six ok fit);
+    face = same-face t (card - 1) new (deck t ok) (change t card new six ok fit);
+  };
 }
 
 pub record Allowed (t : List ℕ) (p a f w : List ℤ) (card : ℕ) (new : List ℕ) : Type 0 where

@@ -1,5 +1,5 @@
 -- A card's own tests, step by step as the code makes them, and what the judge says of it.
-use mathlib.Core.Path.{_≡_, sym, ap, _∙_}
+use mathlib.Core.Path.{_≡_, refl, sym, ap, _∙_}
 use mathlib.Core.Bool.{Bool, true, false}
 use mathlib.Core.List.{List}
 use Prim.Native.Nat.{ℕ, suc, _+_, _-_, _*_, _≤_, _<_}
@@ -8,15 +8,17 @@ use native.Mathlib.Omega.{arith}
 use borrow.Author.Tests.{eq-eqb, ne-eqb, lt-ltb, le-ltb, le-leb, lt-leb}
 use lib.Dec.{eqb, leb, ltb}
 use lib.ListN.{getD}
-use Rattle.paper.specs.Kinds.{about, aboutOf, letterOf, kindAt, edge}
+use Rattle.whole.specs.Sums.{sumN}
+use Rattle.paper.specs.Kinds.{about, aboutOf, letterOf, kindOf, kindAt, bodies, edge}
 use Rattle.paper.specs.Cards.{before, columnsOf, inRange, ranked, countsOf}
-use Rattle.paper.specs.Judge.{stands, rises, ordered, full, clean, formed, judgeOne, trailer}
+use Rattle.paper.specs.Judge.{stands, rises, ordered, full, clean, formed, judgeOne, asks, trailer}
 use Rattle.paper.specs.declared.Answer.the-variants.{Done, Refused}
 use Rattle.paper.specs.declared.Refusal.the-variants.{Form, Range}
 use Rattle.paper.specs.declared.About.{About}
 use Rattle.paper.specs.declared.Counts.{Counts}
-use Rattle.paper.specs.declared.Kind.the-variants.{Z}
-use Rattle.laws.proofs.Letters.{kind-of}
+use Rattle.paper.specs.declared.Kind.{Kind}
+use Rattle.paper.specs.declared.Kind.the-variants.{D, N, M, E, «V», H, F, G, T, Z, Other}
+use Rattle.laws.proofs.Letters.{kind-letter, kind-of}
 use Rattle.laws.proofs.Judging.{formed-on, formed-not, formed-crowded, ranged-on, ranged-not, ranged-unordered, form-refused, range-refused, card-done}
 
 -- where it stands
@@ -83,6 +85,46 @@ pub full-late : (row : ℕ → List ℕ) (i : ℕ) (a : About) → a .most ≤ i
 unfolding full
 full-late row i a h = simp (le-leb (a .most) i h)
 
+-- what it asks of those before it
+module _ (z : Counts) (row : ℕ → List ℕ) (card : List ℕ) where
+  abbrev height : ℕ → ℕ
+  height k = getD (row (getD card k 0)) 3 0
+
+  pub level-not : (height 1 ≡ height 2 → ⊥) → false ≡ asks z row card E
+  unfolding asks
+  level-not n = simp (ne-eqb (height 1) (height 2) n)
+
+  pub level-is : height 1 ≡ height 2 → eqb (height 1) (height 3) ≡ asks z row card E
+  unfolding asks
+  level-is e = simp (eq-eqb (height 1) (height 2) e)
+
+  pub of-triangle : eqb (getD (row (before z bodies + getD card 1 0 - 1)) 0 0) (letterOf E) ≡ asks z row card F
+  unfolding asks
+  of-triangle = refl
+
+  pub asks-none : (kind : Kind) → (letterOf kind ≡ letterOf E → ⊥) → (letterOf kind ≡ letterOf F → ⊥) → true ≡ asks z row card kind
+  unfolding asks
+  asks-none D e f = refl
+  asks-none N e f = refl
+  asks-none M e f = refl
+  asks-none E e f = absurd (e refl)
+  asks-none «V» e f = refl
+  asks-none H e f = refl
+  asks-none F e f = absurd (f refl)
+  asks-none G e f = refl
+  asks-none T e f = refl
+  asks-none Z e f = refl
+  asks-none Other e f = refl
+
+  -- of a kind told by its letter
+  pub asks-by : (kind k : Kind) → letterOf kind ≡ letterOf k → asks z row card k ≡ asks z row card kind
+  asks-by kind k e = ap (asks z row card) (sym (sym (kind-letter kind) ∙ ap kindOf e ∙ kind-letter k))
+
+-- the cards before the elements, as the code counts them
+pub some-before : (z : Counts) → before z bodies ≡ 1 + z .nodes + z .materials
+unfolding before sumN
+some-before z = refl
+
 -- what the judge says of it
 module _ (z : Counts) (card : List ℕ) (i p key : ℕ) (crowded : Bool) where
   pub misplaced : stands z i p (aboutOf card) ≡ false → Refused (Form (i + 1)) ≡ judgeOne z i p key crowded card
@@ -124,6 +166,6 @@ module _ (card : List ℕ) where
     pub its-kind : Z ≡ kindAt card
     its-kind = sym (kind-of (getD card 0 0) Z e)
 
-    pub a-trailer : inRange (columnsOf (countsOf card) card) card 5 0 ≡ trailer card
+    pub a-trailer : inRange (columnsOf (countsOf card (λ i. 0)) card) card 5 0 ≡ trailer card
     unfolding trailer
     a-trailer = simp (eq-eqb (getD card 0 0) (letterOf Z) e)

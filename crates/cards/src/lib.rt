@@ -6,14 +6,39 @@ use paper::Kind;
 use paper::Refusal;
 ghost use mathlib.Core.Path.{_≡_};
 ghost use mathlib.Core.List.{List};
-ghost use Prim.Native.Nat.{ℕ, _+_, _-_, _*_, _/_, _≤_, _<_};
+ghost use Prim.Native.Nat.{ℕ, _+_, _-_, _*_, _/_, _^_, _≤_, _<_};
 ghost use lib.ListN.{length, getD};
 ghost use Rattle.paper.specs.Kinds.{kindAt, aboutOf, edge};
 ghost use Rattle.paper.specs.Cards as paper;
-ghost use Rattle.paper.specs.Judge.{stands, rises, ordered, full, judgeOne, judgeFrom, trailer, judgeRows, judged, answers, newJudged};
+ghost use Rattle.paper.specs.Judge.{stands, rises, ordered, full, judgeOne, asks, judgeCard, judgeFrom, trailer, judgeRows, judged, answers, newJudged};
 
 // The rows of the longest table.
 pub const MOST_ROWS: usize = 842;
+
+// ---- a table
+
+// Number k of a row, 0 past the table.
+fn number_at(t: &[u32], row: usize, k: usize) -> u32
+    requires { ⌜ (row < 2 ^ 34) × (k < 6) ⌝ }
+    ensures { λ r. ⌜ r ≡ getD (paper.rowAt (now (t .entry)) row) k 0 ⌝ }
+{
+    let at = row * 6 + k;
+    if t.len() <= at {
+        return 0;
+    }
+    t[at]
+}
+
+// What a table's Z counts.
+pub fn counts_at(t: &[u32]) -> Counts
+    requires { ⌜ 6 ≤ length (now t) ⌝ }
+    ensures { λ r. ⌜ r ≡ paper.countsAt (now (t .entry)) ⌝ }
+{
+    let at = (t.len() / 6 - 1) * 6;
+    let end = at + 6;
+    let last = number_at(t, kinds::last_element(&t[at..end]), 0);
+    kinds::counts_of(&t[at..end], last)
+}
 
 // ---- a card
 
@@ -123,6 +148,60 @@ pub fn judge_card(
     Answer::Done
 }
 
+// Whether an E's nodes have one height.
+fn is_level(t: &[u32], card: &[u32]) -> bool
+    requires { ⌜ length (now card) ≡ 6 ⌝ }
+    ensures { λ r. ⌜ ((z : Counts) → r ≡ asks z (paper.rowAt (now (t .entry))) (now (card .entry)) Kind.E) ⌝ }
+{
+    let height = number_at(t, card[1] as usize, 3);
+    if height != number_at(t, card[2] as usize, 3) {
+        return false;
+    }
+    height == number_at(t, card[3] as usize, 3)
+}
+
+// Whether an F names a triangle.
+fn on_triangle(counts: Counts, t: &[u32], card: &[u32]) -> bool
+    requires { ⌜ length (now card) ≡ 6 ⌝ }
+    ensures { λ r. ⌜ r ≡ asks counts (paper.rowAt (now (t .entry))) (now (card .entry)) Kind.F ⌝ }
+{
+    let row = kinds::cards_before(counts, kinds::about(Kind::E).section) + card[1] as usize - 1;
+    number_at(t, row, 0) == kinds::about(Kind::E).letter
+}
+
+// What a card asks of those before it.
+fn asks_rows(counts: Counts, t: &[u32], k: Kind, card: &[u32]) -> bool
+    requires { ⌜ length (now card) ≡ 6 ⌝ }
+    ensures { λ r. ⌜ r ≡ asks counts (paper.rowAt (now (t .entry))) (now (card .entry)) k ⌝ }
+{
+    let letter = kinds::about(k).letter;
+    if letter == kinds::about(Kind::E).letter {
+        return is_level(t, card);
+    }
+    if letter == kinds::about(Kind::F).letter {
+        return on_triangle(counts, t, card);
+    }
+    true
+}
+
+// The card in row i, of kind k.
+fn judge_row(counts: Counts, t: &[u32], i: usize, group: u32, key: u64, k: Kind) -> Answer
+    requires { ⌜ (i * 6 + 6 ≤ length (now t)) × (i ≤ paper.mostRows) × (k ≡ kindAt (paper.rowAt (now t) i)) ⌝ }
+    ensures { λ r. ⌜ r ≡ judgeCard counts (paper.rowAt (now (t .entry))) i group key ⌝ }
+{
+    let at = i * 6;
+    let end = at + 6;
+    let crowded = is_full(t, i, kinds::about(k));
+    let answer = judge_card(counts, i, group, key, crowded, k, &t[at..end]);
+    let Answer::Done = answer else {
+        return answer;
+    };
+    if !asks_rows(counts, t, k, &t[at..end]) {
+        return Answer::Refused(Refusal::Range((i + 1) as u32));
+    }
+    Answer::Done
+}
+
 fn judge_cards(counts: Counts, t: &[u32], rows: usize) -> Answer
     requires { ⌜ (rows * 6 ≤ length (now t)) × (rows ≤ paper.mostRows) ⌝ }
     ensures { λ r. ⌜ r ≡ judgeFrom counts (paper.rowAt (now (t .entry))) rows 0 0 0 ⌝ }
@@ -134,11 +213,11 @@ fn judge_cards(counts: Counts, t: &[u32], rows: usize) -> Answer
         let at = i * 6;
         let end = at + 6;
         let k = kinds::kind(t[at]);
-        let a = kinds::about(k);
-        let answer = judge_card(counts, i, group, key, is_full(t, i, a), k, &t[at..end]);
+        let answer = judge_row(counts, t, i, group, key, k);
         let Answer::Done = answer else {
             return answer;
         };
+        let a = kinds::about(k);
         group = a.order;
         key = rank(a, &t[at..end]);
         i += 1;
@@ -153,7 +232,7 @@ pub fn is_trailer(card: &[u32]) -> bool
     if card[0] != kinds::about(Kind::Z).letter {
         return false;
     }
-    kinds::in_range(kinds::columns_of(kinds::counts_of(card), Kind::Z), card)
+    kinds::in_range(kinds::columns_of(kinds::counts_of(card, 0), Kind::Z), card)
 }
 
 // A table of `rows` cards and a trailer.
@@ -169,7 +248,7 @@ fn judge_rows(t: &[u32], rows: usize) -> Answer
     if t[at + 1] as usize != 42 * rows {
         return Answer::Refused(Refusal::Trailer);
     }
-    judge_cards(kinds::counts_of(&t[at..end]), t, rows)
+    judge_cards(counts_at(t), t, rows)
 }
 
 // The judge of a lent table.
@@ -209,16 +288,6 @@ fn answers_to(table: &[u32], card: u32, keeps: usize, new: &[u32]) -> bool
     let at = (c - 1) * 6;
     let end = at + 6;
     kinds::agree(new, &table[at..end], 1 + keeps)
-}
-
-// What a table's Z counts.
-fn counts_at(t: &[u32]) -> Counts
-    requires { ⌜ 6 ≤ length (now t) ⌝ }
-    ensures { λ r. ⌜ r ≡ paper.countsAt (now (t .entry)) ⌝ }
-{
-    let at = (t.len() / 6 - 1) * 6;
-    let end = at + 6;
-    kinds::counts_of(&t[at..end])
 }
 
 fn judge_change(table: &[u32], card: u32, new: &[u32]) -> Answer

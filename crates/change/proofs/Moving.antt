@@ -1,85 +1,81 @@
--- Squares new minus old, and the slices with them.
+-- Squares new minus old.
 use mathlib.Core.Path.{_≡_, refl, sym, ap, subst, _∙_}
 use mathlib.Core.List.{List}
-use Prim.Native.Nat.{ℕ, _+_, _-_, _^_, _≤_, _<_}
+use Prim.Native.Nat.{ℕ, _^_, _≤_, _<_}
 use native.Mathlib.Omega.{arith}
 use lib.IntN.{ℤ, natAbs, _-ℤ_}
-use lib.ListN.{length, getD}
-use Rattle.whole.specs.Packed.{tri, matrix}
-use Rattle.whole.specs.Squares.{at, squareOf, Small}
+use lib.ListN.{length}
+use Rattle.whole.specs.Squares.{at, squareOf, Small, Holds}
 use Rattle.whole.proofs.Signs.{natAbs-minus}
-use Rattle.whole.proofs.Squares.{small-square, square-at, square-ext}
-use Rattle.paper.specs.Cards.{rowAt, nodes, put}
-use Rattle.paper.specs.Corners.{mass}
-use Rattle.paper.specs.Parts.{Part, partFor, partAt, least, leastRow}
-use Rattle.paper.specs.Matrices.{addsP, addsA}
-use Rattle.paper.specs.Replacing.{moved, firstRow}
-use Rattle.laws.proofs.Spans.{Inside, part-corners}
-use Rattle.laws.proofs.Sizes.{Distinct}
-use Rattle.laws.proofs.Square.{Sound, part-sound}
-use Rattle.laws.proofs.Changed.{part-here, corners-here}
-use Rattle.laws.proofs.Places.{addSquare, squareP, squareA, moved-P, moved-A}
-use Rattle.triangle.specs.Forms.{numbers}
-use Rattle.triangle.proofs.Sizes.{mass-size}
-use Rattle.part.specs.Forms.{cornersOf}
-use Rattle.part.specs.Asks.{Full}
-use Rattle.part.specs.declared.Corners.{Corners}
-use Rattle.part.proofs.Parts.{square-small, stored-size}
-use Rattle.packed.specs.Asks.{Takes}
-use Rattle.packed.proofs.Squares.{takes, gives}
-use Rattle.change.specs.Asks.{Changes, Renews}
-use Rattle.change.proofs.Forming.{old-card, solid-new, solid-old}
+use Rattle.whole.proofs.Squares.{square-at, square-ext, holds-minus, holds-square, holds-same}
+use Rattle.paper.specs.Kinds.{kindOf}
+use Rattle.paper.specs.Cards.{rowAt}
+use Rattle.paper.specs.Parts.{Part, partOf, partFor, partAt}
+use Rattle.laws.proofs.Places.{squareP, squareA}
+use Rattle.square.proofs.Held.{mass-size}
+use Rattle.part.proofs.Parts.{four-at-most, stored-size, held-P}
+use Rattle.laws.proofs.Tables.{row-field}
+use Rattle.change.specs.Asks.{Changes}
+use Rattle.change.proofs.Forming.{old-card, same-corners}
 
--- a small square of a function
-of-square : (f : ℕ → ℕ → ℤ) (q : List (List ℤ)) → q ≡ squareOf 3 f → ((i j : ℕ) → i < 3 → j < 3 → natAbs (f i j) ≤ 2 ^ 60) → Small (2 ^ 60) q
-of-square f q e h = subst (Small (2 ^ 60)) (sym e) (small-square 3 (2 ^ 60) f h)
+-- the card in a row, as its six numbers
+pub part-row : (t : List ℕ) (row : ℕ) → partAt t row ≡ partFor t (rowAt t row)
+part-row t row = ap (λ (l : ℕ). partOf t (rowAt t row) (kindOf l)) (sym (row-field t row 0 (omega arith)))
 
--- the difference of two squares of functions
-pub minus-is : (f g : ℕ → ℕ → ℤ) {p q r : List (List ℤ)} → p ≡ squareOf 3 f → q ≡ squareOf 3 g → r ≡ squareOf 3 (λ i j. at p i j -ℤ at q i j) → r ≡ squareOf 3 (λ i j. f i j -ℤ g i j)
-minus-is f g e d k =
-    k ∙ square-ext 3 _ _ (λ i j a b. λ x. (ap (λ (z : List (List ℤ)). at z i j) e ∙ square-at 3 f i j a b) x -ℤ (ap (λ (z : List (List ℤ)). at z i j) d ∙ square-at 3 g i j a b) x)
+-- two squares that may be added or taken away, whatever they are of
+pub small-A : {n m : ℕ} {f g : ℕ → ℕ → ℤ} {p q : List (List ℤ)} → Holds n (2 ^ 57) f p → Holds m (2 ^ 57) g q → Small (2 ^ 60) p × Small (2 ^ 60) q
+small-A hp hq = (record { each = λ i j. omega (arith, hp .small .each i j) }, record { each = λ i j. omega (arith, hq .small .each i j) })
 
-module _ (t : List ℕ) (row : ℕ) (new : List ℕ) where
+module _ (t : List ℕ) (row : ℕ) (new : List ℕ) (h : Changes t row new) where
   abbrev x′ : Part
   x′ = partFor t new
 
   abbrev x : Part
   x = partFor t (rowAt t row)
 
-  -- ---- to A
-  module _ (h : Renews t row new) where
-    pub small-A : {p q : List (List ℤ)} → p ≡ squareOf 3 (squareA x′) → q ≡ squareOf 3 (squareA x) → Small (2 ^ 60) p × Small (2 ^ 60) q
-    small-A {p} {q} e d = (
-      of-square (squareA x′) p e (λ i j a b. omega (arith, square-small t new (h .changes .card) (solid-new t row new h) i j a b)),
-      of-square (squareA x) q d (λ i j a b. omega (arith, square-small t (rowAt t row) (old-card t row new (h .changes)) (solid-old t row new h) i j a b)),
-    )
+  few : length (x′ .corners) ≤ 4
+  few = four-at-most t new (h .card)
 
-    pub moved-size : (i j : ℕ) → i < 3 → j < 3 → natAbs (squareA x′ i j -ℤ squareA x i j) ≤ 2 ^ 49
-    moved-size i j a b = omega (
-      arith,
-      natAbs-minus (squareA x′ i j) (squareA x i j),
-      square-small t new (h .changes .card) (solid-new t row new h) i j a b,
-      square-small t (rowAt t row) (old-card t row new (h .changes)) (solid-old t row new h) i j a b,
-    )
+  same-count : length (x .corners) ≡ length (x′ .corners)
+  same-count = ap length (ap (λ (y : Part). y .corners) (sym (part-row t row)) ∙ sym (same-corners t row new h))
+
+  -- ---- to A, with the old card as code has it
+  module _ {card : List ℕ} (ec : card ≡ rowAt t row) {p q : List (List ℤ)} (hp : Holds (length (x′ .corners)) (2 ^ 57) (squareA x′) p) (hq : Holds (length (partFor t card .corners)) (2 ^ 57) (squareA (partFor t card)) q) where
+    old-held : Holds (length (x′ .corners)) (2 ^ 57) (squareA x) q
+    old-held =
+        subst (λ (n : ℕ). Holds n (2 ^ 57) (squareA x) q) same-count
+        (subst (λ (z : List ℕ). Holds (length (partFor t z .corners)) (2 ^ 57) (squareA (partFor t z)) q) ec hq)
+
+    pub moved-A : {r : List (List ℤ)} → r ≡ squareOf 4 (λ i j. at p i j -ℤ at q i j) → Holds (length (x′ .corners)) (2 ^ 58) (λ i j. squareA x′ i j -ℤ squareA x i j) r
+    moved-A e = holds-same (holds-minus 4 few hp old-held e) (omega arith) (λ i j k l. refl)
 
   -- ---- to P
-  module _ (h : Changes t row new) where
-    mass-fits : (w : ℕ) (q : List (List ℤ)) → w ≤ 2 ^ 37 → q ≡ squareOf 3 (mass w) → Small (2 ^ 60) q
-    mass-fits w q l e = of-square (mass w) q e (λ i j a b. omega (arith, mass-size w i j))
+  abbrev InP : List ℕ → List (List ℤ) → Type 0
+  InP card m = m ≡ squareOf 4 (squareP (partFor t card))
 
-    pub small-P : {v w : ℕ} {p q : List (List ℤ)} → v ≤ 2 ^ 37 → w ≤ 2 ^ 37 → p ≡ squareOf 3 (mass v) → q ≡ squareOf 3 (mass w) → Small (2 ^ 60) p × Small (2 ^ 60) q
-    small-P {v} {w} {p} {q} a b e d = (mass-fits v p a e, mass-fits w q b d)
+  module _ {card : List ℕ} (ec : card ≡ rowAt t row) {p q : List (List ℤ)} (hp : InP new p) (hq : InP card q) where
+    old-P : InP (rowAt t row) q
+    old-P = subst (λ (z : List ℕ). InP z q) ec hq
 
-    pub stored-is : {v w : ℕ} {p q r : List (List ℤ)} → v ≡ x′ .capacity → w ≡ x .capacity → p ≡ squareOf 3 (mass v) → q ≡ squareOf 3 (mass w) → r ≡ squareOf 3 (λ i j. at p i j -ℤ at q i j)
-        → r ≡ squareOf 3 (λ i j. squareP x′ i j -ℤ squareP x i j)
-    stored-is a b e d k = minus-is (squareP x′) (squareP x) (e ∙ ap (λ (z : ℕ). squareOf 3 (mass z)) a) (d ∙ ap (λ (z : ℕ). squareOf 3 (mass z)) b) k
-
-    pub stored-size-moved : (i j : ℕ) → natAbs (squareP x′ i j -ℤ squareP x i j) ≤ 2 ^ 49
-    stored-size-moved i j = omega (
-      arith,
-      natAbs-minus (squareP x′ i j) (squareP x i j),
-      mass-size (x′ .capacity) i j,
-      mass-size (x .capacity) i j,
-      stored-size t new (h .card),
-      stored-size t (rowAt t row) (old-card t row new h),
+    pub small-P : Small (2 ^ 60) p × Small (2 ^ 60) q
+    small-P = (
+      record { each = λ i j. omega (arith, held-P t new (h .card) hp .small .each i j) },
+      record { each = λ i j. omega (arith, held-P t (rowAt t row) (old-card t row new h) old-P .small .each i j) },
     )
+
+    pub moved-P : {r : List (List ℤ)} → r ≡ squareOf 4 (λ i j. at p i j -ℤ at q i j) → r ≡ squareOf 4 (λ i j. squareP x′ i j -ℤ squareP x i j)
+    moved-P k =
+        k ∙ square-ext 4 _ _ (λ i j a b. λ d. (ap (λ (z : List (List ℤ)). at z i j) hp ∙ square-at 4 (squareP x′) i j a b) d -ℤ (ap (λ (z : List (List ℤ)). at z i j) old-P ∙ square-at 4 (squareP x) i j a b) d)
+
+  -- as it is written
+  pub moved-held : {u : List (List ℤ)} → u ≡ squareOf 4 (λ i j. squareP x′ i j -ℤ squareP x i j) → Holds (length (x′ .corners)) (2 ^ 58) (λ i j. squareP x′ i j -ℤ squareP x i j) u
+  moved-held e =
+      holds-square (length (x′ .corners)) 4 (2 ^ 58) (λ i j. squareP x′ i j -ℤ squareP x i j) few e
+      (λ i j _ _. omega (
+        arith,
+        natAbs-minus (squareP x′ i j) (squareP x i j),
+        mass-size (x′ .capacity) i j,
+        mass-size (x .capacity) i j,
+        stored-size t new (h .card),
+        stored-size t (rowAt t row) (old-card t row new h),
+      ))

@@ -4,21 +4,20 @@ use mathlib.Core.Bool.{Bool, true, false, cond, _||_}
 use mathlib.Core.List.{List, [], _∷_, _++_}
 use Prim.Native.Nat.{ℕ, zero, suc, _+_, _-_, _*_, _^_, _≤_, _<_, min}
 use native.Mathlib.Omega.{arith}
-use lib.IntN.{ℤ, natAbs, _+ℤ_, _-ℤ_}
+use lib.IntN.{ℤ, natAbs, _-ℤ_}
 use lib.ListN.{length, getD, take, drop}
 use lib.Seq.{length-take-le}
-use Rattle.whole.specs.Sums.{sumN}
 use Rattle.whole.specs.Packed.{tri, matrix, cell, entry, lower, Bounded}
-use Rattle.whole.specs.Squares.{at, squareOf}
-use Rattle.whole.proofs.Signs.{natAbs-plus, natAbs-minus}
-use Rattle.whole.proofs.Sums.{sumN-one}
+use Rattle.whole.specs.Squares.{at, squareOf, Holds}
+use Rattle.whole.proofs.Squares.{holds-same}
 use Rattle.whole.proofs.Tests.{never}
 use Rattle.whole.proofs.Packed.{lower-eta, lower-within}
 use Rattle.paper.specs.Refusals.{Outcome, done, then, after}
-use Rattle.paper.specs.Kinds.{about, kindOf, kindAt}
+use Rattle.paper.specs.Kinds.{about, kindAt}
 use Rattle.paper.specs.Cards.{rowAt, field, rows, nodes, elements, elementRow, put}
-use Rattle.paper.specs.Corners.{shapeOf, mass, spread}
-use Rattle.paper.specs.Elements.{bodyOf, elementOf, elementAt, elementJudged}
+use Rattle.paper.specs.Corners.{shapeOf}
+use Rattle.paper.specs.Tetrahedron.{spaceOf}
+use Rattle.paper.specs.Elements.{elementOf, elementAt, elementJudged}
 use Rattle.paper.specs.Parts.{Part, namedRow, partOf, partFor, partAt, least, leastRow}
 use Rattle.paper.specs.Matrices.{addsP, addsA, fixed, cleared}
 use Rattle.paper.specs.Factor.{rowsFrom}
@@ -27,65 +26,26 @@ use Rattle.paper.specs.Replacing.{formOf, moved, firstRow, redone, replaced, st
 use Rattle.paper.specs.declared.Answer.{Answer}
 use Rattle.paper.specs.declared.Answer.the-variants.{Done}
 use Rattle.paper.specs.declared.Kind.{Kind}
-use Rattle.paper.specs.declared.Kind.the-variants.{D, N, M, E, H, F, G, T, Z, Other}
+use Rattle.paper.specs.declared.Kind.the-variants.{D, N, M, E, «V», H, F, G, T, Z, Other}
 use Rattle.laws.proofs.Decks.{In, Deck, kindIn}
-use Rattle.laws.proofs.Tables.{row-field}
-use Rattle.laws.proofs.Spans.{Inside, part-corners, names-F, lower-first}
-use Rattle.laws.proofs.Sizes.{Distinct, spread-row}
+use Rattle.laws.proofs.Spans.{Inside, part-corners, few-corners, names-F, lower-first}
+use Rattle.laws.proofs.Sizes.{Distinct}
 use Rattle.laws.proofs.Square.{Sound, part-sound}
 use Rattle.laws.proofs.Least.{least-in, least-each, least-most}
-use Rattle.laws.proofs.Elements.{Formed, sound-one, two-distinct, distinct}
-use Rattle.laws.proofs.Changed.{part-here, corners-here, fixed-same, form-load, kind-here}
+use Rattle.laws.proofs.Apart.{two-distinct}
+use Rattle.laws.proofs.Elements.{sound-one, distinct}
+use Rattle.laws.proofs.Changed.{part-here, corners-here, fixed-same, form-load}
 use Rattle.laws.proofs.Places.{addSquare, squareP, squareA, moved-P, moved-A}
 use Rattle.triangle.specs.Forms.{numbers}
-use Rattle.triangle.proofs.Sizes.{mass-size}
-use Rattle.part.specs.Forms.{cornersOf, doesBy, does}
-use Rattle.part.specs.Asks.{Card, Solid, Full}
+use Rattle.part.specs.Forms.{cornersOf, doesBy}
+use Rattle.part.specs.Asks.{Full}
 use Rattle.part.specs.declared.Corners.{Corners}
-use Rattle.part.proofs.Parts.{stored-size, film-size, conductance-small}
 use Rattle.packed.specs.Asks.{Takes}
+use Rattle.packed.proofs.Adding.{square-size}
 use Rattle.packed.proofs.Squares.{takes, gives}
 use Rattle.change.specs.Asks.{Changes, Renews}
-use Rattle.change.proofs.Forming.{old-card, solid-new, solid-old, some-new, same-kind, stirs-new}
-use Rattle.change.proofs.Moving.{moved-size, stored-size-moved}
-
--- ---- sizes of what a part adds
-
-few-sum : (n B : ℕ) (f : ℕ → ℕ) → n ≤ 3 → ((b : ℕ) → b < n → f b ≤ B) → sumN n f ≤ 3 * B
-unfolding sumN
-few-sum zero B f l h = omega arith
-few-sum (suc zero) B f l h = omega (arith, h 0 (omega arith))
-few-sum (suc (suc zero)) B f l h = omega (arith, h 0 (omega arith), h 1 (omega arith))
-few-sum (suc (suc (suc zero))) B f l h = omega (arith, h 0 (omega arith), h 1 (omega arith), h 2 (omega arith))
-few-sum (suc (suc (suc (suc n)))) B f l h = absurd (omega arith)
-
-size-A : (t card : List ℕ) → Card t card → Solid t card → (a b : ℕ) → a < 3 → b < 3 → natAbs (squareA (partFor t card) a b) ≤ 2 ^ 47 + 2 ^ 40
-size-A t card h s a b la lb =
-    let x = partFor t card in
-    omega (
-      arith,
-      natAbs-plus (x .conductance a b +ℤ mass (x .capacity) a b) (mass (x .film) a b),
-      natAbs-plus (x .conductance a b) (mass (x .capacity) a b),
-      conductance-small t card h s a b la lb,
-      mass-size (x .capacity) a b,
-      mass-size (x .film) a b,
-      stored-size t card h,
-      film-size t card h,
-    )
-
-adds-size : (t card : List ℕ) → Card t card → Solid t card → Distinct (partFor t card .corners) → length (partFor t card .corners) ≤ 3 → (i j : ℕ) → natAbs (addsA (partFor t card) i j) ≤ 3 * (2 ^ 47 + 2 ^ 40)
-unfolding addsA
-adds-size t card h s d few i j =
-    let x = partFor t card in
-    omega (
-      arith,
-      sumN-one (λ j. natAbs (spread (x .corners) (squareA x) i j)) j (suc j) (omega arith),
-      spread-row (x .corners) (squareA x) (3 * (2 ^ 47 + 2 ^ 40)) (suc j) i d (λ a l. few-sum (length (x .corners)) (2 ^ 47 + 2 ^ 40) (λ b. natAbs (squareA x a b)) few (λ b k. size-A t card h s a b (omega arith) (omega arith))),
-    )
-
-three : (t card : List ℕ) → 1 ≤ length (elementOf t card .shape .corners)
-unfolding elementOf bodyOf shapeOf
-three t card = omega arith
+use Rattle.change.proofs.Forming.{some-new, same-kind, same-corners, stirs-new}
+use Rattle.change.proofs.Moving.{part-row, moved-held}
 
 least-some : (ns : List ℕ) (m n : ℕ) → Inside n ns → 1 ≤ m → 1 ≤ least ns m
 unfolding least
@@ -99,10 +59,6 @@ head-some (k ∷ ns) n (i, is) = i .0
 positive : (ns : List ℕ) (n : ℕ) → Inside n ns → 1 ≤ least ns (getD ns 0 1)
 positive ns n i = least-some ns (getD ns 0 1) n i (head-some ns n i)
 
--- the card in a row, as its six numbers
-pub part-row : (t : List ℕ) (row : ℕ) → partAt t row ≡ partFor t (rowAt t row)
-part-row t row = ap (λ (l : ℕ). partOf t (rowAt t row) (kindOf l)) (sym (row-field t row 0 (omega arith)))
-
 module _ (t : List ℕ) (row : ℕ) (new : List ℕ) (h : Renews t row new) where
   abbrev t′ : List ℕ
   t′ = put t row new
@@ -111,11 +67,11 @@ module _ (t : List ℕ) (row : ℕ) (new : List ℕ) (h : Renews t row new) wher
   x′-is = part-here t row new (h .changes .deck) (h .changes .change) (h .changes .deck′)
 
   -- ---- corners
-  pub same-corners : partFor t new .corners ≡ partAt t row .corners
-  same-corners = ap (λ (x : Part). x .corners) (sym x′-is) ∙ corners-here t row new (h .changes .deck) (h .changes .change)
+  same : partFor t new .corners ≡ partAt t row .corners
+  same = same-corners t row new (h .changes)
 
   pub new-inside : Inside (nodes t) (partFor t new .corners)
-  new-inside = subst (Inside (nodes t)) (sym same-corners) (part-corners t (h .changes .deck) row (h .changes .change .inside))
+  new-inside = subst (Inside (nodes t)) (sym same) (part-corners t (h .changes .deck) row (h .changes .change .inside))
 
   named-some : kindIn t row ≡ F → 1 ≤ elementAt t (namedRow t new) .size
   unfolding elementJudged about
@@ -132,11 +88,12 @@ module _ (t : List ℕ) (row : ℕ) (new : List ℕ) (h : Renews t row new) wher
       omega (arith, k 1 (omega arith), k 2 (omega arith), lower-first t (h .changes .deck) row (h .changes .change .inside) e)
 
   distinct-by : (kind : Kind) → kindAt new ≡ kind → partOf t new kind .stirs ≡ true → Distinct (partOf t new kind .corners)
-  unfolding partOf shapeOf
+  unfolding partOf spaceOf shapeOf doesBy
   distinct-by D e q = never q
   distinct-by N e q = never q
   distinct-by M e q = never q
-  distinct-by E e q = distinct t new (some-new t row new h e)
+  distinct-by E e q = distinct t new (some-new t row new h (rw e))
+  distinct-by «V» e q = distinct t new (some-new t row new h (rw e))
   distinct-by H e q = never q
   distinct-by F e q = distinct t (rowAt t (namedRow t new)) (named-some (same-kind t row new (h .changes) ∙ e))
   distinct-by G e q = two-distinct (getD new 1 0) (getD new 2 0) (lower-new (same-kind t row new (h .changes) ∙ e))
@@ -148,13 +105,10 @@ module _ (t : List ℕ) (row : ℕ) (new : List ℕ) (h : Renews t row new) wher
   new-distinct = distinct-by (kindAt new) refl (stirs-new t row new (h .changes) ∙ h .stir)
 
   old-distinct : Distinct (partAt t row .corners)
-  old-distinct = subst Distinct same-corners new-distinct
+  old-distinct = subst Distinct same new-distinct
 
   -- ---- a slice with the square added
   module _ (c : Corners) (full : Full c) (e : cornersOf c ≡ partFor t new .corners) where
-    few : length (partFor t new .corners) ≤ 3
-    few = omega (arith, full .few, full .full, ap length e)
-
     -- the least row
     pub some-corners : (1 ≤ c .count) × (1 ≤ least (cornersOf c) (getD (cornersOf c) 0 1))
     some-corners = (counted (partFor t new .corners) e (any-by (kindAt new) refl (stirs-new t row new (h .changes) ∙ h .stir)), rw e (positive (partFor t new .corners) (nodes t) new-inside))
@@ -166,10 +120,11 @@ module _ (t : List ℕ) (row : ℕ) (new : List ℕ) (h : Renews t row new) wher
         any-by D z q = unfold partOf in never q
         any-by N z q = unfold partOf in never q
         any-by M z q = unfold partOf in never q
-        any-by E z q = unfold partOf in three t new
+        any-by E z q = unfold partOf in omega (arith, few-corners t new)
+        any-by «V» z q = unfold partOf in omega (arith, few-corners t new)
         any-by H z q = unfold partOf in never q
-        any-by F z q = unfold partOf in three t (rowAt t (namedRow t new))
-        any-by G z q = unfold partOf in unfold shapeOf in omega arith
+        any-by F z q = unfold partOf in omega (arith, few-corners t (rowAt t (namedRow t new)))
+        any-by G z q = unfold partOf in unfold spaceOf in unfold shapeOf in omega arith
         any-by T z q = unfold partOf in never q
         any-by Z z q = unfold partOf in never q
         any-by Other z q = unfold partOf in never q
@@ -181,45 +136,52 @@ module _ (t : List ℕ) (row : ℕ) (new : List ℕ) (h : Renews t row new) wher
     least-low = rw (sym least-is) (rw e (least-in (nodes t) (partFor t new .corners) new-inside))
 
     at-old : cornersOf c ≡ partAt t row .corners
-    at-old = e ∙ same-corners
+    at-old = e ∙ same
 
     module _ (xs : List ℤ) (long : length xs ≡ matrix (nodes t)) (small : (i j : ℕ) → i < nodes t → j ≤ i → natAbs (entry xs i j) ≤ 2 ^ 33) where
-      small-slice : Bounded (2 ^ 52) xs
-      small-slice = record { each = λ p. subst (λ (z : List ℤ). natAbs (cell z p) ≤ 2 ^ 52) (sym (lower-eta (nodes t) xs long)) (lower-within (nodes t) (2 ^ 52) (entry xs) (λ i j l m. omega (arith, small i j l m)) p) }
+      small-slice : Bounded (2 ^ 33) xs
+      small-slice = record { each = λ p. subst (λ (z : List ℤ). natAbs (cell z p) ≤ 2 ^ 33) (sym (lower-eta (nodes t) xs long)) (lower-within (nodes t) (2 ^ 33) (entry xs) small p) }
 
-      module _ (q : List (List ℤ)) (s : q ≡ squareOf 3 (λ i j. squareA (partFor t new) i j -ℤ squareA (partFor t (rowAt t row)) i j)) where
-        pub takes-A : Takes (c .count) xs (numbers (c .nodes)) q
-        takes-A = takes c full (partFor t new .corners) e q _ s (nodes t) xs (h .changes .deck .someN .1) long small-slice new-inside (λ i j a b. omega (arith, moved-size t row new h i j a b))
+      roomy : Bounded (2 ^ 58) xs
+      roomy = record { each = λ p. omega (arith, small-slice .each p) }
 
-        pub added-A-is : addSquare (c .count) xs (numbers (c .nodes)) (at q) ≡ moved (nodes t) xs (addsA (partAt t′ row)) (addsA (partAt t row))
-        added-A-is =
-            gives c full (partAt t row .corners) at-old q (λ i j. squareA (partAt t′ row) i j -ℤ squareA (partAt t row) i j) (s ∙ (λ d. squareOf 3 (λ i j. squareA (sym x′-is d) i j -ℤ squareA (sym (part-row t row) d) i j))) xs
-            ∙ sym (moved-A (nodes t) (partAt t row) xs (part-corners t (h .changes .deck) row (h .changes .change .inside)) old-distinct (part-sound t row) long (partAt t′ row) (corners-here t row new (h .changes .deck) (h .changes .change)) (part-sound t′ row))
+      -- what is moved, of either matrix
+      module _ (f : Part → ℕ → ℕ → ℤ) (q : List (List ℤ)) (s : Holds (length (partFor t new .corners)) (2 ^ 58) (λ i j. f (partFor t new) i j -ℤ f (partFor t (rowAt t row)) i j) q) where
+        pub takes-moved : Takes (c .count) xs (numbers (c .nodes)) q
+        takes-moved = takes c full (partFor t new .corners) e q _ s (nodes t) xs (h .changes .deck .someN .1) long roomy new-inside (omega arith)
 
-        pub small-added : Bounded (2 ^ 50) (addSquare (c .count) xs (numbers (c .nodes)) (at q))
-        small-added = subst (Bounded (2 ^ 50)) (sym added-A-is) (record { each = λ p. unfold moved in lower-within (nodes t) (2 ^ 50) (λ i j. entry xs i j +ℤ (addsA (partAt t′ row) i j -ℤ addsA (partAt t row) i j)) each p })
+        moved-is : addSquare (c .count) xs (numbers (c .nodes)) (at q) ≡ addSquare (length (partAt t row .corners)) xs (partAt t row .corners) (λ i j. f (partAt t′ row) i j -ℤ f (partAt t row) i j)
+        moved-is =
+            gives c full (partAt t row .corners) at-old q (λ i j. f (partAt t′ row) i j -ℤ f (partAt t row) i j)
+            (subst (λ (n : ℕ). Holds n (2 ^ 58) (λ i j. f (partAt t′ row) i j -ℤ f (partAt t row) i j) q) (ap length same) (holds-same s (omega arith) (λ i j k l. λ d. f (sym x′-is d) i j -ℤ f (sym (part-row t row) d) i j))) xs
+
+        pub small-added : Bounded (2 ^ 62) (addSquare (c .count) xs (numbers (c .nodes)) (at q))
+        small-added =
+            let added = square-size (c .count) (2 ^ 33) xs (numbers (c .nodes)) q small-slice (takes-moved .square) in
+            record { each = λ p. omega (arith, added .each p, ten (c .count) (full .few)) }
           where
-            each : (i j : ℕ) → i < nodes t → j ≤ i → natAbs (entry xs i j +ℤ (addsA (partAt t′ row) i j -ℤ addsA (partAt t row) i j)) ≤ 2 ^ 50
-            each i j l m = omega (
-              arith,
-              natAbs-plus (entry xs i j) (addsA (partAt t′ row) i j -ℤ addsA (partAt t row) i j),
-              natAbs-minus (addsA (partAt t′ row) i j) (addsA (partAt t row) i j),
-              small i j l m,
-              ap (λ (x : Part). natAbs (addsA x i j)) x′-is,
-              ap (λ (x : Part). natAbs (addsA x i j)) (part-row t row),
-              adds-size t new (h .changes .card) (solid-new t row new h) new-distinct few i j,
-              adds-size t (rowAt t row) (old-card t row new (h .changes)) (solid-old t row new h) (subst (λ (x : Part). Distinct (x .corners)) (part-row t row) old-distinct)
-                  (subst (λ (x : Part). length (x .corners) ≤ 3) (part-row t row) (subst (λ (ns : List ℕ). length ns ≤ 3) same-corners few)) i j,
-            )
+            ten : (n : ℕ) → n ≤ 4 → tri n ≤ 10
+            ten zero l = unfold tri in omega arith
+            ten (suc zero) l = unfold tri in omega arith
+            ten (suc (suc zero)) l = unfold tri in omega arith
+            ten (suc (suc (suc zero))) l = unfold tri in omega arith
+            ten (suc (suc (suc (suc zero)))) l = unfold tri in omega arith
+            ten (suc (suc (suc (suc (suc n))))) l = absurd (omega arith)
 
-      module _ (u : List (List ℤ)) (s : u ≡ squareOf 3 (λ i j. squareP (partFor t new) i j -ℤ squareP (partFor t (rowAt t row)) i j)) where
-        pub takes-P : Takes (c .count) xs (numbers (c .nodes)) u
-        takes-P = takes c full (partFor t new .corners) e u _ s (nodes t) xs (h .changes .deck .someN .1) long small-slice new-inside (λ i j a b. omega (arith, stored-size-moved t row new (h .changes) i j))
+      pub added-A-is : {q : List (List ℤ)} → Holds (length (partFor t new .corners)) (2 ^ 58) (λ i j. squareA (partFor t new) i j -ℤ squareA (partFor t (rowAt t row)) i j) q
+          → addSquare (c .count) xs (numbers (c .nodes)) (at q) ≡ moved (nodes t) xs (addsA (partAt t′ row)) (addsA (partAt t row))
+      added-A-is {q} s =
+          moved-is squareA q s
+          ∙ sym (moved-A (nodes t) (partAt t row) xs (part-corners t (h .changes .deck) row (h .changes .change .inside)) old-distinct (part-sound t row) long (partAt t′ row) (corners-here t row new (h .changes .deck) (h .changes .change)) (part-sound t′ row))
 
-        pub added-P-is : addSquare (c .count) xs (numbers (c .nodes)) (at u) ≡ moved (nodes t) xs (addsP (partAt t′ row)) (addsP (partAt t row))
-        added-P-is =
-            gives c full (partAt t row .corners) at-old u (λ i j. squareP (partAt t′ row) i j -ℤ squareP (partAt t row) i j) (s ∙ (λ d. squareOf 3 (λ i j. squareP (sym x′-is d) i j -ℤ squareP (sym (part-row t row) d) i j))) xs
-            ∙ sym (moved-P (nodes t) (partAt t row) xs (part-corners t (h .changes .deck) row (h .changes .change .inside)) old-distinct (part-sound t row) long (partAt t′ row) (corners-here t row new (h .changes .deck) (h .changes .change)) (part-sound t′ row))
+      pub takes-P : {u : List (List ℤ)} → u ≡ squareOf 4 (λ i j. squareP (partFor t new) i j -ℤ squareP (partFor t (rowAt t row)) i j) → Takes (c .count) xs (numbers (c .nodes)) u
+      takes-P {u} s = takes-moved squareP u (moved-held t row new (h .changes) s)
+
+      pub added-P-is : {u : List (List ℤ)} → u ≡ squareOf 4 (λ i j. squareP (partFor t new) i j -ℤ squareP (partFor t (rowAt t row)) i j)
+          → addSquare (c .count) xs (numbers (c .nodes)) (at u) ≡ moved (nodes t) xs (addsP (partAt t′ row)) (addsP (partAt t row))
+      added-P-is {u} s =
+          moved-is squareP u (moved-held t row new (h .changes) s)
+          ∙ sym (moved-P (nodes t) (partAt t row) xs (part-corners t (h .changes .deck) row (h .changes .change .inside)) old-distinct (part-sound t row) long (partAt t′ row) (corners-here t row new (h .changes .deck) (h .changes .change)) (part-sound t′ row))
 
   -- ---- THEOREM. The replacement as the code makes it: P and A with their squares, the factor from the first row on.
   pub redone-is : (s : Slices) (m : ℕ) (p a : List ℤ) → m ≡ firstRow t row new → tri m ≤ length (s .factor) → p ≡ moved (nodes t) (s .p) (addsP (partAt t′ row)) (addsP (partAt t row))

@@ -4,10 +4,10 @@ use paper::Element;
 use part::Corners;
 ghost use mathlib.Core.Path.{_≡_};
 ghost use mathlib.Core.Bool.{cond};
-ghost use Prim.Native.Nat.{_+_, _-_, _*_, _<_, _≤_};
+ghost use Prim.Native.Nat.{_+_, _-_, _*_, _^_, _<_, _≤_};
 ghost use lib.IntN.{_-ℤ_};
 ghost use lib.ListN.{length};
-ghost use Rattle.whole.specs.Squares.{at, squareOf};
+ghost use Rattle.whole.specs.Squares.{at, squareOf, Holds};
 ghost use Rattle.paper.specs.Cards.{rowAt, rows, nodes, materials, elements, put};
 ghost use Rattle.paper.specs.Parts.{partFor};
 ghost use Rattle.paper.specs.Replacing.{stirs, formOf};
@@ -48,28 +48,27 @@ pub fn judge_form(table: &[u32], row: usize, new: [u32; 6]) -> Answer
 // ---- squares
 
 // To A.
-pub fn square(table: &[u32], row: usize, new: [u32; 6]) -> [[i64; 3]; 3]
+pub fn square(table: &[u32], row: usize, new: [u32; 6]) -> [[i64; 4]; 4]
     requires { ⌜ Renews (now table) row new ⌝ }
-    ensures { λ r. ⌜ r ≡ squareOf 3 (λ i j. squareA (partFor (now (table .entry)) new) i j -ℤ squareA (partFor (now (table .entry)) (rowAt (now (table .entry)) row)) i j) ⌝ }
+    ensures { λ r. ⌜ Holds (length (partFor (now (table .entry)) new .corners)) (2 ^ 58) (λ i j. squareA (partFor (now (table .entry)) new) i j -ℤ squareA (partFor (now (table .entry)) (rowAt (now (table .entry)) row)) i j) r ⌝ }
 {
     let old = element::card_at(table, row);
-    triangle::minus(part::square_a(table, new), part::square_a(table, old))
+    square::minus(part::square_a(table, new), part::square_a(table, old))
 }
 
 // To P: none where nothing is stored.
-pub fn stored(table: &[u32], row: usize, new: [u32; 6]) -> [[i64; 3]; 3]
+pub fn stored(table: &[u32], row: usize, new: [u32; 6]) -> [[i64; 4]; 4]
     requires { ⌜ Changes (now table) row new ⌝ }
-    ensures { λ r. ⌜ r ≡ squareOf 3 (λ i j. squareP (partFor (now (table .entry)) new) i j -ℤ squareP (partFor (now (table .entry)) (rowAt (now (table .entry)) row)) i j) ⌝ }
+    ensures { λ r. ⌜ r ≡ squareOf 4 (λ i j. squareP (partFor (now (table .entry)) new) i j -ℤ squareP (partFor (now (table .entry)) (rowAt (now (table .entry)) row)) i j) ⌝ }
 {
     let old = element::card_at(table, row);
-    let is = triangle::mass(part::stored(table, new));
-    triangle::minus(is, triangle::mass(part::stored(table, old)))
+    square::minus(part::square_p(table, new), part::square_p(table, old))
 }
 
 // ---- writing
 
 // P and A, at the same corners.
-pub fn matrices(p: &mut [i64], a: &mut [i64], c: Corners, u: [[i64; 3]; 3], q: [[i64; 3]; 3])
+pub fn matrices(p: &mut [i64], a: &mut [i64], c: Corners, u: [[i64; 4]; 4], q: [[i64; 4]; 4])
     requires { ⌜ Takes (c .count) (now p) (numbers (c .nodes)) u × Takes (c .count) (now a) (numbers (c .nodes)) q ⌝ }
     ensures { λ _. ⌜ now (p .exit) ≡ addSquare (c .count) (now (p .entry)) (numbers (c .nodes)) (at u) ⌝ }
     ensures { λ _. ⌜ now (a .exit) ≡ addSquare (c .count) (now (a .entry)) (numbers (c .nodes)) (at q) ⌝ }

@@ -8,23 +8,13 @@ use native.Mathlib.Omega.{arith}
 use borrow.Rule.Slice.PartMut.{putMid}
 use lib.ListN.{length, take, drop, take-append-drop}
 use Rattle.whole.proofs.Lists.{put-next}
-use Rattle.paper.specs.Kinds.{aboutOf}
 use Rattle.paper.specs.Text.{cardOf}
-use Rattle.paper.specs.Judge.{full, judgeOne, judgeCard}
 use Rattle.paper.specs.Calls.{joined, cardAt}
-use Rattle.paper.specs.declared.About.{About}
-use Rattle.paper.specs.declared.Counts.{Counts}
 
-pub lent : (b : List ℕ) (start i : ℕ) → cardOf (take (start + i * 42 + 42 - (start + i * 42)) (drop (start + i * 42) b)) ≡ cardAt b start i
-lent b start i =
+pub lent : (solid : Bool) (b : List ℕ) (start i : ℕ) → cardOf solid (take (start + i * 42 + 42 - (start + i * 42)) (drop (start + i * 42) b)) ≡ cardAt solid b start i
+lent solid b start i =
     let e : start + i * 42 + 42 - (start + i * 42) ≡ 42 = omega arith in
     rw e
-
--- the judge of a card that was read is the judge of the text's
-pub read-card : (z : Counts) (b : List ℕ) (start i p key : ℕ) {card : List ℕ} {crowded : Bool} {a : About} → card ≡ cardAt b start i
-    → crowded ≡ full (cardAt b start) i a → a ≡ aboutOf (cardAt b start i) → judgeOne z i p key crowded card ≡ judgeCard z (cardAt b start) i p key
-read-card z b start i p key e f q =
-    (λ j. judgeOne z i p key (f j) (e j)) ∙ ap (λ (a : About). judgeOne z i p key (full (cardAt b start) i a) (cardAt b start i)) q
 
 module _ (piece : ℕ → List ℕ) (w n i : ℕ) where
   pub rows-more : (out ys whole : List ℕ) → i < n → i * w + w ≤ length out → length ys ≡ w → ys ≡ piece i → (i + 1) * w ≡ i * w + w

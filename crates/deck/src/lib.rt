@@ -2,15 +2,20 @@
 use paper::About;
 use paper::Answer;
 use paper::Counts;
+use paper::Kind;
 use paper::Refusal;
 ghost use mathlib.Core.Path.{_≡_};
+ghost use mathlib.Core.Bool.{_&&_};
 ghost use mathlib.Core.List.{List, _++_};
-ghost use Prim.Native.Nat.{ℕ, _+_, _*_, _≤_, _<_};
-ghost use lib.ListN.{length, drop};
+ghost use Prim.Native.Nat.{ℕ, _+_, _-_, _*_, _≤_, _<_};
+ghost use lib.Dec.{leb, eqb};
+ghost use lib.ListN.{length, getD, take, drop};
 ghost use denote.Ref.{ptr};
-ghost use Rattle.paper.specs.Cards.{mostRows};
-ghost use Rattle.paper.specs.Judge.{full, judgeFrom};
+ghost use Rattle.paper.specs.Cards.{countsOf, countsAt, mostRows};
+ghost use Rattle.paper.specs.Text.{cardOf};
+ghost use Rattle.paper.specs.Judge.{asks, judgeCard, judgeFrom};
 ghost use Rattle.paper.specs.Calls as paper;
+ghost use Rattle.deck.specs.Asks.{Asking, Reached};
 
 // The most bytes that are read.
 pub const BYTES: usize = 65_536;
@@ -21,8 +26,8 @@ pub const NUMBERS: usize = cards::MOST_ROWS * 6;
 // ---- the writer
 
 // The bytes of the first rows of a table.
-fn cards_to(t: &[u32], rows: usize, bytes: &mut [u8])
-    requires { ⌜ (rows * 6 ≤ length (now t)) × (rows * 42 ≤ length (now bytes)) × (rows ≤ mostRows) ⌝ }
+fn cards_to(solid: bool, t: &[u32], rows: usize, bytes: &mut [u8])
+    requires { ⌜ (solid ≡ countsAt (now t) .solid) × (rows * 6 ≤ length (now t)) × (rows * 42 ≤ length (now bytes)) × (rows ≤ mostRows) ⌝ }
     ensures { λ r. ⌜ now (bytes .exit) ≡ paper.joined (paper.textAt (now (t .entry))) rows 0 ++ drop (rows * 42) (now (bytes .entry)) ⌝ }
 {
     let mut i = 0;
@@ -31,7 +36,7 @@ fn cards_to(t: &[u32], rows: usize, bytes: &mut [u8])
         let to = from + 6;
         let at = i * 42;
         let end = at + 42;
-        text::card_to(&t[from..to], &mut bytes[at..end]);
+        text::card_to(solid, &t[from..to], &mut bytes[at..end]);
         i += 1;
     }
 }
@@ -48,31 +53,120 @@ pub fn write(table: &[u32], bytes: &mut [u8]) -> Answer
     if bytes.len() < rows * 42 {
         return Answer::Refused(Refusal::Short);
     }
-    cards_to(table, rows, bytes);
+    cards_to(cards::counts_at(table).solid, table, rows, bytes);
     Answer::Done
 }
 
 // ---- the reader
 
-// Whether as many cards of a kind as there may be stand before card i of a text: the card so many before it is read again.
+// The card from a byte on.
+fn card_from(solid: bool, s: &[u8], at: usize) -> [u32; 6]
+    requires { ⌜ at + 42 ≤ length (now s) ⌝ }
+    ensures { λ r. ⌜ r ≡ cardOf solid (take 42 (drop at (now (s .entry)))) ⌝ }
+{
+    let mut card = [0u32; 6];
+    let end = at + 42;
+    text::card_of(solid, &s[at..end], &mut card);
+    card
+}
+
+// The letter of the card in a row of a part: its first byte, where it is not malformed.
+fn letter(s: &[u8], start: usize, row: usize) -> u32
+    requires { ⌜ start + row * 42 < length (now s) ⌝ }
+    ensures { λ r. ⌜ r ≡ getD (now (s .entry)) (start + row * 42) 0 ⌝ }
+{
+    s[start + row * 42] as u32
+}
+
+// Whether as many cards of a kind as there may be stand before card i of a part.
 fn is_full(s: &[u8], start: usize, i: usize, a: About) -> bool
     requires { ⌜ start + i * 42 + 42 ≤ length (now s) ⌝ }
-    ensures { λ r. ⌜ r ≡ full (paper.cardAt (now (s .entry)) start) i a ⌝ }
+    ensures { λ r. ⌜ r ≡ (leb (a .most) i && eqb (getD (now (s .entry)) (start + (i - a .most) * 42) 0) (a .letter)) ⌝ }
 {
     if i < a.most {
         return false;
     }
-    let mut card = [0u32; 6];
-    let at = start + (i - a.most) * 42;
-    let end = at + 42;
-    text::card_of(&s[at..end], &mut card);
-    card[0] == a.letter
+    letter(s, start, i - a.most) == a.letter
 }
 
-// The cards of a text in turn.
+// The height of the node in a row.
+fn height(solid: bool, s: &[u8], start: usize, row: usize) -> u32
+    requires { ⌜ start + row * 42 + 42 ≤ length (now s) ⌝ }
+    ensures { λ r. ⌜ r ≡ getD (paper.cardAt solid (now (s .entry)) start row) 3 0 ⌝ }
+{
+    let node = card_from(solid, s, start + row * 42);
+    node[3]
+}
+
+// Whether an E's nodes have one height. They are read again, and in a solid deck only: in a flat one they do.
+fn is_level(counts: Counts, s: &[u8], start: usize, card: &[u32]) -> bool
+    requires { ⌜ Asking counts (now s) start (now card) Kind.E ⌝ }
+    ensures { λ r. ⌜ r ≡ asks counts (paper.cardAt (counts .solid) (now (s .entry)) start) (now (card .entry)) Kind.E ⌝ }
+{
+    let solid = counts.solid;
+    if !solid {
+        return true;
+    }
+    let h = height(solid, s, start, card[1] as usize);
+    if h != height(solid, s, start, card[2] as usize) {
+        return false;
+    }
+    h == height(solid, s, start, card[3] as usize)
+}
+
+// Whether an F names a triangle.
+fn on_triangle(counts: Counts, s: &[u8], start: usize, card: &[u32]) -> bool
+    requires { ⌜ Asking counts (now s) start (now card) Kind.F ⌝ }
+    ensures { λ r. ⌜ r ≡ asks counts (paper.cardAt (counts .solid) (now (s .entry)) start) (now (card .entry)) Kind.F ⌝ }
+{
+    let row = kinds::cards_before(counts, kinds::about(Kind::E).section) + card[1] as usize - 1;
+    letter(s, start, row) == kinds::about(Kind::E).letter
+}
+
+// What a card asks of those before it.
+fn asks_part(counts: Counts, s: &[u8], start: usize, k: Kind, card: &[u32]) -> bool
+    requires { ⌜ Asking counts (now s) start (now card) k ⌝ }
+    ensures { λ r. ⌜ r ≡ asks counts (paper.cardAt (counts .solid) (now (s .entry)) start) (now (card .entry)) k ⌝ }
+{
+    let l = kinds::about(k).letter;
+    if l == kinds::about(Kind::E).letter {
+        return is_level(counts, s, start, card);
+    }
+    if l == kinds::about(Kind::F).letter {
+        return on_triangle(counts, s, start, card);
+    }
+    true
+}
+
+// Card i of a part, of kind k, as it was read.
+fn judge_read(
+    counts: Counts,
+    s: &[u8],
+    start: usize,
+    i: usize,
+    group: u32,
+    key: u64,
+    k: Kind,
+    card: &[u32],
+) -> Answer
+    requires { ⌜ Reached counts (now s) start i group key k (now card) ⌝ }
+    ensures { λ r. ⌜ r ≡ judgeCard counts (paper.cardAt (counts .solid) (now (s .entry)) start) i group key ⌝ }
+{
+    let crowded = is_full(s, start, i, kinds::about(k));
+    let answer = cards::judge_card(counts, i, group, key, crowded, k, card);
+    let Answer::Done = answer else {
+        return answer;
+    };
+    if !asks_part(counts, s, start, k, card) {
+        return Answer::Refused(Refusal::Range((i + 1) as u32));
+    }
+    Answer::Done
+}
+
+// The cards of a part in turn.
 fn judge_text(counts: Counts, s: &[u8], start: usize, rows: usize) -> Answer
     requires { ⌜ (start + rows * 42 ≤ length (now s)) × (rows ≤ mostRows) ⌝ }
-    ensures { λ r. ⌜ r ≡ judgeFrom counts (paper.cardAt (now (s .entry)) start) rows 0 0 0 ⌝ }
+    ensures { λ r. ⌜ r ≡ judgeFrom counts (paper.cardAt (counts .solid) (now (s .entry)) start) rows 0 0 0 ⌝ }
 {
     let mut card = [0u32; 6];
     let mut i = 0;
@@ -81,13 +175,13 @@ fn judge_text(counts: Counts, s: &[u8], start: usize, rows: usize) -> Answer
     while i < rows {
         let at = start + i * 42;
         let end = at + 42;
-        text::card_of(&s[at..end], &mut card);
+        text::card_of(counts.solid, &s[at..end], &mut card);
         let k = kinds::kind(card[0]);
-        let a = kinds::about(k);
-        let answer = cards::judge_card(counts, i, group, key, is_full(s, start, i, a), k, &card);
+        let answer = judge_read(counts, s, start, i, group, key, k, &card);
         let Answer::Done = answer else {
             return answer;
         };
+        let a = kinds::about(k);
         group = a.order;
         key = cards::rank(a, &card);
         i += 1;
@@ -110,16 +204,20 @@ fn reads_from(s: &[u8], room: usize, counts: Counts, start: usize, rows: usize) 
     Answer::Done
 }
 
-// The last 42 bytes as a card.
+// The last 42 bytes as a card: a Z is read alike in every deck.
 fn last_card(s: &[u8]) -> [u32; 6]
     requires { ⌜ 42 ≤ length (now s) ⌝ }
     ensures { λ r. ⌜ r ≡ paper.lastCard (now (s .entry)) ⌝ }
 {
-    let n = s.len();
-    let at = n - 42;
-    let mut card = [0u32; 6];
-    text::card_of(&s[at..n], &mut card);
-    card
+    card_from(false, s, s.len() - 42)
+}
+
+// What a Z counts, by the letters of the part from start on.
+fn counts_in(s: &[u8], start: usize, z: &[u32]) -> Counts
+    requires { ⌜ (length (now z) ≡ 6) × (start + (getD (now z) 2 0 + getD (now z) 3 0 + getD (now z) 4 0) * 42 < length (now s)) ⌝ }
+    ensures { λ r. ⌜ r ≡ countsOf (now (z .entry)) (λ i. getD (now (s .entry)) (start + i * 42) 0) ⌝ }
+{
+    kinds::counts_of(z, letter(s, start, kinds::last_element(z)))
 }
 
 // The judge of bytes for a table of `room` numbers.
@@ -141,13 +239,14 @@ fn reads_of(s: &[u8], room: usize) -> Answer
     if last < back {
         return Answer::Refused(Refusal::Trailer);
     }
-    reads_from(s, room, kinds::counts_of(&z), last - back, back / 42)
+    let start = last - back;
+    reads_from(s, room, counts_in(s, start, &z), start, back / 42)
 }
 
 // The rows of a text into the front of a table. They are read a second time here, since a refusal may write nothing.
-fn rows_to(s: &[u8], start: usize, rows: usize, table: &mut [u32])
+fn rows_to(solid: bool, s: &[u8], start: usize, rows: usize, table: &mut [u32])
     requires { ⌜ (start + rows * 42 ≤ length (now s)) × (rows * 6 ≤ length (now table)) × (rows ≤ mostRows) ⌝ }
-    ensures { λ r. ⌜ now (table .exit) ≡ paper.joined (paper.cardAt (now (s .entry)) start) rows 0 ++ drop (rows * 6) (now (table .entry)) ⌝ }
+    ensures { λ r. ⌜ now (table .exit) ≡ paper.joined (paper.cardAt solid (now (s .entry)) start) rows 0 ++ drop (rows * 6) (now (table .entry)) ⌝ }
 {
     let mut i = 0;
     while i < rows {
@@ -155,7 +254,7 @@ fn rows_to(s: &[u8], start: usize, rows: usize, table: &mut [u32])
         let to = from + 42;
         let at = i * 6;
         let end = at + 6;
-        text::card_of(&s[from..to], &mut table[at..end]);
+        text::card_of(solid, &s[from..to], &mut table[at..end]);
         i += 1;
     }
 }
@@ -172,7 +271,13 @@ fn taken<'a>(bytes: &'a [u8], table: &mut [u32]) -> &'a [u8]
     let back = z[1] as usize;
     let last = n - 42;
     let start = last - back;
-    rows_to(bytes, start, back / 42 + 1, table);
+    rows_to(
+        counts_in(bytes, start, &z).solid,
+        bytes,
+        start,
+        back / 42 + 1,
+        table,
+    );
     &bytes[start..n]
 }
 

@@ -10,9 +10,10 @@ use borrow.Author.Tests.{le-leb, lt-leb}
 use Rattle.whole.specs.Largest.{climb, squared, root}
 use Rattle.whole.proofs.Linear.{zarith, split, minusL}
 use Rattle.whole.proofs.Largest.{Root, root-is, squares-rise}
-use Rattle.paper.specs.Corners.{Shape, from}
+use Rattle.paper.specs.Corners.{from}
+use Rattle.paper.specs.Tetrahedron.{Space}
 use Rattle.paper.specs.Edge.{length², edgeFilm}
-use Rattle.laws.proofs.Edge.{OnGrid, Ranges, reach, halves, along, length-most, reach-most, nearest-is}
+use Rattle.laws.proofs.Edge.{OnGrid, Ranges, reach, halves, grid-most, reach-most, nearest-is}
 use Rattle.edge.specs.Asks.{Small}
 
 -- ---- the length
@@ -20,22 +21,16 @@ use Rattle.edge.specs.Asks.{Small}
 pub apart-is : (a b : ℕ) → natAbs (pos b -ℤ pos a) ≡ (a - b) + (b - a)
 apart-is a b = omega (zarith, minusL (pos b) (pos a), split (pos b -ℤ pos a))
 
--- what two differences make
-pub record Legs (s : Shape) (x y : ℕ) : Type 0 where
-  pub x-most : squared x ≤ 16769025
-  pub y-most : squared y ≤ 16769025
-  pub sum-is : squared x + squared y ≡ length² s
+-- what three differences make
+pub record Legs (s : Space) (x y z : ℕ) : Type 0 where
+  pub sum-is : squared x + squared y + squared z ≡ length² s
+  pub sum-most : squared x + squared y + squared z ≤ 33538050
 
-pub legs : (s : Shape) (x y : ℕ) → OnGrid s → x ≡ natAbs (from (s .xs) 0 1) → y ≡ natAbs (from (s .ys) 0 1) → Legs s x y
-unfolding length²
-legs s x y p ex ey =
-    let a = p 0 (omega arith) in
-    let b = p 1 (omega arith) in
-    record {
-      x-most = omega (arith, ap squared ex, along (s .xs) (a .0) (b .0));
-      y-most = omega (arith, ap squared ey, along (s .ys) (a .1) (b .1));
-      sum-is = λ i. squared (ex i) + squared (ey i);
-    }
+pub legs : (s : Space) (x y z : ℕ) → OnGrid s → x ≡ natAbs (from (s .shape .xs) 0 1) → y ≡ natAbs (from (s .shape .ys) 0 1) → z ≡ natAbs (from (s .zs) 0 1) → Legs s x y z
+legs s x y z p ex ey ez = record { sum-is = is; sum-most = omega (arith, is, grid-most p) }
+  where
+    is : squared x + squared y + squared z ≡ length² s
+    is = unfold length² in λ i. squared (ex i) + squared (ey i) + squared (ez i)
 
 -- ---- the loop of `root`: what is left to climb, from s by k bits, is the whole root
 
@@ -120,19 +115,19 @@ fit {film} {t} {l} r =
       low-most = mul-le-mul {m₂ = 60000000} a (omega arith);
     }
 
-pub small-of : {film t : ℕ} {s : Shape} (l : ℕ) → Ranges film t s → l ≡ length² s → Small film t l
-small-of l r e = record { film-most = r .film-most; t-most = r .t-most; l-most = omega (arith, length-most r) }
+pub small-of : {film t : ℕ} {s : Space} (l : ℕ) → Ranges film t s → l ≡ length² s → Small film t l
+small-of l r e = record { film-most = r .film-most; t-most = r .t-most; l-most = omega (arith, grid-most (r .on-grid)) }
 
 -- ---- from the root to g
 
-pub quotient-small : {film t : ℕ} {s : Shape} → Ranges film t s → reach film t s / squared 60000000 < 2 ^ 32
+pub quotient-small : {film t : ℕ} {s : Space} → Ranges film t s → reach film t s / squared 60000000 < 2 ^ 32
 quotient-small r = omega (arith, reach-most r)
 
 halves-are : (n : ℕ) → halves n ≡ squared n * squared 60000000
 halves-are n = mul-assoc n 60000000 (n * 60000000) ∙ ap (λ (x : ℕ). n * x) (mul-left-comm 60000000 n 60000000) ∙ sym (mul-assoc n n (squared 60000000))
 
 -- the whole root of the quotient, made one more and halved
-pub by-root : {film t : ℕ} {s : Shape} → Ranges film t s → (root (reach film t s / squared 60000000) + 1) / 2 ≡ edgeFilm film t s
+pub by-root : {film t : ℕ} {s : Space} → Ranges film t s → (root (reach film t s / squared 60000000) + 1) / 2 ≡ edgeFilm film t s
 by-root {film} {t} {s} r = go (root v) (root-is v (quotient-small r))
   where
     v : ℕ

@@ -7,7 +7,7 @@ ghost use Rattle.whole.specs.Largest.{squared, root};
 ghost use Rattle.paper.specs.Corners.{from};
 ghost use Rattle.paper.specs.Edge.{length², edgeFilm};
 ghost use Rattle.laws.proofs.Edge.{OnGrid, Ranges};
-ghost use Rattle.edge.specs.Forms.{asShape};
+ghost use Rattle.edge.specs.Forms.{asSpace};
 ghost use Rattle.edge.specs.Asks.{Small};
 
 // An edge's place: its ends and their coordinates.
@@ -15,27 +15,30 @@ pub struct Edge {
     pub ends: [Node; 2],
     pub x: [u32; 2],
     pub y: [u32; 2],
+    pub z: [u32; 2],
 }
 
 // ---- its length
 
-fn apart(z: [u32; 2]) -> u32
-    ensures { λ r. ⌜ r ≡ natAbs (from z 0 1) ⌝ }
+fn apart(axis: [u32; 2]) -> u32
+    ensures { λ r. ⌜ r ≡ natAbs (from axis 0 1) ⌝ }
 {
-    let a = z[0];
-    let b = z[1];
+    let a = axis[0];
+    let b = axis[1];
     if a < b { b - a } else { a - b }
 }
 
 fn squared_length(e: Edge) -> u32
-    requires { ⌜ OnGrid (asShape e) ⌝ }
-    ensures { λ r. ⌜ r ≡ length² (asShape e) ⌝ }
+    requires { ⌜ OnGrid (asSpace e) ⌝ }
+    ensures { λ r. ⌜ r ≡ length² (asSpace e) ⌝ }
 {
     let xs = e.x;
     let ys = e.y;
+    let zs = e.z;
     let x = apart(xs);
     let y = apart(ys);
-    x * x + y * y
+    let z = apart(zs);
+    x * x + y * y + z * z
 }
 
 // ---- g
@@ -73,8 +76,8 @@ fn halves_squared(film: u32, thickness: u32, length: u32) -> u64
 }
 
 pub fn film(film: u32, thickness: u32, e: Edge) -> u64
-    requires { ⌜ Ranges film thickness (asShape e) ⌝ }
-    ensures { λ r. ⌜ r ≡ edgeFilm film thickness (asShape e) ⌝ }
+    requires { ⌜ Ranges film thickness (asSpace e) ⌝ }
+    ensures { λ r. ⌜ r ≡ edgeFilm film thickness (asSpace e) ⌝ }
 {
     (root(halves_squared(film, thickness, squared_length(e))) + 1) / 2
 }

@@ -2,21 +2,26 @@
 use edge::Edge;
 use paper::Answer;
 use paper::Element;
+use paper::Kind;
 use paper::Material;
 use paper::Node;
+use solid::Space;
+use solid::Tetrahedron;
 use triangle::Shape;
 use triangle::Triangle;
 ghost use mathlib.Core.Path.{_≡_};
-ghost use Prim.Native.Nat.{_+_, _*_, _<_, _≤_};
+ghost use mathlib.Core.List.{[], _∷_};
+ghost use Prim.Native.Nat.{_+_, _*_, _^_, _<_, _≤_};
 ghost use lib.ListN.{length, getD};
 ghost use Rattle.paper.specs.Cards.{field, rowAt, nodes, materials, elements, materialRow, elementRow};
-ghost use Rattle.paper.specs.Elements.{bodyOf, elementOf, formJudged, elementJudged};
-ghost use Rattle.paper.specs.Parts.{edgeShape};
+ghost use Rattle.paper.specs.Elements.{bodyOf, tetrahedronOf, elementOf, formJudged, elementJudged};
+ghost use Rattle.paper.specs.Parts.{edgeSpace};
 ghost use Rattle.paper.specs.Building.{elementsFrom};
 ghost use Rattle.laws.proofs.Decks.{Deck, In};
 ghost use Rattle.triangle.specs.Forms.{asShape, asBody};
-ghost use Rattle.edge.specs.Forms.{asShape as asEdge};
-ghost use Rattle.element.specs.Asks.{ElementCard, EdgeCard};
+ghost use Rattle.solid.specs.Forms.{asSpace, asTetrahedron};
+ghost use Rattle.edge.specs.Forms.{asSpace as asEdge};
+ghost use Rattle.element.specs.Asks.{isSolid, FlatCard, FourNodes, SolidCard, ElementCard, Conducts, EdgeCard};
 
 // ---- keys: each is made here alone
 
@@ -117,11 +122,11 @@ pub fn element_card(table: &[u32], e: Element) -> [u32; 6]
     card_at(table, element_row(table, e))
 }
 
-// ---- the element that a card makes
+// ---- the triangle that a card makes
 
 pub fn shape_of(table: &[u32], card: [u32; 6]) -> Shape
-    requires { ⌜ ElementCard (now table) card ⌝ }
-    ensures { λ r. ⌜ asShape r ≡ elementOf (now (table .entry)) card .shape ⌝ }
+    requires { ⌜ FlatCard (now table) card ⌝ }
+    ensures { λ r. ⌜ asShape r ≡ bodyOf (now (table .entry)) card .shape ⌝ }
 {
     let a = node(card[1]);
     let b = node(card[2]);
@@ -136,8 +141,8 @@ pub fn shape_of(table: &[u32], card: [u32; 6]) -> Shape
     }
 }
 
-pub fn triangle_of(table: &[u32], card: [u32; 6]) -> Triangle
-    requires { ⌜ ElementCard (now table) card ⌝ }
+fn triangle_of(table: &[u32], card: [u32; 6]) -> Triangle
+    requires { ⌜ FlatCard (now table) card ⌝ }
     ensures { λ r. ⌜ asBody r ≡ bodyOf (now (table .entry)) card ⌝ }
 {
     let shape = shape_of(table, card);
@@ -151,11 +156,61 @@ pub fn triangle_of(table: &[u32], card: [u32; 6]) -> Triangle
     }
 }
 
+// ---- the tetrahedron that a card makes
+
+// Field k of four nodes, by their rows.
+fn along(table: &[u32], a: usize, b: usize, c: usize, d: usize, k: usize) -> [u32; 4]
+    requires { ⌜ FourNodes (now table) a b c d × (k < 6) ⌝ }
+    ensures { λ r. ⌜ r ≡ field (now (table .entry)) a k ∷ field (now (table .entry)) b k ∷ field (now (table .entry)) c k ∷ field (now (table .entry)) d k ∷ [] ⌝ }
+{
+    [
+        field(table, a, k),
+        field(table, b, k),
+        field(table, c, k),
+        field(table, d, k),
+    ]
+}
+
+fn space_of(table: &[u32], card: [u32; 6]) -> Space
+    requires { ⌜ SolidCard (now table) card ⌝ }
+    ensures { λ r. ⌜ asSpace r ≡ tetrahedronOf (now (table .entry)) card .space ⌝ }
+{
+    let a = node(card[1]);
+    let b = node(card[2]);
+    let c = node(card[3]);
+    let d = node(card[4]);
+    let i = node_row(a);
+    let j = node_row(b);
+    let k = node_row(c);
+    let l = node_row(d);
+    Space {
+        corners: [a, b, c, d],
+        x: along(table, i, j, k, l, 1),
+        y: along(table, i, j, k, l, 2),
+        z: along(table, i, j, k, l, 3),
+    }
+}
+
+fn tetrahedron_of(table: &[u32], card: [u32; 6]) -> Tetrahedron
+    requires { ⌜ SolidCard (now table) card ⌝ }
+    ensures { λ r. ⌜ asTetrahedron r ≡ tetrahedronOf (now (table .entry)) card ⌝ }
+{
+    let space = space_of(table, card);
+    let row = material_row(table, material(card[5]));
+    Tetrahedron {
+        space: space,
+        kx: field(table, row, 1),
+        ky: field(table, row, 2),
+        kz: field(table, row, 4),
+        capacity: field(table, row, 3),
+    }
+}
+
 // ---- the edge that a card makes
 
 pub fn edge_of(table: &[u32], card: [u32; 6]) -> Edge
     requires { ⌜ EdgeCard (now table) card ⌝ }
-    ensures { λ r. ⌜ asEdge r ≡ edgeShape (now (table .entry)) card ⌝ }
+    ensures { λ r. ⌜ asEdge r ≡ edgeSpace (now (table .entry)) card ⌝ }
 {
     let a = node(card[1]);
     let b = node(card[2]);
@@ -165,7 +220,43 @@ pub fn edge_of(table: &[u32], card: [u32; 6]) -> Edge
         ends: [a, b],
         x: [field(table, i, 1), field(table, j, 1)],
         y: [field(table, i, 2), field(table, j, 2)],
+        z: [field(table, i, 3), field(table, j, 3)],
     }
+}
+
+// ---- the element that a card makes, of either kind
+
+fn is_solid(card: [u32; 6]) -> bool
+    ensures { λ r. ⌜ r ≡ isSolid card ⌝ }
+{
+    card[0] == kinds::about(Kind::V).letter
+}
+
+// What it stores.
+pub fn stored(table: &[u32], card: [u32; 6]) -> u64
+    requires { ⌜ ElementCard (now table) card ⌝ }
+    ensures { λ r. ⌜ (r ≡ elementOf (now (table .entry)) card .stored) × (r ≤ 2 ^ 37) ⌝ }
+{
+    let ms = field(table, 0, 1);
+    if is_solid(card) {
+        let e = tetrahedron_of(table, card);
+        return solid::capacity(e, solid::six_volumes(e.space), ms);
+    }
+    let e = triangle_of(table, card);
+    triangle::capacity(e, triangle::twice_area(e.shape), ms)
+}
+
+// What it conducts.
+pub fn conductance(table: &[u32], card: [u32; 6]) -> [[i64; 4]; 4]
+    requires { ⌜ ElementCard (now table) card × (1 ≤ elementOf (now table) card .size) ⌝ }
+    ensures { λ r. ⌜ Conducts (now (table .entry)) card r ⌝ }
+{
+    if is_solid(card) {
+        let e = tetrahedron_of(table, card);
+        return solid::conductance(e, solid::six_volumes(e.space));
+    }
+    let e = triangle_of(table, card);
+    square::wide(triangle::conductance(e, triangle::twice_area(e.shape)))
 }
 
 // ---- refusals 5 and 6
@@ -175,7 +266,11 @@ pub fn judge_card(table: &[u32], card: [u32; 6], e: Element) -> Answer
     requires { ⌜ ElementCard (now table) card ⌝ }
     ensures { λ r. ⌜ r ≡ formJudged (elementOf (now (table .entry)) card) (e .0) ⌝ }
 {
-    triangle::judge(triangle_of(table, card), field(table, 0, 1), e)
+    let ms = field(table, 0, 1);
+    if is_solid(card) {
+        return solid::judge(tetrahedron_of(table, card), ms, e);
+    }
+    triangle::judge(triangle_of(table, card), ms, e)
 }
 
 pub fn judge_element(table: &[u32], e: Element) -> Answer

@@ -66,7 +66,7 @@ column-asks {xs} {s} {i} {j} row e h = record {
     room = omega (arith, row .room);
     inside = omega (arith, tri-below j i h, row .room, row .start, e);
     wroom = omega (arith, row .wroom);
-    x50 = row .fresh (s + j) (omega arith);
+    x62 = row .fresh (s + j) (omega arith);
     ls24 = rw e (λ k l. row .finished .lows j k h l);
     ws38 = row .ws38;
   };
@@ -81,7 +81,7 @@ end-asks {s} {i} row = record {
   room = row .room;
   inside = row .room;
   wroom = row .wroom;
-  x50 = row .fresh (s + i) (omega arith);
+  x62 = row .fresh (s + i) (omega arith);
   ls24 = rw (row .start) (row .finished .row);
   ws38 = row .ws38;
 }

@@ -19,9 +19,9 @@ use Rattle.paper.specs.declared.Refusal.the-variants.{Bound}
 abbrev pub Within : ℕ → ℕ → (ℕ → ℤ) → Type 0
 Within b n f = (k : ℕ) → k < n → natAbs (f k) ≤ 2 ^ b
 
--- the numbers from place p on are a matrix's: a replacement over foreign slices makes about 2^47, and this leaves room
+-- the numbers from place p on are a matrix's: a replacement of a tetrahedron over foreign slices makes up to ten times 2^58
 abbrev pub Fresh : List ℤ → ℕ → Type 0
-Fresh xs p = (q : ℕ) → p ≤ q → natAbs (cell xs q) ≤ 2 ^ 50
+Fresh xs p = (q : ℕ) → p ≤ q → natAbs (cell xs q) ≤ 2 ^ 62
 
 -- rows m to n of a matrix, below m rows that refusal 10 passes
 pub record Ready (xs : List ℤ) (m n : ℕ) : Type 0 where
@@ -45,7 +45,7 @@ pub record Entry (xs ws : List ℤ) (s at j : ℕ) : Type 0 where
   pub room : s + j < length xs
   pub inside : at + j < length xs
   pub wroom : j ≤ length ws
-  pub x50 : natAbs (cell xs (s + j)) ≤ 2 ^ 50
+  pub x62 : natAbs (cell xs (s + j)) ≤ 2 ^ 62
   pub ls24 : Within 24 j (λ k. cell xs (at + k))
   pub ws38 : Within 38 j (cell ws)
 

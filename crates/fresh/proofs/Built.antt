@@ -98,8 +98,8 @@ whole-ready {k} t xs s e q = subst (λ (n : ℕ). Ready xs 0 n × (length xs ≡
     few = s .deck .someN .1;
     room = omega (arith, ap length e, length-lower (nodes t) (cleared (fixed t) (A t)));
     above = refl;
-    fresh = λ q l. subst (λ (z : List ℤ). natAbs (cell z q) ≤ 2 ^ 50) (sym e)
-        (lower-size (nodes t) (2 ^ 50) (cleared (fixed t) (A t)) (cleared-size (2 ^ 50) (fixed t) (A t) (omega arith) (λ i j. omega (arith, part-A t (s .deck) (s .passed) (rows t) i j (omega arith)))) q);
+    fresh = λ q l. subst (λ (z : List ℤ). natAbs (cell z q) ≤ 2 ^ 62) (sym e)
+        (lower-size (nodes t) (2 ^ 62) (cleared (fixed t) (A t)) (cleared-size (2 ^ 62) (fixed t) (A t) (omega arith) (λ i j. omega (arith, part-A t (s .deck) (s .passed) (rows t) i j (omega arith)))) q);
   },
   ap length e ∙ length-lower (nodes t) (cleared (fixed t) (A t)),
 )

@@ -1,6 +1,6 @@
 -- Each kind's columns as the code lays them out, and a card's tests over them.
 use mathlib.Core.Path.{_≡_, refl, sym, ap, _∙_}
-use mathlib.Core.Bool.{true, false}
+use mathlib.Core.Bool.{Bool, true, false, cond}
 use mathlib.Core.List.{List, [], _∷_}
 use Prim.Native.Nat.{ℕ, suc, _+_, _-_, _*_, _≤_, _<_}
 use native.Mathlib.Numerals.{add-one}
@@ -8,18 +8,44 @@ use native.Mathlib.Omega.{arith}
 use borrow.Author.Tests.{le-leb, lt-leb}
 use lib.ListN.{length, getD}
 use Rattle.paper.specs.Kinds.{ends, kindAt}
-use Rattle.paper.specs.Cards.{Column, before, columns, columnsOf, used, zeros, inRange}
+use Rattle.paper.specs.Cards.{Column, _⋯_, blankOr, before, columns, columnsOf, used, zeros, inRange}
 use Rattle.paper.specs.Judge.{clean}
 use Rattle.laws.proofs.Judging.{clean-start}
 use Rattle.paper.specs.declared.Counts.{Counts}
 use Rattle.paper.specs.declared.Kind.{Kind}
-use Rattle.paper.specs.declared.Kind.the-variants.{D, N, M, E, H, F, G, T, Z, Other}
+use Rattle.paper.specs.declared.Kind.the-variants.{D, N, M, E, «V», H, F, G, T, Z, Other}
 use Rattle.kinds.specs.Laid.{columnsAs, laid, inBounds}
 use Rattle.kinds.specs.declared.Columns.{Columns}
 
 module _ (z : Counts) where
   pub laid-as : {k k′ : Kind} → k ≡ k′ → laid (columns z k′) ≡ laid (columns z k)
   laid-as e = ap (λ (k : Kind). laid (columns z k)) (sym e)
+
+  pub laid-N : {reach depth : ℕ} → reach ≡ cond (z .solid) 1023 4095 → depth ≡ cond (z .solid) 1023 0
+      → columnsAs 3 (0 ∷ 0 ∷ 0 ∷ 0 ∷ 0 ∷ []) (reach ∷ reach ∷ depth ∷ 0 ∷ 0 ∷ []) ≡ laid (columns z N)
+  unfolding laid columns
+  laid-N r d =
+      (λ i. columnsAs 3 (0 ∷ 0 ∷ 0 ∷ 0 ∷ 0 ∷ []) (r i ∷ r i ∷ d i ∷ 0 ∷ 0 ∷ [])) ∙ go (z .solid)
+    where
+      of : Bool → List Column
+      of b = let reach : Column = cond b (0 ⋯ 1023) (0 ⋯ 4095) in reach ∷ reach ∷ cond b reach (blankOr 0) ∷ []
+
+      go : (b : Bool) → columnsAs 3 (0 ∷ 0 ∷ 0 ∷ 0 ∷ 0 ∷ []) (cond b 1023 4095 ∷ cond b 1023 4095 ∷ cond b 1023 0 ∷ 0 ∷ 0 ∷ []) ≡ laid (of b)
+      go true = refl
+      go false = refl
+
+  pub laid-M : {some down : ℕ} → some ≡ cond (z .solid) 1 0 → down ≡ cond (z .solid) 500000 0
+      → columnsAs 4 (1 ∷ 1 ∷ 1 ∷ some ∷ 0 ∷ []) (500000 ∷ 500000 ∷ 5000 ∷ down ∷ 0 ∷ []) ≡ laid (columns z M)
+  unfolding laid columns
+  laid-M s d =
+      (λ i. columnsAs 4 (1 ∷ 1 ∷ 1 ∷ s i ∷ 0 ∷ []) (500000 ∷ 500000 ∷ 5000 ∷ d i ∷ 0 ∷ [])) ∙ go (z .solid)
+    where
+      of : Bool → List Column
+      of b = (1 ⋯ 500000) ∷ (1 ⋯ 500000) ∷ (1 ⋯ 5000) ∷ cond b (1 ⋯ 500000) (blankOr 0) ∷ []
+
+      go : (b : Bool) → columnsAs 4 (1 ∷ 1 ∷ 1 ∷ cond b 1 0 ∷ 0 ∷ []) (500000 ∷ 500000 ∷ 5000 ∷ cond b 500000 0 ∷ 0 ∷ []) ≡ laid (of b)
+      go true = refl
+      go false = refl
 
   pub laid-Z : {b : ℕ} → b ≡ before z ends → columnsAs 5 (42 * b ∷ 3 ∷ 1 ∷ 1 ∷ 0 ∷ []) (42 * b ∷ 96 ∷ 8 ∷ 160 ∷ 576 ∷ []) ≡ laid (columns z Z)
   unfolding laid columns
@@ -36,6 +62,7 @@ used-any z D = refl
 used-any z N = refl
 used-any z M = refl
 used-any z E = refl
+used-any z «V» = refl
 used-any z H = refl
 used-any z F = refl
 used-any z G = refl
@@ -49,6 +76,7 @@ used-few D = omega arith
 used-few N = omega arith
 used-few M = omega arith
 used-few E = omega arith
+used-few «V» = omega arith
 used-few H = omega arith
 used-few F = omega arith
 used-few G = omega arith

@@ -9,7 +9,7 @@ use Rattle.paper.specs.Cards.{before}
 use Rattle.paper.specs.declared.About.{About}
 use Rattle.paper.specs.declared.Counts.{Counts}
 use Rattle.paper.specs.declared.Kind.{Kind}
-use Rattle.paper.specs.declared.Kind.the-variants.{D, N, M, E, H, F, G, T, Z, Other}
+use Rattle.paper.specs.declared.Kind.the-variants.{D, N, M, E, «V», H, F, G, T, Z, Other}
 
 module _ (z : Counts) where
   pub cards-are : before z ends ≡ 1 + z .nodes + z .materials + z .elements + z .loads
@@ -39,6 +39,7 @@ small D = record { letter = omega arith; section = omega arith; keeps = omega ar
 small N = record { letter = omega arith; section = omega arith; keeps = omega arith }
 small M = record { letter = omega arith; section = omega arith; keeps = omega arith }
 small E = record { letter = omega arith; section = omega arith; keeps = omega arith }
+small «V» = record { letter = omega arith; section = omega arith; keeps = omega arith }
 small H = record { letter = omega arith; section = omega arith; keeps = omega arith }
 small F = record { letter = omega arith; section = omega arith; keeps = omega arith }
 small G = record { letter = omega arith; section = omega arith; keeps = omega arith }

@@ -4,11 +4,12 @@ use paper::Counts;
 use paper::Kind;
 use paper::Ticks;
 ghost use mathlib.Core.Path.{_≡_};
-ghost use Prim.Native.Nat.{_+_, _-_, _≤_};
-ghost use lib.ListN.{length};
+ghost use mathlib.Core.Bool.{cond};
+ghost use Prim.Native.Nat.{ℕ, _+_, _-_, _^_, _≤_, _<_};
+ghost use lib.ListN.{length, getD};
 ghost use Rattle.paper.specs.Kinds as kinds;
 ghost use Rattle.paper.specs.Cards as cards;
-ghost use Rattle.kinds.specs.Laid.{columnsAs, laid, inBounds};
+ghost use Rattle.kinds.specs.Laid.{columnsAs, laid, blankAt, inBounds};
 
 // ---- kinds
 
@@ -20,6 +21,8 @@ const N: u32 = 78;
 const M: u32 = 77;
 
 const E: u32 = 69;
+
+const V: u32 = 86;
 
 const H: u32 = 72;
 
@@ -49,6 +52,7 @@ pub fn kind(letter: u32) -> Kind
         N => Kind::N,
         M => Kind::M,
         E => Kind::E,
+        V => Kind::V,
         H => Kind::H,
         F => Kind::F,
         G => Kind::G,
@@ -80,12 +84,13 @@ pub fn about(k: Kind) -> About
         Kind::N => line(N, 1, 1, 0, 0, MANY),
         Kind::M => line(M, 2, 2, 0, 0, MANY),
         Kind::E => line(E, 3, BODIES, 3, 0, MANY),
-        Kind::H => line(H, 4, LOADS, 1, 1, MANY),
-        Kind::F => line(F, 5, LOADS, 1, 1, MANY),
-        Kind::G => line(G, 6, LOADS, 2, 2, 160),
-        Kind::T => line(T, 7, LOADS, 1, 1, MANY),
-        Kind::Z => line(Z, 8, ENDS, 0, 0, MANY),
-        Kind::Other => line(0, 9, 6, 0, 0, MANY),
+        Kind::V => line(V, 4, BODIES, 4, 0, MANY),
+        Kind::H => line(H, 5, LOADS, 1, 1, MANY),
+        Kind::F => line(F, 6, LOADS, 1, 1, MANY),
+        Kind::G => line(G, 7, LOADS, 2, 2, 160),
+        Kind::T => line(T, 8, LOADS, 1, 1, MANY),
+        Kind::Z => line(Z, 9, ENDS, 0, 0, MANY),
+        Kind::Other => line(0, 10, 6, 0, 0, MANY),
     }
 }
 
@@ -129,6 +134,13 @@ fn laid_out(used: usize, least: [u64; 5], most: [u64; 5]) -> Columns
     }
 }
 
+// A limit of a solid deck, or of a flat one.
+fn pick(solid: bool, a: u64, b: u64) -> u64
+    ensures { λ r. ⌜ r ≡ cond solid a b ⌝ }
+{
+    if solid { a } else { b }
+}
+
 pub fn columns_of(counts: Counts, k: Kind) -> Columns
     ensures { λ r. ⌜ r ≡ laid (cards.columns counts k) ⌝ }
 {
@@ -136,11 +148,16 @@ pub fn columns_of(counts: Counts, k: Kind) -> Columns
     let n = counts.nodes as u64;
     let m = counts.materials as u64;
     let e = counts.elements as u64;
+    let reach = pick(counts.solid, 1_023, 4_095);
+    let depth = pick(counts.solid, 1_023, 0);
+    let some = pick(counts.solid, 1, 0);
+    let down = pick(counts.solid, 500_000, 0);
     match k {
         Kind::D => laid_out(3, [1, 0, 1, 0, 0], [60_000, top, 100_000, 0, 0]),
-        Kind::N => laid_out(2, [0, 0, 0, 0, 0], [4_095, 4_095, 0, 0, 0]),
-        Kind::M => laid_out(3, [1, 1, 1, 0, 0], [500_000, 500_000, 5_000, 0, 0]),
+        Kind::N => laid_out(3, [0, 0, 0, 0, 0], [reach, reach, depth, 0, 0]),
+        Kind::M => laid_out(4, [1, 1, 1, some, 0], [500_000, 500_000, 5_000, down, 0]),
         Kind::E => laid_out(5, [1, 1, 1, 1, 1], [n, n, n, m, 4_000]),
+        Kind::V => laid_out(5, [1, 1, 1, 1, 1], [n, n, n, n, m]),
         Kind::H => laid_out(2, [1, 1, 0, 0, 0], [e, 5_000_000, 0, 0, 0]),
         Kind::F => laid_out(3, [1, 1, 0, 0, 0], [e, 100_000, top, 0, 0]),
         Kind::G => laid_out(5, [1, 1, 1, 0, 1], [n, n, 100_000, top, 4_000]),
@@ -162,22 +179,62 @@ pub fn used_of(k: Kind) -> usize
         materials: 0,
         elements: 0,
         loads: 0,
+        solid: false,
     };
     columns_of(none, k).used
 }
 
 // ---- a card's numbers
 
-// What Z counts.
-pub fn counts_of(card: &[u32]) -> Counts
+// The field, counted from 0, that may be blank in a flat deck: a node's z and a material's kz; 5 where none may.
+fn blank_at(k: Kind) -> usize
+    ensures { λ r. ⌜ r ≡ blankAt k ⌝ }
+{
+    match k {
+        Kind::D => 5,
+        Kind::N => 2,
+        Kind::M => 3,
+        Kind::E => 5,
+        Kind::V => 5,
+        Kind::H => 5,
+        Kind::F => 5,
+        Kind::G => 5,
+        Kind::T => 5,
+        Kind::Z => 5,
+        Kind::Other => 5,
+    }
+}
+
+// Whether a field may be blank.
+pub fn may_blank(solid: bool, k: Kind, field: usize) -> bool
+    requires { ⌜ field < 5 ⌝ }
+    ensures { λ r. ⌜ r ≡ cards.mayBlank solid k field ⌝ }
+{
+    if solid {
+        return false;
+    }
+    field == blank_at(k)
+}
+
+// The row of the last element that Z counts, whose letter tells whether the deck is solid.
+pub fn last_element(card: &[u32]) -> usize
     requires { ⌜ length (now card) ≡ 6 ⌝ }
-    ensures { λ r. ⌜ r ≡ cards.countsOf (now (card .entry)) ⌝ }
+    ensures { λ r. ⌜ (r ≡ getD (now (card .entry)) 2 0 + getD (now (card .entry)) 3 0 + getD (now (card .entry)) 4 0) × (r < 2 ^ 34) ⌝ }
+{
+    card[2] as usize + card[3] as usize + card[4] as usize
+}
+
+// What Z counts, with the letter of its last element.
+pub fn counts_of(card: &[u32], letter: u32) -> Counts
+    requires { ⌜ length (now card) ≡ 6 ⌝ }
+    ensures { λ r. ⌜ ((f : ℕ → ℕ) → letter ≡ f (getD (now (card .entry)) 2 0 + getD (now (card .entry)) 3 0 + getD (now (card .entry)) 4 0) → r ≡ cards.countsOf (now (card .entry)) f) ⌝ }
 {
     Counts {
         nodes: card[2],
         materials: card[3],
         elements: card[4],
         loads: card[5],
+        solid: letter == V,
     }
 }
 

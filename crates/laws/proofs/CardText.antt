@@ -1,76 +1,87 @@
 -- A card read is the card printed, both ways.
-use mathlib.Core.Path.{_≡_, refl, sym, ap, _∙_}
-use mathlib.Core.Bool.{Bool, true, false, not, cond, _||_}
+use mathlib.Core.Path.{_≡_, refl, sym, ap, subst, _∙_}
+use mathlib.Core.Bool.{Bool, true, false, not, cond, _&&_, _||_}
 use mathlib.Core.List.{List, [], _∷_, _++_, append-assoc}
 use Prim.Native.Nat.{ℕ, zero, suc, _+_, _*_, _≤_, _<_}
 use native.Mathlib.Omega.{arith}
 use borrow.Author.Tests.{eq-eqb, ne-eqb, eqb-true, eqb-false, ltb-false, not-false}
 use lib.Dec.{ltb, eqb}
 use lib.ListN.{length, getD, take, drop, set, length-set, replicate, length-append, length-drop, take-append-drop, drop-of-length-le}
-use lib.Seq.{take-at, drop-append-add, getD-at, drop-cons, drop-drop, length-take-le}
+use lib.Seq.{take-at, drop-append-add, getD-take, getD-drop, getD-at, drop-cons, drop-drop, length-take-le}
 use Rattle.paper.specs.declared.Kind.{Kind}
-use Rattle.paper.specs.declared.Kind.the-variants.{D, N, M, E, H, F, G, T, Z, Other}
+use Rattle.paper.specs.declared.Kind.the-variants.{D, N, M, E, «V», H, F, G, T, Z, Other}
 use Rattle.paper.specs.declared.Field.{Field}
 use Rattle.paper.specs.declared.Field.the-variants.{Number, Malformed}
 use Rattle.paper.specs.Kinds.{about, kindOf, letterOf}
-use Rattle.paper.specs.Cards.{used, columns}
-use Rattle.paper.specs.Text.{number, blank, printed, fieldOf, fieldsFrom, putField, noCard, cardOf, textField, textFrom, textOf}
+use Rattle.whole.specs.Sums.{sumN}
+use Rattle.paper.specs.Cards.{Column, _⋯_, none, before, used, mayBlank, columns}
+use Rattle.paper.specs.Text.{number, blank, printed, filled, blankElse, fieldOf, fieldsFrom, putField, noCard, cardOf, textField, textFrom, textOf}
 use Rattle.laws.proofs.Letters.{known}
-use Rattle.laws.proofs.Fields.{length-field, number-printed, printed-number, blank-blanks}
+use Rattle.laws.proofs.Fields.{length-field, blank-blanks, blank-eight, field-printed, printed-field}
 
 -- ---- a card by its tests
 
-module _ (b : List ℕ) where
-  pub card-none : used (kindOf (getD b 0 0)) ≡ 0 → noCard ≡ cardOf b
+module _ (solid : Bool) (b : List ℕ) where
+  pub card-none : used (kindOf (getD b 0 0)) ≡ 0 → noCard ≡ cardOf solid b
   unfolding cardOf
   card-none h = simp (eq-eqb (used (kindOf (getD b 0 0))) 0 h)
 
-  pub card-line : (used (kindOf (getD b 0 0)) ≡ 0 → ⊥) → (getD b 41 0 ≡ 10 → ⊥) → noCard ≡ cardOf b
+  pub card-line : (used (kindOf (getD b 0 0)) ≡ 0 → ⊥) → (getD b 41 0 ≡ 10 → ⊥) → noCard ≡ cardOf solid b
   unfolding cardOf
   card-line h g = simp (ne-eqb (used (kindOf (getD b 0 0))) 0 h, ne-eqb (getD b 41 0) 10 g)
 
   pub card-fields : (used (kindOf (getD b 0 0)) ≡ 0 → ⊥) → getD b 41 0 ≡ 10
-      → fieldsFrom (used (kindOf (getD b 0 0))) b 5 0 (getD b 0 0 ∷ 0 ∷ 0 ∷ 0 ∷ 0 ∷ 0 ∷ []) ≡ cardOf b
+      → fieldsFrom solid (kindOf (getD b 0 0)) b 5 0 (getD b 0 0 ∷ 0 ∷ 0 ∷ 0 ∷ 0 ∷ 0 ∷ []) ≡ cardOf solid b
   unfolding cardOf
   card-fields h g = simp (ne-eqb (used (kindOf (getD b 0 0))) 0 h, eq-eqb (getD b 41 0) 10 g)
 
 -- ---- a card has six numbers, its text 42 bytes
 
+-- the first byte of a card's bytes
+pub first-byte : (b : List ℕ) (at : ℕ) → getD (take 42 (drop at b)) 0 0 ≡ getD b at 0
+first-byte b at =
+    let e : at + 0 ≡ at = omega arith in
+    getD-take 42 (drop at b) 0 0 (omega arith) ∙ getD-drop at b 0 0 ∙ ap (λ (k : ℕ). getD b k 0) e
+
 length-put : (card : List ℕ) (k : ℕ) (f : Field) (rest : List ℕ → List ℕ) → ((c : List ℕ) → length c ≡ 6 → length (rest c) ≡ 6) → length card ≡ 6 → length (putField card k f rest) ≡ 6
 length-put card k (Number v) rest r h = r (set card (suc k) v) (length-set card (suc k) v ∙ h)
 length-put card k Malformed rest r h = refl
 
-length-fields : (u : ℕ) (b : List ℕ) (n k : ℕ) (card : List ℕ) → length card ≡ 6 → length (fieldsFrom u b n k card) ≡ 6
+length-fields : (solid : Bool) (kind : Kind) (b : List ℕ) (n k : ℕ) (card : List ℕ) → length card ≡ 6 → length (fieldsFrom solid kind b n k card) ≡ 6
 unfolding fieldsFrom
-length-fields u b zero k card h = h
-length-fields u b (suc n) k card h = length-put card k (fieldOf u b k) (fieldsFrom u b n (suc k)) (λ c e. length-fields u b n (suc k) c e) h
+length-fields solid kind b zero k card h = h
+length-fields solid kind b (suc n) k card h =
+    length-put card k (fieldOf solid kind b k) (fieldsFrom solid kind b n (suc k)) (λ c e. length-fields solid kind b n (suc k) c e) h
 
-pub length-card : (b : List ℕ) → length (cardOf b) ≡ 6
+pub length-card : (solid : Bool) (b : List ℕ) → length (cardOf solid b) ≡ 6
 unfolding cardOf
-length-card b = by (eqb (used (kindOf (getD b 0 0))) 0 || not (eqb (getD b 41 0) 10))
+length-card solid b = by (eqb (used (kindOf (getD b 0 0))) 0 || not (eqb (getD b 41 0) 10))
   where
-    by : (c : Bool) → length (cond c noCard (fieldsFrom (used (kindOf (getD b 0 0))) b 5 0 (getD b 0 0 ∷ 0 ∷ 0 ∷ 0 ∷ 0 ∷ 0 ∷ []))) ≡ 6
+    by : (c : Bool) → length (cond c noCard (fieldsFrom solid (kindOf (getD b 0 0)) b 5 0 (getD b 0 0 ∷ 0 ∷ 0 ∷ 0 ∷ 0 ∷ 0 ∷ []))) ≡ 6
     by true = refl
-    by false = length-fields (used (kindOf (getD b 0 0))) b 5 0 (getD b 0 0 ∷ 0 ∷ 0 ∷ 0 ∷ 0 ∷ 0 ∷ []) refl
+    by false = length-fields solid (kindOf (getD b 0 0)) b 5 0 (getD b 0 0 ∷ 0 ∷ 0 ∷ 0 ∷ 0 ∷ 0 ∷ []) refl
 
-pub length-text : (u : ℕ) (card : List ℕ) (n k : ℕ) → length (textFrom u card n k) ≡ n * 8
+pub length-text : (solid : Bool) (kind : Kind) (card : List ℕ) (n k : ℕ) → length (textFrom solid kind card n k) ≡ n * 8
 unfolding textFrom
-length-text u card zero k = omega arith
-length-text u card (suc n) k = length-append (textField u k (getD card (suc k) 0)) (textFrom u card n (suc k)) ∙ omega (arith, length-field u k (getD card (suc k) 0), length-text u card n (suc k))
+length-text solid kind card zero k = omega arith
+length-text solid kind card (suc n) k =
+    length-append (textField solid kind k (getD card (suc k) 0)) (textFrom solid kind card n (suc k))
+    ∙ omega (arith, length-field solid kind k (getD card (suc k) 0), length-text solid kind card n (suc k))
 
-pub length-textOf : (card : List ℕ) → length (textOf card) ≡ 42
+pub length-textOf : (solid : Bool) (card : List ℕ) → length (textOf solid card) ≡ 42
 unfolding textOf
-length-textOf card =
-    let u = used (kindOf (getD card 0 0)) in
-    ap suc (length-append (textFrom u card 5 0) (10 ∷ [])) ∙ omega (arith, length-text u card 5 0)
+length-textOf solid card =
+    let kind = kindOf (getD card 0 0) in
+    ap suc (length-append (textFrom solid kind card 5 0) (10 ∷ [])) ∙ omega (arith, length-text solid kind card 5 0)
 
--- ---- a letter that is one of the eight
-used-order : (k : Kind) → (used k ≡ 0 → ⊥) → about k .order < 9
+-- ---- a letter that is one of the ten
+used-order : (k : Kind) → (used k ≡ 0 → ⊥) → about k .order < 10
 unfolding used columns about
 used-order D h = omega arith
 used-order N h = omega arith
 used-order M h = omega arith
 used-order E h = omega arith
+used-order «V» h = omega arith
 used-order H h = omega arith
 used-order F h = omega arith
 used-order G h = omega arith
@@ -83,23 +94,23 @@ used-letter c h = known c (used-order (kindOf c) h)
 
 -- ---- printed and read
 
-piece : (u : ℕ) (card : List ℕ) (n k j : ℕ) (rest : List ℕ) → k < n → take 8 (drop (k * 8) (textFrom u card n j ++ rest)) ≡ textField u (j + k) (getD card (suc (j + k)) 0)
+piece : (solid : Bool) (kind : Kind) (card : List ℕ) (n k j : ℕ) (rest : List ℕ) → k < n → take 8 (drop (k * 8) (textFrom solid kind card n j ++ rest)) ≡ textField solid kind (j + k) (getD card (suc (j + k)) 0)
 unfolding textFrom
-piece u card zero k j rest h = absurd (omega arith)
-piece u card (suc n) zero j rest h =
+piece solid kind card zero k j rest h = absurd (omega arith)
+piece solid kind card (suc n) zero j rest h =
     let z : j ≡ j + 0 = omega arith in
-    ap (take 8) (append-assoc (textField u j (getD card (suc j) 0)) (textFrom u card n (suc j)) rest)
-    ∙ take-at (textField u j (getD card (suc j) 0)) (textFrom u card n (suc j) ++ rest) 8 (length-field u j (getD card (suc j) 0))
-    ∙ ap (λ (i : ℕ). textField u i (getD card (suc i) 0)) z
-piece u card (suc n) (suc k) j rest h =
-    let tf = textField u j (getD card (suc j) 0) in
+    ap (take 8) (append-assoc (textField solid kind j (getD card (suc j) 0)) (textFrom solid kind card n (suc j)) rest)
+    ∙ take-at (textField solid kind j (getD card (suc j) 0)) (textFrom solid kind card n (suc j) ++ rest) 8 (length-field solid kind j (getD card (suc j) 0))
+    ∙ ap (λ (i : ℕ). textField solid kind i (getD card (suc i) 0)) z
+piece solid kind card (suc n) (suc k) j rest h =
+    let tf = textField solid kind j (getD card (suc j) 0) in
     let g : k < n = omega arith in
-    let m : suc k * 8 ≡ length tf + k * 8 = omega (arith, length-field u j (getD card (suc j) 0)) in
+    let m : suc k * 8 ≡ length tf + k * 8 = omega (arith, length-field solid kind j (getD card (suc j) 0)) in
     let z : suc j + k ≡ j + suc k = omega arith in
-    ap (λ (i : ℕ). take 8 (drop i ((tf ++ textFrom u card n (suc j)) ++ rest))) m
-    ∙ ap (λ (l : List ℕ). take 8 (drop (length tf + k * 8) l)) (append-assoc tf (textFrom u card n (suc j)) rest)
-    ∙ ap (take 8) (drop-append-add tf (textFrom u card n (suc j) ++ rest) (k * 8))
-    ∙ piece u card n k (suc j) rest g ∙ ap (λ (i : ℕ). textField u i (getD card (suc i) 0)) z
+    ap (λ (i : ℕ). take 8 (drop i ((tf ++ textFrom solid kind card n (suc j)) ++ rest))) m
+    ∙ ap (λ (l : List ℕ). take 8 (drop (length tf + k * 8) l)) (append-assoc tf (textFrom solid kind card n (suc j)) rest)
+    ∙ ap (take 8) (drop-append-add tf (textFrom solid kind card n (suc j) ++ rest) (k * 8))
+    ∙ piece solid kind card n k (suc j) rest g ∙ ap (λ (i : ℕ). textField solid kind i (getD card (suc i) 0)) z
 
 pub record Printable (card : List ℕ) : Type 0 where
   pub six : length card ≡ 6
@@ -107,32 +118,35 @@ pub record Printable (card : List ℕ) : Type 0 where
   pub small : (k : ℕ) → k < 5 → getD card (suc k) 0 < 100000000
   pub unused : (k : ℕ) → k < 5 → used (kindOf (getD card 0 0)) ≤ k → getD card (suc k) 0 ≡ 0
 
-piece-of : (card : List ℕ) (k : ℕ) → k < 5 → take 8 (drop (1 + k * 8) (textOf card)) ≡ textField (used (kindOf (getD card 0 0))) k (getD card (suc k) 0)
+piece-of : (solid : Bool) (card : List ℕ) (k : ℕ) → k < 5 → take 8 (drop (1 + k * 8) (textOf solid card)) ≡ textField solid (kindOf (getD card 0 0)) k (getD card (suc k) 0)
 unfolding textOf
-piece-of card k h =
-    let u = used (kindOf (getD card 0 0)) in
+piece-of solid card k h =
+    let kind = kindOf (getD card 0 0) in
     let e : 1 + k * 8 ≡ suc (k * 8) = omega arith in
     let z : 0 + k ≡ k = omega arith in
-    ap (λ (i : ℕ). take 8 (drop i (letterOf (kindOf (getD card 0 0)) ∷ textFrom u card 5 0 ++ (10 ∷ [])))) e
-    ∙ piece u card 5 k 0 (10 ∷ []) h ∙ ap (λ (i : ℕ). textField u i (getD card (suc i) 0)) z
+    ap (λ (i : ℕ). take 8 (drop i (letterOf (kindOf (getD card 0 0)) ∷ textFrom solid kind card 5 0 ++ (10 ∷ [])))) e
+    ∙ piece solid kind card 5 k 0 (10 ∷ []) h ∙ ap (λ (i : ℕ). textField solid kind i (getD card (suc i) 0)) z
 
-blanks : blank (replicate 8 32) ≡ Number 0
-unfolding blank
-blanks = refl
-
-field-round : (u : ℕ) (b : List ℕ) (k f : ℕ) → take 8 (drop (1 + k * 8) b) ≡ textField u k f → f < 100000000 → (u ≤ k → f ≡ 0) → fieldOf u b k ≡ Number f
+field-round : (solid : Bool) (kind : Kind) (b : List ℕ) (k f : ℕ) → take 8 (drop (1 + k * 8) b) ≡ textField solid kind k f → f < 100000000 → (used kind ≤ k → f ≡ 0)
+    → fieldOf solid kind b k ≡ Number f
 unfolding fieldOf textField
-field-round u b k f e l z = by (ltb k u) refl e
+field-round solid kind b k f e l z = by (ltb k (used kind)) refl e
   where
-    by : (c : Bool) → c ≡ ltb k u → take 8 (drop (1 + k * 8) b) ≡ cond c (printed f) (replicate 8 32)
-        → cond c (number (take 8 (drop (1 + k * 8) b))) (blank (take 8 (drop (1 + k * 8) b))) ≡ Number f
-    by true q e = ap number e ∙ number-printed f l
-    by false q e = ap blank e ∙ blanks ∙ ap Number (sym (z (ltb-false k u (sym q))))
+    s : List ℕ
+    s = take 8 (drop (1 + k * 8) b)
 
-fields-are : (u : ℕ) (b : List ℕ) (l f0 f1 f2 f3 f4 : ℕ) → fieldOf u b 0 ≡ Number f0 → fieldOf u b 1 ≡ Number f1 → fieldOf u b 2 ≡ Number f2 → fieldOf u b 3 ≡ Number f3
-    → fieldOf u b 4 ≡ Number f4 → fieldsFrom u b 5 0 (l ∷ 0 ∷ 0 ∷ 0 ∷ 0 ∷ 0 ∷ []) ≡ l ∷ f0 ∷ f1 ∷ f2 ∷ f3 ∷ f4 ∷ []
+    m : Bool
+    m = mayBlank solid kind k
+
+    by : (c : Bool) → c ≡ ltb k (used kind) → s ≡ cond (c && not (m && eqb f 0)) (printed f) (replicate 8 32)
+        → cond c (cond m (blankElse (blank s) (filled (number s))) (number s)) (blank s) ≡ Number f
+    by true q e = field-printed m s f e l
+    by false q e = ap blank e ∙ blank-eight ∙ ap Number (sym (z (ltb-false k (used kind) (sym q))))
+
+fields-are : (solid : Bool) (kind : Kind) (b : List ℕ) (l f0 f1 f2 f3 f4 : ℕ) → fieldOf solid kind b 0 ≡ Number f0 → fieldOf solid kind b 1 ≡ Number f1 → fieldOf solid kind b 2 ≡ Number f2 → fieldOf solid kind b 3 ≡ Number f3
+    → fieldOf solid kind b 4 ≡ Number f4 → fieldsFrom solid kind b 5 0 (l ∷ 0 ∷ 0 ∷ 0 ∷ 0 ∷ 0 ∷ []) ≡ l ∷ f0 ∷ f1 ∷ f2 ∷ f3 ∷ f4 ∷ []
 unfolding fieldsFrom
-fields-are u b l f0 f1 f2 f3 f4 e0 e1 e2 e3 e4 = simp (e0, e1, e2, e3, e4)
+fields-are solid kind b l f0 f1 f2 f3 f4 e0 e1 e2 e3 e4 = simp (e0, e1, e2, e3, e4)
 
 all-six : (card : List ℕ) → length card ≡ 6 → getD card 0 0 ∷ getD card 1 0 ∷ getD card 2 0 ∷ getD card 3 0 ∷ getD card 4 0 ∷ getD card 5 0 ∷ [] ≡ card
 all-six [] h = absurd (omega arith)
@@ -144,44 +158,49 @@ all-six (a ∷ b ∷ c ∷ d ∷ e ∷ []) h = absurd (omega arith)
 all-six (a ∷ b ∷ c ∷ d ∷ e ∷ f ∷ []) h = refl
 all-six (a ∷ b ∷ c ∷ d ∷ e ∷ f ∷ g ∷ s) h = absurd (omega arith)
 
-newline : (card : List ℕ) → getD (textOf card) 41 0 ≡ 10
+newline : (solid : Bool) (card : List ℕ) → getD (textOf solid card) 41 0 ≡ 10
 unfolding textOf
-newline card =
-    let u = used (kindOf (getD card 0 0)) in
-    getD-at (letterOf (kindOf (getD card 0 0)) ∷ textFrom u card 5 0) 10 [] 0 41 (omega (arith, length-text u card 5 0))
+newline solid card =
+    let kind = kindOf (getD card 0 0) in
+    getD-at (letterOf (kindOf (getD card 0 0)) ∷ textFrom solid kind card 5 0) 10 [] 0 41 (omega (arith, length-text solid kind card 5 0))
 
-first-is : (card : List ℕ) → getD (textOf card) 0 0 ≡ letterOf (kindOf (getD card 0 0))
+first-is : (solid : Bool) (card : List ℕ) → getD (textOf solid card) 0 0 ≡ letterOf (kindOf (getD card 0 0))
 unfolding textOf
-first-is card = refl
+first-is solid card = refl
 
--- A card with a letter of the eight, its unused fields 0 and no field of more than eight digits, printed and read, is itself
-pub card-printed : (card : List ℕ) → Printable card → cardOf (textOf card) ≡ card
-card-printed card p =
+-- the letter of a card that can be printed is its text's first byte
+pub text-letter : (solid : Bool) (card : List ℕ) → Printable card → getD (textOf solid card) 0 0 ≡ getD card 0 0
+text-letter solid card p = first-is solid card ∙ used-letter (getD card 0 0) (p .letter)
+
+-- A card with a letter of the ten, its unused fields 0 and no field of more than eight digits, printed and read, is itself
+pub card-printed : (solid : Bool) (card : List ℕ) → Printable card → cardOf solid (textOf solid card) ≡ card
+card-printed solid card p =
     let c = getD card 0 0 in
-    let u = used (kindOf c) in
-    let b = textOf card in
-    let l : getD b 0 0 ≡ c = first-is card ∙ used-letter c (p .letter) in
-    let f : (k : ℕ) → k < 5 → fieldOf u b k ≡ Number (getD card (suc k) 0) = λ k h. field-round u b k (getD card (suc k) 0) (piece-of card k h) (p .small k h) (p .unused k h) in
-    sym (card-fields b (λ e. p .letter (ap (λ (x : ℕ). used (kindOf x)) (sym l) ∙ e)) (newline card))
-    ∙ ap (λ (x : ℕ). fieldsFrom (used (kindOf x)) b 5 0 (x ∷ 0 ∷ 0 ∷ 0 ∷ 0 ∷ 0 ∷ [])) l
-    ∙ fields-are u b c (getD card 1 0) (getD card 2 0) (getD card 3 0) (getD card 4 0) (getD card 5 0)
+    let kind = kindOf c in
+    let b = textOf solid card in
+    let l : getD b 0 0 ≡ c = text-letter solid card p in
+    let f : (k : ℕ) → k < 5 → fieldOf solid kind b k ≡ Number (getD card (suc k) 0) =
+    λ k h. field-round solid kind b k (getD card (suc k) 0) (piece-of solid card k h) (p .small k h) (p .unused k h) in
+    sym (card-fields solid b (λ e. p .letter (ap (λ (x : ℕ). used (kindOf x)) (sym l) ∙ e)) (newline solid card))
+    ∙ ap (λ (x : ℕ). fieldsFrom solid (kindOf x) b 5 0 (x ∷ 0 ∷ 0 ∷ 0 ∷ 0 ∷ 0 ∷ [])) l
+    ∙ fields-are solid kind b c (getD card 1 0) (getD card 2 0) (getD card 3 0) (getD card 4 0) (getD card 5 0)
     (f 0 (omega arith)) (f 1 (omega arith)) (f 2 (omega arith)) (f 3 (omega arith)) (f 4 (omega arith))
     ∙ all-six card (p .six)
 
 -- ---- read and printed
 
 -- what fields are read from
-record Read (u : ℕ) (b : List ℕ) (l : ℕ) (card : List ℕ) : Type 0 where
+record Read (solid : Bool) (kind : Kind) (b : List ℕ) (l : ℕ) (card : List ℕ) : Type 0 where
   f0 : ℕ
   f1 : ℕ
   f2 : ℕ
   f3 : ℕ
   f4 : ℕ
-  e0 : fieldOf u b 0 ≡ Number f0
-  e1 : fieldOf u b 1 ≡ Number f1
-  e2 : fieldOf u b 2 ≡ Number f2
-  e3 : fieldOf u b 3 ≡ Number f3
-  e4 : fieldOf u b 4 ≡ Number f4
+  e0 : fieldOf solid kind b 0 ≡ Number f0
+  e1 : fieldOf solid kind b 1 ≡ Number f1
+  e2 : fieldOf solid kind b 2 ≡ Number f2
+  e3 : fieldOf solid kind b 3 ≡ Number f3
+  e4 : fieldOf solid kind b 4 ≡ Number f4
   is : card ≡ l ∷ f0 ∷ f1 ∷ f2 ∷ f3 ∷ f4 ∷ []
 
 -- a card that is not malformed has its field read
@@ -190,24 +209,32 @@ got : (card : List ℕ) (k : ℕ) (f : Field) (rest : List ℕ → List ℕ) {A 
 got card k (Number v) rest h next = next v refl h
 got card k Malformed rest h next = absurd (h refl)
 
-fields-read : (u : ℕ) (b : List ℕ) (l : ℕ) → (getD (fieldsFrom u b 5 0 (l ∷ 0 ∷ 0 ∷ 0 ∷ 0 ∷ 0 ∷ [])) 0 0 ≡ 0 → ⊥) → Read u b l (fieldsFrom u b 5 0 (l ∷ 0 ∷ 0 ∷ 0 ∷ 0 ∷ 0 ∷ []))
+fields-read : (solid : Bool) (kind : Kind) (b : List ℕ) (l : ℕ) → (getD (fieldsFrom solid kind b 5 0 (l ∷ 0 ∷ 0 ∷ 0 ∷ 0 ∷ 0 ∷ [])) 0 0 ≡ 0 → ⊥) → Read solid kind b l (fieldsFrom solid kind b 5 0 (l ∷ 0 ∷ 0 ∷ 0 ∷ 0 ∷ 0 ∷ []))
 unfolding fieldsFrom
-fields-read u b l h =
-    got (l ∷ 0 ∷ 0 ∷ 0 ∷ 0 ∷ 0 ∷ []) 0 (fieldOf u b 0) (fieldsFrom u b 4 1) h (λ v0 e0 h0.
-    got (l ∷ v0 ∷ 0 ∷ 0 ∷ 0 ∷ 0 ∷ []) 1 (fieldOf u b 1) (fieldsFrom u b 3 2) h0 (λ v1 e1 h1.
-    got (l ∷ v0 ∷ v1 ∷ 0 ∷ 0 ∷ 0 ∷ []) 2 (fieldOf u b 2) (fieldsFrom u b 2 3) h1 (λ v2 e2 h2.
-    got (l ∷ v0 ∷ v1 ∷ v2 ∷ 0 ∷ 0 ∷ []) 3 (fieldOf u b 3) (fieldsFrom u b 1 4) h2 (λ v3 e3 h3.
-    got (l ∷ v0 ∷ v1 ∷ v2 ∷ v3 ∷ 0 ∷ []) 4 (fieldOf u b 4) (fieldsFrom u b 0 5) h3 (λ v4 e4 h4.
-    record { f0 = v0; f1 = v1; f2 = v2; f3 = v3; f4 = v4; e0 = e0; e1 = e1; e2 = e2; e3 = e3; e4 = e4; is = fields-are u b l v0 v1 v2 v3 v4 e0 e1 e2 e3 e4 })))))
+fields-read solid kind b l h =
+    got (l ∷ 0 ∷ 0 ∷ 0 ∷ 0 ∷ 0 ∷ []) 0 (fieldOf solid kind b 0) (fieldsFrom solid kind b 4 1) h (λ v0 e0 h0.
+    got (l ∷ v0 ∷ 0 ∷ 0 ∷ 0 ∷ 0 ∷ []) 1 (fieldOf solid kind b 1) (fieldsFrom solid kind b 3 2) h0 (λ v1 e1 h1.
+    got (l ∷ v0 ∷ v1 ∷ 0 ∷ 0 ∷ 0 ∷ []) 2 (fieldOf solid kind b 2) (fieldsFrom solid kind b 2 3) h1 (λ v2 e2 h2.
+    got (l ∷ v0 ∷ v1 ∷ v2 ∷ 0 ∷ 0 ∷ []) 3 (fieldOf solid kind b 3) (fieldsFrom solid kind b 1 4) h2 (λ v3 e3 h3.
+    got (l ∷ v0 ∷ v1 ∷ v2 ∷ v3 ∷ 0 ∷ []) 4 (fieldOf solid kind b 4) (fieldsFrom solid kind b 0 5) h3 (λ v4 e4 h4.
+    record { f0 = v0; f1 = v1; f2 = v2; f3 = v3; f4 = v4; e0 = e0; e1 = e1; e2 = e2; e3 = e3; e4 = e4; is = fields-are solid kind b l v0 v1 v2 v3 v4 e0 e1 e2 e3 e4 })))))
 
 -- a field that was read, printed
-field-back : (u : ℕ) (b : List ℕ) (k f : ℕ) → length (take 8 (drop (1 + k * 8) b)) ≡ 8 → fieldOf u b k ≡ Number f → textField u k f ≡ take 8 (drop (1 + k * 8) b)
+field-back : (solid : Bool) (kind : Kind) (b : List ℕ) (k f : ℕ) → length (take 8 (drop (1 + k * 8) b)) ≡ 8 → f < 100000000 → fieldOf solid kind b k ≡ Number f
+    → textField solid kind k f ≡ take 8 (drop (1 + k * 8) b)
 unfolding fieldOf textField
-field-back u b k f l e = by (ltb k u) e
+field-back solid kind b k f l w e = by (ltb k (used kind)) e
   where
-    by : (c : Bool) → cond c (number (take 8 (drop (1 + k * 8) b))) (blank (take 8 (drop (1 + k * 8) b))) ≡ Number f → cond c (printed f) (replicate 8 32) ≡ take 8 (drop (1 + k * 8) b)
-    by true e = printed-number (take 8 (drop (1 + k * 8) b)) f l e
-    by false e = sym (blank-blanks (take 8 (drop (1 + k * 8) b)) f e .1 ∙ ap (λ (n : ℕ). replicate n 32) l)
+    s : List ℕ
+    s = take 8 (drop (1 + k * 8) b)
+
+    m : Bool
+    m = mayBlank solid kind k
+
+    by : (c : Bool) → cond c (cond m (blankElse (blank s) (filled (number s))) (number s)) (blank s) ≡ Number f
+        → cond (c && not (m && eqb f 0)) (printed f) (replicate 8 32) ≡ s
+    by true e = printed-field m s f l w e
+    by false e = sym (blank-blanks s f e .1 ∙ ap (λ (n : ℕ). replicate n 32) l)
 
 next8 : (b : List ℕ) (a : ℕ) → drop a b ≡ take 8 (drop a b) ++ drop (a + 8) b
 next8 b a = sym (take-append-drop 8 (drop a b)) ∙ ap (λ (s : List ℕ). take 8 (drop a b) ++ s) (drop-drop 8 a b)
@@ -235,38 +262,92 @@ split b h =
     (p4 ∙ ap (λ (s : List ℕ). take 8 (drop 25 b) ++ s)
     (p5 ∙ ap (λ (s : List ℕ). take 8 (drop 33 b) ++ s) p6)))))
 
-text-six : (l f0 f1 f2 f3 f4 : ℕ) → textOf (l ∷ f0 ∷ f1 ∷ f2 ∷ f3 ∷ f4 ∷ [])
-    ≡ letterOf (kindOf l) ∷ (textField (used (kindOf l)) 0 f0 ++ (textField (used (kindOf l)) 1 f1 ++ (textField (used (kindOf l)) 2 f2
-    ++ (textField (used (kindOf l)) 3 f3 ++ (textField (used (kindOf l)) 4 f4 ++ (10 ∷ []))))))
+text-six : (solid : Bool) (l f0 f1 f2 f3 f4 : ℕ) → let kind = kindOf l in textOf solid (l ∷ f0 ∷ f1 ∷ f2 ∷ f3 ∷ f4 ∷ [])
+    ≡ letterOf kind ∷ (textField solid kind 0 f0 ++ (textField solid kind 1 f1 ++ (textField solid kind 2 f2
+    ++ (textField solid kind 3 f3 ++ (textField solid kind 4 f4 ++ (10 ∷ []))))))
 unfolding textOf textFrom
-text-six l f0 f1 f2 f3 f4 = simp append-assoc
+text-six solid l f0 f1 f2 f3 f4 = simp append-assoc
 
 -- a letter is none where the card is malformed
-opened : (b : List ℕ) (t s : Bool) (x : List ℕ) → (getD (cond (t || s) noCard x) 0 0 ≡ 0 → ⊥) → (t ≡ false) × (s ≡ false)
-opened b true s x h = absurd (h refl)
-opened b false true x h = absurd (h refl)
-opened b false false x h = (refl, refl)
+opened : (t s : Bool) (x : List ℕ) → (getD (cond (t || s) noCard x) 0 0 ≡ 0 → ⊥) → (t ≡ false) × (s ≡ false)
+opened true s x h = absurd (h refl)
+opened false true x h = absurd (h refl)
+opened false false x h = (refl, refl)
 
--- Of 42 bytes that are not malformed the card, printed, is those bytes
-pub printed-card : (b : List ℕ) → length b ≡ 42 → (getD (cardOf b) 0 0 ≡ 0 → ⊥) → textOf (cardOf b) ≡ b
+-- what is told by 42 bytes that are not malformed
+record Well (solid : Bool) (b : List ℕ) : Type 0 where
+  letter : used (kindOf (getD b 0 0)) ≡ 0 → ⊥
+  newline : getD b 41 0 ≡ 10
+  read : Read solid (kindOf (getD b 0 0)) b (getD b 0 0) (cardOf solid b)
+
+well : (solid : Bool) (b : List ℕ) → (getD (cardOf solid b) 0 0 ≡ 0 → ⊥) → Well solid b
 unfolding cardOf
-printed-card b h ok =
+well solid b ok =
     let l = getD b 0 0 in
     let u = used (kindOf l) in
-    let fs = fieldsFrom u b 5 0 (l ∷ 0 ∷ 0 ∷ 0 ∷ 0 ∷ 0 ∷ []) in
-    let o = opened b (eqb u 0) (not (eqb (getD b 41 0) 10)) fs ok in
+    let fs = fieldsFrom solid (kindOf l) b 5 0 (l ∷ 0 ∷ 0 ∷ 0 ∷ 0 ∷ 0 ∷ []) in
+    let o = opened (eqb u 0) (not (eqb (getD b 41 0) 10)) fs ok in
     let nu : u ≡ 0 → ⊥ = eqb-false u 0 (o .0) in
     let nl : getD b 41 0 ≡ 10 = eqb-true (getD b 41 0) 10 (not-false (eqb (getD b 41 0) 10) (o .1)) in
-    let c : fs ≡ cardOf b = card-fields b nu nl in
-    let r = fields-read u b l (λ e. ok (ap (λ (s : List ℕ). getD s 0 0) (sym c) ∙ e)) in
-    ap textOf (sym c ∙ r .is) ∙ text-six l (r .f0) (r .f1) (r .f2) (r .f3) (r .f4)
+    let c : fs ≡ cardOf solid b = card-fields solid b nu nl in
+    let r = fields-read solid (kindOf l) b l (λ e. ok (ap (λ (s : List ℕ). getD s 0 0) (sym c) ∙ e)) in
+    record { letter = nu; newline = nl; read = subst (Read solid (kindOf l) b l) c r }
+
+-- Of bytes that are not malformed the card has the first byte for its letter
+pub card-letter : (solid : Bool) (b : List ℕ) → (getD (cardOf solid b) 0 0 ≡ 0 → ⊥) → getD (cardOf solid b) 0 0 ≡ getD b 0 0
+card-letter solid b ok = ap (λ (s : List ℕ). getD s 0 0) (well solid b ok .read .is)
+
+-- Of 42 bytes that are not malformed, with no field read as a number of more than eight digits, the card, printed, is those bytes
+pub printed-card : (solid : Bool) (b : List ℕ) → length b ≡ 42 → (getD (cardOf solid b) 0 0 ≡ 0 → ⊥) → ((k : ℕ) → k < 5 → getD (cardOf solid b) (suc k) 0 < 100000000)
+    → textOf solid (cardOf solid b) ≡ b
+printed-card solid b h ok few =
+    let l = getD b 0 0 in
+    let w = well solid b ok in
+    let r = w .read in
+    let small : (k : ℕ) → k < 5 → getD (l ∷ r .f0 ∷ r .f1 ∷ r .f2 ∷ r .f3 ∷ r .f4 ∷ []) (suc k) 0 < 100000000 =
+    subst (λ (c : List ℕ). (k : ℕ) → k < 5 → getD c (suc k) 0 < 100000000) (r .is) few in
+    let back : (k f : ℕ) → 1 + k * 8 + 8 ≤ length b → f < 100000000 → fieldOf solid (kindOf l) b k ≡ Number f → textField solid (kindOf l) k f ≡ take 8 (drop (1 + k * 8) b) =
+    λ k f a. field-back solid (kindOf l) b k f (length8 b (1 + k * 8) a) in
+    ap (textOf solid) (r .is) ∙ text-six solid l (r .f0) (r .f1) (r .f2) (r .f3) (r .f4)
     ∙ cc (
-      used-letter l nu,
-      nl,
+      used-letter l (w .letter),
+      w .newline,
       split b h,
-      field-back u b 0 (r .f0) (length8 b 1 (omega arith)) (r .e0),
-      field-back u b 1 (r .f1) (length8 b 9 (omega arith)) (r .e1),
-      field-back u b 2 (r .f2) (length8 b 17 (omega arith)) (r .e2),
-      field-back u b 3 (r .f3) (length8 b 25 (omega arith)) (r .e3),
-      field-back u b 4 (r .f4) (length8 b 33 (omega arith)) (r .e4),
+      back 0 (r .f0) (omega arith) (small 0 (omega arith)) (r .e0),
+      back 1 (r .f1) (omega arith) (small 1 (omega arith)) (r .e1),
+      back 2 (r .f2) (omega arith) (small 2 (omega arith)) (r .e2),
+      back 3 (r .f3) (omega arith) (small 3 (omega arith)) (r .e3),
+      back 4 (r .f4) (omega arith) (small 4 (omega arith)) (r .e4),
     )
+
+-- ---- Z is read alike in every deck
+
+z-columns : (solid : Bool) → columns (none solid) Z ≡ columns (none false) Z
+unfolding columns before sumN
+z-columns true = refl
+z-columns false = refl
+
+z-blank : (solid : Bool) (k : ℕ) → mayBlank solid Z k ≡ mayBlank false Z k
+unfolding mayBlank
+z-blank solid k = ap (λ (cs : List Column). getD cs k (0 ⋯ 0) .blank) (z-columns solid)
+
+z-field : (solid : Bool) (b : List ℕ) (k : ℕ) → fieldOf solid Z b k ≡ fieldOf false Z b k
+unfolding fieldOf
+z-field solid b k = rw (z-blank solid k)
+
+z-fields : (solid : Bool) (b : List ℕ) (n k : ℕ) (card : List ℕ) → fieldsFrom solid Z b n k card ≡ fieldsFrom false Z b n k card
+unfolding fieldsFrom
+z-fields solid b zero k card = refl
+z-fields solid b (suc n) k card = rw (z-field solid b k) (by (fieldOf false Z b k) (λ c. z-fields solid b n (suc k) c))
+  where
+    by : (f : Field) → ((c : List ℕ) → fieldsFrom solid Z b n (suc k) c ≡ fieldsFrom false Z b n (suc k) c)
+        → putField card k f (fieldsFrom solid Z b n (suc k)) ≡ putField card k f (fieldsFrom false Z b n (suc k))
+    by (Number v) ih = ih (set card (suc k) v)
+    by Malformed ih = refl
+
+pub z-alike : (solid : Bool) (b : List ℕ) → kindOf (getD b 0 0) ≡ Z → cardOf solid b ≡ cardOf false b
+unfolding cardOf
+z-alike solid b e =
+    let card = getD b 0 0 ∷ 0 ∷ 0 ∷ 0 ∷ 0 ∷ 0 ∷ [] in
+    ap (cond (eqb (used (kindOf (getD b 0 0))) 0 || not (eqb (getD b 41 0) 10)) noCard)
+    (ap (λ (q : Kind). fieldsFrom solid q b 5 0 card) e ∙ z-fields solid b 5 0 card ∙ ap (λ (q : Kind). fieldsFrom false q b 5 0 card) (sym e))

@@ -1,6 +1,6 @@
 -- What a change of one card keeps of the model, and what it moves: once for any kind, over what each card adds.
 use mathlib.Core.Path.{_≡_, refl, sym, ap, subst, transport, _∙_}
-use mathlib.Core.Bool.{false, true, cond, _&&_}
+use mathlib.Core.Bool.{Bool, false, true, cond, _&&_}
 use mathlib.Core.List.{List, [], _∷_, map}
 use Prim.Native.Nat.{ℕ, suc, _+_, _-_, _≤_, _<_}
 use native.Mathlib.Decide.{ℕ-discrete}
@@ -11,23 +11,24 @@ use lib.ListN.{length, getD}
 use Rattle.whole.specs.Sums.{sum, sumN, any}
 use Rattle.whole.proofs.Tests.{never}
 use Rattle.whole.proofs.Sums.{sum-change, any-ext}
-use Rattle.paper.specs.Kinds.{about, aboutOf, bodies, edge, kindOf, kindAt, letterOf}
+use Rattle.paper.specs.Kinds.{about, aboutOf, bodies, edge, kindOf, kindAt, letterOf, isA}
 use Rattle.paper.specs.Cards.{before, field, letter, rowAt, rows, countsAt, nodes, materials, elements, materialRow, elementRow, stepOf, put}
 use Rattle.paper.specs.Judge.{nameAt}
 use Rattle.paper.specs.Corners.{Shape, shapeOf}
+use Rattle.paper.specs.Tetrahedron.{spaceOf}
 use Rattle.paper.specs.Triangle.{S, pair, u, faceFilm}
 use Rattle.paper.specs.Edge.{edgeFilm}
-use Rattle.paper.specs.Elements.{Element, bodyOf, elementOf, elementAt, formJudged, elementJudged}
+use Rattle.paper.specs.Elements.{Element, bodyOf, flatOf, tetrahedronOf, solidOf, elementOf, elementAt, formJudged, elementJudged}
 use Rattle.paper.specs.Parts.{Part, bulk, filmed, loaded, heatShare, namedShape, partOf, partFor, partAt}
 use Rattle.paper.specs.Matrices.{addsP, addsA, P, A, fixes, fixed}
 use Rattle.paper.specs.Replacing.{formOf}
 use Rattle.paper.specs.declared.Answer.the-variants.{Done}
 use Rattle.paper.specs.declared.Kind.{Kind}
-use Rattle.paper.specs.declared.Kind.the-variants.{D, N, M, E, H, F, G, T, Z, Other}
-use Rattle.laws.proofs.Letters.{Body, flat, body-section}
+use Rattle.paper.specs.declared.Kind.the-variants.{D, N, M, E, «V», H, F, G, T, Z, Other}
+use Rattle.laws.proofs.Letters.{Body, flat, solid, body-section}
 use Rattle.laws.proofs.Tables.{row-field, row-here}
 use Rattle.laws.proofs.Decks.{In, kindIn, Deck, Change}
-use Rattle.laws.proofs.Spans.{Inside, nodes-are, materials-are, is-body, in-bodies, cornersAt, body-corners, body-material, names-H, names-F, ends-G, element-shape}
+use Rattle.laws.proofs.Spans.{Inside, row-kind, is-solid, is-flat, nodes-are, materials-are, is-body, in-bodies, cornersBy, materialBy, cornersOf, materialOf, body-corners, body-material, names-H, names-F, ends-G, element-shape}
 use Rattle.laws.proofs.Kept.{low, room, other, here, other-row, rows-same, nodes-same, materials-same, elements-same, row-same, letter-same, kind-same, key-same, kind-keeps, step-same}
 
 -- what a card adds to the matrices: all of its part but the loads
@@ -38,14 +39,15 @@ still x = record { corners = x .corners; stirs = x .stirs; conductance = x .cond
 
 -- an element's corners and material
 pub record Based (n m : ℕ) (card : List ℕ) : Type 0 where
-  pub corners : Inside n (getD card 1 0 ∷ getD card 2 0 ∷ getD card 3 0 ∷ [])
-  pub material : In 1 m (getD card 4 0)
+  pub corners : Inside n (cornersOf card)
+  pub material : In 1 m (materialOf card)
 
 abbrev pub Names : ℕ → ℕ → ℕ → List ℕ → Kind → Type 0
 Names n m e card D = Unit {0}
 Names n m e card N = Unit {0}
 Names n m e card M = Unit {0}
 Names n m e card E = Based n m card
+Names n m e card «V» = Based n m card
 Names n m e card H = In 1 e (getD card 1 0)
 Names n m e card F = In 1 e (getD card 1 0)
 Names n m e card G = Inside n (getD card 1 0 ∷ getD card 2 0 ∷ [])
@@ -57,10 +59,7 @@ abbrev pub NamesIn : List ℕ → List ℕ → Kind → Type 0
 NamesIn t = Names (nodes t) (materials t) (elements t)
 
 pub based : (t : List ℕ) (row : ℕ) → Deck t → row < rows t → Body (kindIn t row) → Based (nodes t) (materials t) (rowAt t row)
-based t row d h b = record {
-  corners = rw (row-field t row 1 (omega arith), row-field t row 2 (omega arith), row-field t row 3 (omega arith)) (body-corners t d row h b);
-  material = rw (row-field t row 4 (omega arith)) (body-material t d row h b);
-}
+based t row d h b = record { corners = body-corners t d row h b; material = body-material t d row h b }
 
 -- THEOREM. In a deck it is.
 pub names : (t : List ℕ) (row : ℕ) → Deck t → row < rows t → NamesIn t (rowAt t row) (kindIn t row)
@@ -71,6 +70,7 @@ names t row d h = go (kindIn t row) refl
     go N e = tt
     go M e = tt
     go E e = based t row d h (flat e)
+    go «V» e = based t row d h (solid e)
     go H e = rw (row-field t row 1 (omega arith)) (names-H t d row h e)
     go F e = rw (row-field t row 1 (omega arith)) (names-F t d row h e)
     go G e = rw (row-field t row 1 (omega arith), row-field t row 2 (omega arith)) (ends-G t d row h e)
@@ -98,44 +98,74 @@ module _ (t : List ℕ) (c : ℕ) (card : List ℕ) (d : Deck t) (g : Change t c
   unfolding shapeOf
   shape-same ns i = λ x. record { corners = ns; xs = axis-same 1 ns (omega arith) i x; ys = axis-same 2 ns (omega arith) i x }
 
-  -- ---- a card read in either table: the nodes and materials that it names stay
-  module _ (x : List ℕ) (b : Based (nodes t) (materials t) x) where
-    stuff : (j : ℕ) → j < 6 → field t′ (materialRow t′ (getD x 4 0)) j ≡ field t (materialRow t (getD x 4 0)) j
-    stuff j h =
-        ap (λ (n : ℕ). field t′ (n + getD x 4 0) j) (nodes-same t c card d g)
-        ∙ other t c card d g (materialRow t (getD x 4 0)) j h (λ e. omega (arith, low t c card d g, b .material))
+  space-same : (ns : List ℕ) → Inside (nodes t) ns → spaceOf t′ ns ≡ spaceOf t ns
+  unfolding spaceOf
+  space-same ns i = λ x. record { shape = shape-same ns i x; zs = axis-same 3 ns (omega arith) i x }
 
-    pub body-same : bodyOf t′ x ≡ bodyOf t x
+  -- ---- a card read in either table: the nodes and materials that it names stay
+  stuff : (m j : ℕ) → In 1 (materials t) m → j < 6 → field t′ (materialRow t′ m) j ≡ field t (materialRow t m) j
+  stuff m j i h =
+      ap (λ (n : ℕ). field t′ (n + m) j) (nodes-same t c card d g)
+      ∙ other t c card d g (materialRow t m) j h (λ e. omega (arith, low t c card d g, i))
+
+  module _ (x : List ℕ) where
+    body-same : Inside (nodes t) (cornersBy false x) → In 1 (materials t) (materialBy false x) → bodyOf t′ x ≡ bodyOf t x
     unfolding bodyOf
-    body-same = λ i. record {
-      shape = shape-same (getD x 1 0 ∷ getD x 2 0 ∷ getD x 3 0 ∷ []) (b .corners) i;
-      kx = stuff 1 (omega arith) i;
-      ky = stuff 2 (omega arith) i;
-      capacity = stuff 3 (omega arith) i;
+    body-same ns m = λ i. record {
+      shape = shape-same (cornersBy false x) ns i;
+      kx = stuff (getD x 4 0) 1 m (omega arith) i;
+      ky = stuff (getD x 4 0) 2 m (omega arith) i;
+      capacity = stuff (getD x 4 0) 3 m (omega arith) i;
       thickness = getD x 5 0;
     }
 
+    tetrahedron-same : Inside (nodes t) (cornersBy true x) → In 1 (materials t) (materialBy true x) → tetrahedronOf t′ x ≡ tetrahedronOf t x
+    unfolding tetrahedronOf
+    tetrahedron-same ns m = λ i. record {
+      space = space-same (cornersBy true x) ns i;
+      kx = stuff (getD x 5 0) 1 m (omega arith) i;
+      ky = stuff (getD x 5 0) 2 m (omega arith) i;
+      kz = stuff (getD x 5 0) 4 m (omega arith) i;
+      capacity = stuff (getD x 5 0) 3 m (omega arith) i;
+    }
+
     -- THEOREM. Its element is the same in the changed deck.
-    pub element-of : elementOf t′ x ≡ elementOf t x
-    unfolding elementOf
-    element-of = λ i. let e = body-same i in record { shape = e .shape; size = S (e .shape); between = pair e; stored = u (step-same t c card d g i) e }
+    pub element-of : Based (nodes t) (materials t) x → elementOf t′ x ≡ elementOf t x
+    unfolding elementOf flatOf
+    element-of b = go (isA «V» x) (b .corners) (b .material)
+      where
+        go : (deep : Bool) → Inside (nodes t) (cornersBy deep x) → In 1 (materials t) (materialBy deep x)
+            → cond deep (solidOf (stepOf t′) (tetrahedronOf t′ x)) (flatOf t′ x) ≡ cond deep (solidOf (stepOf t) (tetrahedronOf t x)) (flatOf t x)
+        go true ns m = λ i. solidOf (step-same t c card d g i) (tetrahedron-same ns m i)
+        go false ns m = λ i. let e = body-same ns m i in record { shape = e .shape; size = S (e .shape); between = pair e; stored = u (step-same t c card d g i) e }
 
   -- ---- elements: the shape stays, and all of it where another card is changed
   module _ (r : ℕ) (hr : r < rows t) (b : Body (kindIn t r)) where
-    numbers-same : cornersAt t′ r ≡ cornersAt t r
+    numbers-same : cornersOf (rowAt t′ r) ≡ cornersOf (rowAt t r)
     unfolding about
     numbers-same = go b
       where
-        go : Body (kindIn t r) → cornersAt t′ r ≡ cornersAt t r
-        go (flat e) = rw (
-          key-same t c card d g r,
-          kind-keeps t c card d g r 2 E e (omega arith) (omega arith),
-          kind-keeps t c card d g r 3 E e (omega arith) (omega arith),
-        )
+        new-kind : kindAt (rowAt t′ r) ≡ kindIn t r
+        new-kind = row-kind t′ r ∙ kind-same t c card d g r
+
+        own : (kind : Kind) → kindIn t r ≡ kind → (k : ℕ) → k < 6 → k ≤ about kind .keeps → getD (rowAt t′ r) k 0 ≡ getD (rowAt t r) k 0
+        own kind e k h l = row-field t′ r k h ∙ kind-keeps t c card d g r k kind e h l ∙ sym (row-field t r k h)
+
+        go : Body (kindIn t r) → cornersOf (rowAt t′ r) ≡ cornersOf (rowAt t r)
+        go (flat e) =
+            let at = own E e in
+            ap (λ (deep : Bool). cornersBy deep (rowAt t′ r)) (is-flat (rowAt t′ r) (new-kind ∙ e))
+            ∙ (λ i. at 1 (omega arith) (omega arith) i ∷ at 2 (omega arith) (omega arith) i ∷ at 3 (omega arith) (omega arith) i ∷ [])
+            ∙ ap (λ (deep : Bool). cornersBy deep (rowAt t r)) (sym (is-flat (rowAt t r) (row-kind t r ∙ e)))
+        go (solid e) =
+            let at = own «V» e in
+            ap (λ (deep : Bool). cornersBy deep (rowAt t′ r)) (is-solid (rowAt t′ r) (new-kind ∙ e))
+            ∙ (λ i. at 1 (omega arith) (omega arith) i ∷ at 2 (omega arith) (omega arith) i ∷ at 3 (omega arith) (omega arith) i ∷ at 4 (omega arith) (omega arith) i ∷ [])
+            ∙ ap (λ (deep : Bool). cornersBy deep (rowAt t r)) (sym (is-solid (rowAt t r) (row-kind t r ∙ e)))
 
     pub element-shape-same : elementAt t′ r .shape ≡ elementAt t r .shape
     element-shape-same =
-        element-shape t′ r ∙ ap (shapeOf t′) numbers-same ∙ shape-same (cornersAt t r) (body-corners t d r hr b) ∙ sym (element-shape t r)
+        element-shape t′ (rowAt t′ r) ∙ ap (shapeOf t′) numbers-same ∙ shape-same (cornersOf (rowAt t r)) (body-corners t d r hr b) ∙ sym (element-shape t (rowAt t r))
 
     pub element-same : (r ≡ c → ⊥) → elementAt t′ r ≡ elementAt t r
     element-same n = ap (elementOf t′) (other-row t c card d g r hr n) ∙ element-of (rowAt t r) (based t r d hr b)
@@ -153,9 +183,10 @@ module _ (t : List ℕ) (c : ℕ) (card : List ℕ) (d : Deck t) (g : Change t c
   part-of x N h = refl
   part-of x M h = refl
   part-of x E h = ap bulk (element-of x h)
+  part-of x «V» h = ap bulk (element-of x h)
   part-of x H h = λ i. let s = named-same x h i in loaded (s .corners) (heatShare (length (s .corners)) (getD x 2 0))
   part-of x F h = λ i. let s = named-same x h i in filmed (s .corners) (faceFilm (getD x 2 0) s) (getD x 3 0)
-  part-of x G h = λ i. let s = shape-same (getD x 1 0 ∷ getD x 2 0 ∷ []) h i in filmed (s .corners) (edgeFilm (getD x 3 0) (getD x 5 0) s) (getD x 4 0)
+  part-of x G h = λ i. let s = space-same (getD x 1 0 ∷ getD x 2 0 ∷ []) h i in filmed (s .shape .corners) (edgeFilm (getD x 3 0) (getD x 5 0) s) (getD x 4 0)
   part-of x T h = refl
   part-of x Z h = refl
   part-of x Other h = refl
@@ -186,8 +217,12 @@ module _ (t : List ℕ) (c : ℕ) (card : List ℕ) (d : Deck t) (g : Change t c
       ∙ ap (partOf t card) kind-here
 
   -- THEOREM. The new element is the new card's.
-  pub element-here : Deck t′ → kindIn t c ≡ E → elementAt t′ c ≡ elementOf t card
-  element-here d′ e = ap (elementOf t′) card-here ∙ element-of card (subst (NamesIn t card) e (names-here d′))
+  pub element-here : Deck t′ → Body (kindIn t c) → elementAt t′ c ≡ elementOf t card
+  element-here d′ b = ap (elementOf t′) card-here ∙ element-of card (go b)
+    where
+      go : Body (kindIn t c) → Based (nodes t) (materials t) card
+      go (flat e) = subst (NamesIn t card) e (names-here d′)
+      go (solid e) = subst (NamesIn t card) e (names-here d′)
 
   own-key : getD (rowAt t′ c) 1 0 ≡ getD (rowAt t c) 1 0
   own-key = row-field t′ c 1 (omega arith) ∙ key-same t c card d g c ∙ sym (row-field t c 1 (omega arith))
@@ -209,6 +244,7 @@ module _ (t : List ℕ) (c : ℕ) (card : List ℕ) (d : Deck t) (g : Change t c
   idle-by N e s = refl
   idle-by M e s = refl
   idle-by E e s = never (sym s)
+  idle-by «V» e s = never (sym s)
   idle-by H e s = ap (λ (s : Shape). still (loaded (s .corners) (λ a. pos 0))) (own-shape (names-H t d c (g .inside) e))
   idle-by F e s = never (sym s)
   idle-by G e s = never (sym s)
@@ -221,11 +257,12 @@ module _ (t : List ℕ) (c : ℕ) (card : List ℕ) (d : Deck t) (g : Change t c
 
   -- ---- the corners of every card, the changed one too
   corners-by : (kind : Kind) → kindIn t c ≡ kind → partOf t′ (rowAt t′ c) kind .corners ≡ partOf t (rowAt t c) kind .corners
-  unfolding partOf shapeOf
+  unfolding partOf spaceOf shapeOf
   corners-by D e = refl
   corners-by N e = refl
   corners-by M e = refl
   corners-by E e = ap (λ (s : Shape). s .corners) (element-shape-same c (g .inside) (flat e))
+  corners-by «V» e = ap (λ (s : Shape). s .corners) (element-shape-same c (g .inside) (solid e))
   corners-by H e = ap (λ (s : Shape). s .corners) (own-shape (names-H t d c (g .inside) e))
   corners-by F e = ap (λ (s : Shape). s .corners) (own-shape (names-F t d c (g .inside) e))
   corners-by G e = λ i. own-key i ∷ own-end e i ∷ []
@@ -291,16 +328,20 @@ module _ (t : List ℕ) (c : ℕ) (card : List ℕ) (d : Deck t) (g : Change t c
   unfolding formOf
   form-named e = rw (edge-here ∙ e)
 
-  pub form-element : Deck t′ → kindIn t c ≡ E → formOf t′ c ≡ formJudged (elementOf t card) (c - (nodes t + materials t))
+  pub form-element : Deck t′ → Body (kindIn t c) → formOf t′ c ≡ formJudged (elementOf t card) (c - (nodes t + materials t))
   unfolding elementJudged about
-  form-element d′ e =
-      let (lo, hi) = in-bodies t d c (g .inside) (body-section (kindIn t c) (flat e)) in
-      let is : nameAt (countsAt t′) (rowAt t′) c ≡ c - (nodes t + materials t) = new-name ∙ rw e (omega arith) in
+  form-element d′ b =
+      let (lo, hi) = in-bodies t d c (g .inside) (body-section (kindIn t c) b) in
+      let is : nameAt (countsAt t′) (rowAt t′) c ≡ c - (nodes t + materials t) = new-name ∙ rw (body-section (kindIn t c) b) (omega arith) in
       let at : elementRow t′ (c - (nodes t + materials t)) ≡ c = row-same t c card d g (c - (nodes t + materials t)) ∙ omega arith in
-      form-named (rw e)
+      form-named (no-edge b)
       ∙ ap (elementJudged t′) is
       ∙ ap (λ (r : ℕ). formJudged (elementAt t′ r) (c - (nodes t + materials t))) at
-      ∙ ap (λ (x : Element). formJudged x (c - (nodes t + materials t))) (element-here d′ e)
+      ∙ ap (λ (x : Element). formJudged x (c - (nodes t + materials t))) (element-here d′ b)
+    where
+      no-edge : Body (kindIn t c) → edge (about (kindIn t c)) ≡ false
+      no-edge (flat e) = rw e
+      no-edge (solid e) = rw e
 
   pub form-load : about (kindIn t c) .section ≡ 4 → edge (about (kindIn t c)) ≡ false → In 1 (elements t) (field t c 1) → formOf t′ c ≡ elementJudged t (field t c 1)
   form-load s n h =

@@ -6,6 +6,7 @@ use Prim.Native.Nat.{ℕ, suc, _+_, _-_, _*_, _≤_, _<_}
 use lib.ListN.{length, getD}
 use Rattle.paper.specs.Kinds.{about, kindOf, edge}
 use Rattle.paper.specs.Cards.{_⋯_, within, before, columns, rank, field, letter, mostRows, rowAt, rows, nodes, materials, elements, countsAt}
+use Rattle.paper.specs.Judge.{asks}
 use Rattle.paper.specs.declared.Kind.{Kind}
 
 -- lo to hi, both in it
@@ -44,6 +45,10 @@ pub record Deck (t : List ℕ) : Type 0 where
   pub rising : (r s : ℕ) → r < s → s < rows t → 1 ≤ about (kindIn t r) .keys → letter t r ≡ letter t s → rank (rowAt t r) < rank (rowAt t s)
   -- an edge has its lower node first
   pub lower : (row : ℕ) → row < rows t → edge (about (kindIn t row)) ≡ true → field t row 1 < field t row 2
+  -- no card stands before a kind that comes before its own
+  pub order : (r s : ℕ) → r < s → suc s < rows t → about (kindIn t r) .order ≤ about (kindIn t s) .order
+  -- every card before Z has what it asks of those before it
+  pub asked : (row : ℕ) → suc row < rows t → asks (countsAt t) (rowAt t) (rowAt t row) (kindIn t row) ≡ true
 
 -- the card in a row may become this one: its letter and the fields that its kind keeps are the same
 pub record Change (t : List ℕ) (row : ℕ) (card : List ℕ) : Type 0 where

@@ -1,6 +1,6 @@
 -- One element that passes refusals 5 and 6: no two of its corners are the same, and its numbers are small.
 use mathlib.Core.Path.{_≡_, refl, sym, ap, subst, _∙_}
-use mathlib.Core.Bool.{true, false, not}
+use mathlib.Core.Bool.{Bool, true, false, not, cond}
 use mathlib.Core.List.{List, [], _∷_, map}
 use Prim.Native.Nat.{ℕ, zero, suc, _+_, _-_, _*_, _≤_, _<_}
 use native.Mathlib.Nat.{mul-zero}
@@ -13,17 +13,19 @@ use Rattle.whole.specs.Sums.{any}
 use Rattle.whole.proofs.Rounding.{nearest-zero, nearest-none}
 use Rattle.whole.proofs.Sums.{any-each, any-none}
 use Rattle.whole.proofs.Tests.{and-told}
-use Rattle.paper.specs.Kinds.{about}
+use Rattle.paper.specs.Kinds.{about, isA}
 use Rattle.paper.specs.Cards.{field, rowAt, rows, nodes, materials, elements, elementRow, stepOf}
 use Rattle.paper.specs.Corners.{Shape, Body, shapeOf, area}
 use Rattle.paper.specs.Triangle.{S, pair, u}
-use Rattle.paper.specs.Elements.{Element, bodyOf, elementOf, elementAt, soft, fair, formJudged, elementJudged}
+use Rattle.paper.specs.Tetrahedron.{Tetrahedron, spaceOf}
+use Rattle.paper.specs.Tetrahedron as solid
+use Rattle.paper.specs.Elements.{Element, bodyOf, flatOf, tetrahedronOf, solidOf, elementOf, elementAt, soft, fair, formJudged, elementJudged}
 use Rattle.paper.specs.Parts.{namedRow, partOf, partAt}
 use Rattle.paper.specs.Building.{elementsFrom}
 use Rattle.paper.specs.declared.Answer.the-variants.{Done, Refused}
 use Rattle.paper.specs.declared.Refusal.the-variants.{Flat, Stiff}
 use Rattle.paper.specs.declared.Kind.{Kind}
-use Rattle.paper.specs.declared.Kind.the-variants.{D, N, M, E, H, F, G, T, Z, Other}
+use Rattle.paper.specs.declared.Kind.the-variants.{D, N, M, E, «V», H, F, G, T, Z, Other}
 use Rattle.laws.proofs.Outcomes.{cond-done}
 use Rattle.laws.proofs.Letters as kinds
 use Rattle.laws.proofs.Tables.{row-field}
@@ -32,16 +34,10 @@ use Rattle.laws.proofs.Spans.{is-body, in-bodies, names-H, names-F, low
 use Rattle.laws.proofs.Square.{between-symmetric}
 use Rattle.laws.proofs.InTurn.{elements-each}
 use Rattle.laws.proofs.Sizes.{Distinct}
+use Rattle.laws.proofs.Apart.{axis-same, distinct-by, two-distinct}
+use Rattle.laws.proofs.Faces.{solid-distinct}
 
 -- ---- two corners at one node lie in one place
-
-getD-map : (f : ℕ → ℕ) (ns : List ℕ) (a : ℕ) → a < length ns → getD (map f ns) a 0 ≡ f (getD ns a 0)
-getD-map f [] a h = absurd (omega arith)
-getD-map f (n ∷ ns) zero h = refl
-getD-map f (n ∷ ns) (suc a) h = getD-map f ns a (omega arith)
-
-pub axis-same : (f : ℕ → ℕ) (ns : List ℕ) (a b : ℕ) → a < length ns → b < length ns → getD ns a 0 ≡ getD ns b 0 → getD (map f ns) a 0 ≡ getD (map f ns) b 0
-axis-same f ns a b ha hb e = getD-map f ns a ha ∙ ap f e ∙ sym (getD-map f ns b hb)
 
 -- a corner's coordinates
 abbrev Xc : Shape → ℕ → ℤ
@@ -60,31 +56,31 @@ meet t ns a b ha hb e = record { x = ap pos (axis-same (λ n. field t n 1) ns a 
 
 -- ---- corners of which two meet make no area
 
-abbrev flatOf : (x₀ x₁ x₂ y₀ y₁ y₂ : ℤ) → ℤ
-flatOf x₀ x₁ x₂ y₀ y₁ y₂ = (x₁ -ℤ x₀) *ℤ (y₂ -ℤ y₀) -ℤ (x₂ -ℤ x₀) *ℤ (y₁ -ℤ y₀)
+abbrev areaOf : (x₀ x₁ x₂ y₀ y₁ y₂ : ℤ) → ℤ
+areaOf x₀ x₁ x₂ y₀ y₁ y₂ = (x₁ -ℤ x₀) *ℤ (y₂ -ℤ y₀) -ℤ (x₂ -ℤ x₀) *ℤ (y₁ -ℤ y₀)
 
-flat01 : (x x₂ y y₂ : ℤ) → flatOf x x x₂ y y y₂ ≡ pos 0
+flat01 : (x x₂ y y₂ : ℤ) → areaOf x x x₂ y y y₂ ≡ pos 0
 flat01 x x₂ y y₂ = rw (+ℤ-invr x, +ℤ-invr y, zero-*ℤ (y₂ -ℤ y), *ℤ-zero (x₂ -ℤ x))
 
-flat02 : (x x₁ y y₁ : ℤ) → flatOf x x₁ x y y₁ y ≡ pos 0
+flat02 : (x x₁ y y₁ : ℤ) → areaOf x x₁ x y y₁ y ≡ pos 0
 flat02 x x₁ y y₁ = rw (+ℤ-invr x, +ℤ-invr y, zero-*ℤ (y₁ -ℤ y), *ℤ-zero (x₁ -ℤ x))
 
-flat12 : (x x₁ y y₁ : ℤ) → flatOf x x₁ x₁ y y₁ y₁ ≡ pos 0
+flat12 : (x x₁ y y₁ : ℤ) → areaOf x x₁ x₁ y y₁ y₁ ≡ pos 0
 flat12 x x₁ y y₁ = rw (+ℤ-invr ((x₁ -ℤ x) *ℤ (y₁ -ℤ y)))
 
 module _ (s : Shape) where
-  S-is : S s ≡ natAbs (flatOf (Xc s 0) (Xc s 1) (Xc s 2) (Yc s 0) (Yc s 1) (Yc s 2))
+  S-is : S s ≡ natAbs (areaOf (Xc s 0) (Xc s 1) (Xc s 2) (Yc s 0) (Yc s 1) (Yc s 2))
   unfolding S area
   S-is = refl
 
   S-01 : Meet s 0 1 → S s ≡ 0
-  S-01 m = S-is ∙ ap natAbs ((λ i. flatOf (m .x i) (Xc s 1) (Xc s 2) (m .y i) (Yc s 1) (Yc s 2)) ∙ flat01 (Xc s 1) (Xc s 2) (Yc s 1) (Yc s 2))
+  S-01 m = S-is ∙ ap natAbs ((λ i. areaOf (m .x i) (Xc s 1) (Xc s 2) (m .y i) (Yc s 1) (Yc s 2)) ∙ flat01 (Xc s 1) (Xc s 2) (Yc s 1) (Yc s 2))
 
   S-02 : Meet s 0 2 → S s ≡ 0
-  S-02 m = S-is ∙ ap natAbs ((λ i. flatOf (m .x i) (Xc s 1) (Xc s 2) (m .y i) (Yc s 1) (Yc s 2)) ∙ flat02 (Xc s 2) (Xc s 1) (Yc s 2) (Yc s 1))
+  S-02 m = S-is ∙ ap natAbs ((λ i. areaOf (m .x i) (Xc s 1) (Xc s 2) (m .y i) (Yc s 1) (Yc s 2)) ∙ flat02 (Xc s 2) (Xc s 1) (Yc s 2) (Yc s 1))
 
   S-12 : Meet s 1 2 → S s ≡ 0
-  S-12 m = S-is ∙ ap natAbs ((λ i. flatOf (Xc s 0) (m .x i) (Xc s 2) (Yc s 0) (m .y i) (Yc s 2)) ∙ flat12 (Xc s 0) (Xc s 2) (Yc s 0) (Yc s 2))
+  S-12 m = S-is ∙ ap natAbs ((λ i. areaOf (Xc s 0) (m .x i) (Xc s 2) (Yc s 0) (m .y i) (Yc s 2)) ∙ flat12 (Xc s 0) (Xc s 2) (Yc s 0) (Yc s 2))
 
   no-area : (a b : ℕ) → a < b → b < 3 → Meet s a b → S s ≡ 0
   no-area zero zero h k m = absurd (omega arith)
@@ -99,32 +95,18 @@ module _ (s : Shape) where
 
 -- ---- distinct corners
 
-pub distinct-by : (ns : List ℕ) → ((a b : ℕ) → a < b → b < length ns → getD ns a 0 ≡ getD ns b 0 → ⊥) → Distinct ns
-distinct-by ns f a b ha hb e = go (decLt a b) (decLt b a)
-  where
-    go : Dec (a < b) → Dec (b < a) → a ≡ b
-    go (yes l) m = absurd (f a b l hb e)
-    go (no l) (yes m) = absurd (f b a m ha (sym e))
-    go (no l) (no m) =
-        let l′ : a < b → ⊥ = l in
-        let m′ : b < a → ⊥ = m in
-        omega arith
+-- three corners with some area
+flat-distinct : (t ns : List ℕ) → length ns ≡ 3 → 1 ≤ S (shapeOf t ns) → Distinct ns
+flat-distinct t ns three h = distinct-by ns (λ a b l k m. let z = no-area (shapeOf t ns) a b l (omega arith) (meet t ns a b (omega arith) k m) in omega arith)
 
-pub two-distinct : (x y : ℕ) → x < y → Distinct (x ∷ y ∷ [])
-two-distinct x y h = distinct-by (x ∷ y ∷ []) apart
-  where
-    apart : (a b : ℕ) → a < b → b < 2 → getD (x ∷ y ∷ []) a 0 ≡ getD (x ∷ y ∷ []) b 0 → ⊥
-    apart zero zero l k e = omega arith
-    apart zero (suc zero) l k e = omega arith
-    apart zero (suc (suc b)) l k e = omega arith
-    apart (suc a) b l k e = omega arith
-
--- THEOREM. An element of some area, of whatever card, has no two corners the same.
+-- THEOREM. An element of some size, of whatever card, has no two corners the same.
 pub distinct : (t card : List ℕ) → 1 ≤ elementOf t card .size → Distinct (elementOf t card .shape .corners)
-unfolding elementOf bodyOf shapeOf
-distinct t card h =
-    let ns = getD card 1 0 ∷ getD card 2 0 ∷ getD card 3 0 ∷ [] in
-    distinct-by ns (λ a b l k m. let z = no-area (shapeOf t ns) a b l k (meet t ns a b (omega arith) k m) in omega arith)
+unfolding elementOf flatOf bodyOf tetrahedronOf spaceOf shapeOf
+distinct t card = go (isA «V» card)
+  where
+    go : (b : Bool) → let it = cond b (solidOf (stepOf t) (tetrahedronOf t card)) (flatOf t card) in 1 ≤ it .size → Distinct (it .shape .corners)
+    go true h = solid-distinct t (getD card 1 0 ∷ getD card 2 0 ∷ getD card 3 0 ∷ getD card 4 0 ∷ []) refl h
+    go false h = flat-distinct t (getD card 1 0 ∷ getD card 2 0 ∷ getD card 3 0 ∷ []) refl h
 
 -- ---- fair
 
@@ -210,11 +192,12 @@ module _ (t : List ℕ) (d : Deck t) (pass : elementsFrom (elements t) 1 t ≡ D
   nothing-distinct a b ha hb e = absurd (omega arith)
 
   distinct-kind : (row : ℕ) (kind : Kind) → row < rows t → kindIn t row ≡ kind → Distinct (partOf t (rowAt t row) kind .corners)
-  unfolding partOf shapeOf
+  unfolding partOf spaceOf shapeOf
   distinct-kind row D h e = nothing-distinct
   distinct-kind row N h e = nothing-distinct
   distinct-kind row M h e = nothing-distinct
   distinct-kind row E h e = distinct t (rowAt t row) (sound t row d pass h (kinds.flat e) .some)
+  distinct-kind row «V» h e = distinct t (rowAt t row) (sound t row d pass h (kinds.solid e) .some)
   distinct-kind row H h e = named-at row (names-H t d row h e)
   distinct-kind row F h e = named-at row (names-F t d row h e)
   distinct-kind row G h e =
@@ -230,22 +213,31 @@ module _ (t : List ℕ) (d : Deck t) (pass : elementsFrom (elements t) 1 t ≡ D
 
 -- ---- within one element the order of 5 and 6 can't be seen
 
-pub none-is-fair : (it : Element) → it .stored ≡ 0 → ((i j : ℕ) → natAbs (it .between i j) ≡ 0) → fair it ≡ true
+-- what 6 asks, of an element all of whose numbers are 0
+none-is-fair : (it : Element) → it .stored ≡ 0 → ((i j : ℕ) → natAbs (it .between i j) ≡ 0) → fair it ≡ true
 unfolding fair
-none-is-fair it h p = rw (
+none-is-fair it z p = rw (
   le-leb (it .stored) 4000000 (omega arith),
   any-none (length (it .shape .corners)) (λ i. any i (λ j. not (soft (natAbs (it .between i j))))) (λ i l. any-none i _ (λ j k. ap not (le-leb (natAbs (it .between i j)) 4000000 (omega (arith, p i j))))),
 )
 
--- THEOREM. 6 asks nothing of an element with no area.
+-- THEOREM. 6 asks nothing of an element with no size.
 pub flat-is-fair : (t card : List ℕ) → 1 ≤ stepOf t → elementOf t card .size ≡ 0 → fair (elementOf t card) ≡ true
-flat-is-fair t card h z = none-is-fair (elementOf t card) stored pairs
+unfolding elementOf flatOf u pair solid.u solid.pair
+flat-is-fair t card h = go (isA «V» card)
   where
     e : Body
     e = bodyOf t card
 
-    stored : elementOf t card .stored ≡ 0
-    stored = unfold elementOf in unfold u in nearest-zero _ (9600 * stepOf t) (omega arith) (ap (λ (k : ℕ). e .capacity * e .thickness * k) z ∙ mul-zero (e .capacity * e .thickness))
+    s : Tetrahedron
+    s = tetrahedronOf t card
 
-    pairs : (i j : ℕ) → natAbs (elementOf t card .between i j) ≡ 0
-    pairs i j = unfold elementOf in unfold pair in nearest-none _ (2000 * S (e .shape)) (ap (λ (k : ℕ). 2000 * k) z)
+    go : (b : Bool) → let it = cond b (solidOf (stepOf t) (tetrahedronOf t card)) (flatOf t card) in it .size ≡ 0 → fair it ≡ true
+    go true z =
+        none-is-fair (solidOf (stepOf t) s)
+        (nearest-zero _ (960 * stepOf t) (omega arith) (ap (λ (k : ℕ). s .capacity * k) z ∙ mul-zero (s .capacity)))
+        (λ i j. nearest-none _ (120 * solid.S (s .space)) (omega arith))
+    go false z =
+        none-is-fair (flatOf t card)
+        (nearest-zero _ (9600 * stepOf t) (omega arith) (ap (λ (k : ℕ). e .capacity * e .thickness * k) z ∙ mul-zero (e .capacity * e .thickness)))
+        (λ i j. nearest-none _ (2000 * S (e .shape)) (omega arith))

@@ -18,7 +18,7 @@ use Rattle.paper.specs.Cards.{field}
 use Rattle.paper.specs.Corners.{shapeOf, from, area}
 use Rattle.paper.specs.Tetrahedron.{Space, spaceOf, face, b, c, d, sixfold, S}
 use Rattle.laws.proofs.Sizes.{Distinct}
-use Rattle.laws.proofs.Elements.{axis-same, distinct-by}
+use Rattle.laws.proofs.Apart.{axis-same, distinct-by}
 
 -- ---- sizes
 

@@ -1,16 +1,18 @@
 -- A field printed has its spaced, and a field read is the field printed, both ways.
 use mathlib.Core.Path.{_≡_, refl, sym, ap, _∙_}
-use mathlib.Core.Bool.{Bool, true, false, cond, _&&_}
+use mathlib.Core.Bool.{Bool, true, false, not, cond, _&&_}
 use mathlib.Core.List.{List, [], _∷_}
 use Prim.Native.Nat.{ℕ, zero, suc, _+_, _-_, _*_, _/_, _%_, _^_, _≤_, _<_}
 use native.Mathlib.Nat.{pow-suc}
 use native.Mathlib.Omega.{arith}
-use borrow.Author.Tests.{ne-eqb, le-leb, eqb-true, eqb-false, leb-true}
+use borrow.Author.Tests.{eq-eqb, ne-eqb, le-leb, eqb-true, eqb-false, leb-true}
 use lib.Dec.{leb, ltb, eqb}
 use lib.ListN.{length, replicate}
+use Rattle.paper.specs.declared.Kind.{Kind}
 use Rattle.paper.specs.declared.Field.{Field}
 use Rattle.paper.specs.declared.Field.the-variants.{Number, Malformed}
-use Rattle.paper.specs.Text.{digits, alone, number, blank, digit, spaced, printed, textField}
+use Rattle.paper.specs.Cards.{used, mayBlank, outside}
+use Rattle.paper.specs.Text.{digits, alone, number, blank, digit, spaced, printed, filled, blankElse, textField}
 use Rattle.whole.proofs.Tests.{and-told}
 
 -- ---- lengths
@@ -24,9 +26,9 @@ pub length-printed : (n : ℕ) → length (printed n) ≡ 8
 unfolding printed
 length-printed n = length-spaced 7 (n / 10) ((48 + n % 10) ∷ [])
 
-pub length-field : (u k n : ℕ) → length (textField u k n) ≡ 8
+pub length-field : (solid : Bool) (kind : Kind) (k n : ℕ) → length (textField solid kind k n) ≡ 8
 unfolding textField
-length-field u k n = by (ltb k u)
+length-field solid kind k n = by (ltb k (used kind) && not (mayBlank solid kind k && eqb n 0))
   where
     by : (b : Bool) → length (cond b (printed n) (replicate 8 32)) ≡ 8
     by true = length-printed n
@@ -208,3 +210,61 @@ blank-blanks (b ∷ s) v h =
     let z : b ≡ 32 = eqb-true b 32 (t .0) in
     let r = blank-blanks s v (t .1) in
     (r .0, ap (λ (c : ℕ). c ∷ s) z ∙ ap (λ (l : List ℕ). 32 ∷ l) (r .1))
+
+-- ---- a field that may be blank
+
+pub blank-eight : blank (replicate 8 32) ≡ Number 0
+unfolding blank
+blank-eight = refl
+
+no-number : number (replicate 8 32) ≡ Malformed
+unfolding number
+no-number = refl
+
+-- columns that are a number are not blank
+filled-not : (s : List ℕ) (n : ℕ) (f : Field) → length s ≡ 8 → number s ≡ Number n → blankElse (blank s) f ≡ f
+filled-not s n f l h = by (blank s) refl
+  where
+    by : (g : Field) → g ≡ blank s → blankElse g f ≡ f
+    by (Number v) e = broken n (sym (ap number (blank-blanks s v (sym e) .1 ∙ ap (λ (m : ℕ). replicate m 32) l) ∙ no-number) ∙ h)
+    by Malformed e = refl
+
+-- Columns printed are read as what was printed: m tells whether they may be blank
+pub field-printed : (m : Bool) (s : List ℕ) (f : ℕ) → s ≡ cond (not (m && eqb f 0)) (printed f) (replicate 8 32) → f < 100000000
+    → cond m (blankElse (blank s) (filled (number s))) (number s) ≡ Number f
+field-printed false s f e l = ap number e ∙ number-printed f l
+field-printed true s f e l = by (eqb f 0) refl e
+  where
+    by : (c : Bool) → c ≡ eqb f 0 → s ≡ cond (not c) (printed f) (replicate 8 32) → blankElse (blank s) (filled (number s)) ≡ Number f
+    by true q e = ap (λ (g : Field). blankElse g (filled (number s))) (ap blank e ∙ blank-eight) ∙ ap Number (sym (eqb-true f 0 (sym q)))
+    by false q e =
+        let n : number s ≡ Number f = ap number e ∙ number-printed f l in
+        filled-not s f (filled (number s)) (ap length e ∙ length-printed f) n ∙ ap filled n ∙ ap (λ (c : Bool). Number (cond c outside f)) (sym q)
+
+filled-told : (g : Field) (f : ℕ) → filled g ≡ Number f → f < 100000000 → (g ≡ Number f) × (eqb f 0 ≡ false)
+filled-told (Number v) f e w = by (eqb v 0) refl e
+  where
+    by : (c : Bool) → c ≡ eqb v 0 → Number (cond c outside v) ≡ Number f → (Number v ≡ Number f) × (eqb f 0 ≡ false)
+    by true q e =
+        let x : outside ≡ f = cc in
+        absurd (omega arith)
+    by false q e =
+        let x : v ≡ f = cc in
+        (e, ap (λ (n : ℕ). eqb n 0) (sym x) ∙ sym q)
+filled-told Malformed f e w = broken f e
+
+-- Eight columns that are read as a number of at most eight digits are that number printed
+pub printed-field : (m : Bool) (s : List ℕ) (f : ℕ) → length s ≡ 8 → f < 100000000 → cond m (blankElse (blank s) (filled (number s))) (number s) ≡ Number f
+    → cond (not (m && eqb f 0)) (printed f) (replicate 8 32) ≡ s
+printed-field false s f l w e = printed-number s f l e
+printed-field true s f l w e = by (blank s) refl e
+  where
+    by : (g : Field) → g ≡ blank s → blankElse g (filled (number s)) ≡ Number f → cond (not (eqb f 0)) (printed f) (replicate 8 32) ≡ s
+    by (Number v) q e =
+        let r = blank-blanks s v (sym q) in
+        let x : v ≡ f = cc in
+        let z : f ≡ 0 = sym x ∙ r .0 in
+        ap (λ (c : Bool). cond (not c) (printed f) (replicate 8 32)) (eq-eqb f 0 z) ∙ sym (r .1 ∙ ap (λ (n : ℕ). replicate n 32) l)
+    by Malformed q e =
+        let r = filled-told (number s) f e w in
+        ap (λ (c : Bool). cond (not c) (printed f) (replicate 8 32)) (r .1) ∙ printed-number s f l (r .0)

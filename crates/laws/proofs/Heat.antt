@@ -1,7 +1,7 @@
 -- The heat book: the corners of an element get all of its heat, and the nodes of a deck all of its heats.
 use mathlib.Core.Path.{_≡_, refl, sym, ap, subst, _∙_}
 use mathlib.Core.Bool.{Bool, true, false, cond}
-use mathlib.Core.List.{List, [], _∷_}
+use mathlib.Core.List.{List}
 use Prim.Native.Nat.{ℕ, zero, suc, _+_, _*_, _/_, _%_, _≤_, _<_, min}
 use native.Mathlib.Nat.{zero-mul, suc-mul, mod-lt, div-add-mod}
 use native.Mathlib.Omega.{arith}
@@ -14,16 +14,15 @@ use Rattle.whole.proofs.Sums.{sum-ext, sum-none, sum-swap}
 use Rattle.paper.specs.Ticks.{kelvin}
 use Rattle.paper.specs.Kinds.{letterOf}
 use Rattle.paper.specs.Cards.{field, letter, isCard, rowAt, rows, nodes}
-use Rattle.paper.specs.Corners.{shapeOf, share}
-use Rattle.paper.specs.Elements.{bodyOf, elementOf}
-use Rattle.paper.specs.Parts.{Part, heatShare, partOf, partAt}
+use Rattle.paper.specs.Corners.{share}
+use Rattle.paper.specs.Parts.{Part, heatShare, namedRow, partOf, partAt}
 use Rattle.paper.specs.Matrices.{addsLoad, heatOf, powers}
 use Rattle.paper.specs.declared.Kind.{Kind}
 use Rattle.paper.specs.declared.Kind.the-variants.{H}
 use Rattle.laws.proofs.Letters.{kind-of}
 use Rattle.laws.proofs.Tables.{row-field}
 use Rattle.laws.proofs.Decks.{In, kindIn, Deck}
-use Rattle.laws.proofs.Spans.{inside-each, part-corners}
+use Rattle.laws.proofs.Spans.{inside-each, few-corners, part-corners}
 use Rattle.laws.proofs.Assembled.{column}
 
 -- q to each of k, and one more to each that comes before rest
@@ -68,11 +67,11 @@ picked h f (suc k) = ap (λ (z : ℤ). z +ℤ cond (h k) (pos (kelvin * f k)) (p
 module _ (t : List ℕ) (d : Deck t) where
   -- one H card's heat
   card-heat : (row : ℕ) → row < rows t → kindIn t row ≡ H → sum (nodes t) (λ i. addsLoad (partAt t row) i) ≡ pos (kelvin * field t row 2)
-  unfolding addsLoad partOf elementOf bodyOf shapeOf
+  unfolding addsLoad partOf
   card-heat row h e =
       share-all (nodes t) (partAt t row .corners) (partAt t row .load) (inside-each (nodes t) (partAt t row .corners) (part-corners t d row h))
       ∙ ap (λ (k : Kind). sum (length (partOf t (rowAt t row) k .corners)) (partOf t (rowAt t row) k .load)) e
-      ∙ all-shared 3 (getD (rowAt t row) 2 0) (omega arith)
+      ∙ all-shared _ (getD (rowAt t row) 2 0) (omega (arith, few-corners t (rowAt t (namedRow t (rowAt t row)))))
       ∙ ap (λ (v : ℕ). pos (kelvin * v)) (row-field t row 2 (omega arith))
 
   by-test : (row : ℕ) → row < rows t → (b : Bool) → isCard H t row ≡ b

@@ -1,6 +1,6 @@
 -- What the judge of a table tells of a deck that it accepts: places by section, fields by column, for all kinds at once.
 use mathlib.Core.Path.{_≡_, refl, sym, ap, subst, _∙_}
-use mathlib.Core.Bool.{true, false, not, _&&_, _||_}
+use mathlib.Core.Bool.{Bool, true, false, not, _&&_, _||_}
 use mathlib.Core.List.{List}
 use Prim.Native.Nat.{ℕ, zero, suc, _+_, _*_, _-_, _%_, _≤_, _<_}
 use native.Mathlib.Decide.{ℕ-discrete}
@@ -11,8 +11,8 @@ use lib.ListN.{length, getD}
 use Rattle.whole.specs.Sums.{sumN}
 use Rattle.whole.proofs.Tests.{never, and-told, nor-told}
 use Rattle.paper.specs.Kinds.{about, aboutOf, letterOf, kindOf, kindAt, isA, edge}
-use Rattle.paper.specs.Cards.{Column, _⋯_, within, before, columns, columnsOf, inRange, orderOf, ranked, rank, countsAt, mostRows, rowAt, field, letter, rows, nodes, materials, elements}
-use Rattle.paper.specs.Judge.{stands, clean, rises, ordered, full, formed, ranged, judgeOne, judgeCard, judgeFrom, trailer, judgeRows, judged}
+use Rattle.paper.specs.Cards.{Column, _⋯_, within, before, columns, columnsOf, inRange, orderOf, ranked, rank, countsOf, countsAt, mostRows, rowAt, field, letter, rows, nodes, materials, elements}
+use Rattle.paper.specs.Judge.{stands, clean, rises, ordered, full, formed, ranged, judgeOne, asks, judgeCard, judgeFrom, trailer, judgeRows, judged}
 use Rattle.paper.specs.declared.About.{About}
 use Rattle.paper.specs.declared.Answer.{Answer}
 use Rattle.paper.specs.declared.Answer.the-variants.{Done}
@@ -72,6 +72,26 @@ range-each cs card (suc n) k j e a b =
 
 -- ---- one card
 
+pub record One (z : Counts) (i p key : ℕ) (crowded : Bool) (card : List ℕ) : Type 0 where
+  pub place : stands z i p (aboutOf card) ≡ true
+  pub spare : crowded ≡ false
+  pub clear : clean card ≡ true
+  pub range : inRange (columnsOf z card) card 5 0 ≡ true
+  pub order : ordered (aboutOf card) card ≡ true
+  pub rise : rises p key (aboutOf card) card ≡ true
+
+pub one-told : (z : Counts) (i p key : ℕ) (crowded : Bool) (card : List ℕ) → judgeOne z i p key crowded card ≡ Done → One z i p key crowded card
+unfolding judgeOne formed ranged
+one-told z i p key crowded card e =
+    let a = aboutOf card in
+    let (f, e₁) = cond-done _ _ (Form (suc i)) e in
+    let (g, _) = cond-done _ Done (Range (suc i)) e₁ in
+    let (sn, c) = and-told (stands z i p a && not crowded) (clean card) f in
+    let (s, n) = and-told (stands z i p a) (not crowded) sn in
+    let (wo, r) = and-told (inRange (columnsOf z card) card 5 0 && ordered a card) (rises p key a card) g in
+    let (w, o) = and-told (inRange (columnsOf z card) card 5 0) (ordered a card) wo in
+    record { place = s; spare = not-true crowded n; clear = c; range = w; order = o; rise = r }
+
 pub record Passed (z : Counts) (row : ℕ → List ℕ) (i p key : ℕ) : Type 0 where
   pub place : stands z i p (aboutOf (row i)) ≡ true
   pub spare : full row i (aboutOf (row i)) ≡ false
@@ -79,22 +99,19 @@ pub record Passed (z : Counts) (row : ℕ → List ℕ) (i p key : ℕ) : Type 0
   pub range : inRange (columnsOf z (row i)) (row i) 5 0 ≡ true
   pub order : ordered (aboutOf (row i)) (row i) ≡ true
   pub rise : rises p key (aboutOf (row i)) (row i) ≡ true
+  pub asked : asks z row (row i) (kindAt (row i)) ≡ true
 
 pub passed : (z : Counts) (row : ℕ → List ℕ) (i p key : ℕ) → judgeCard z row i p key ≡ Done → Passed z row i p key
-unfolding judgeOne formed ranged
+unfolding judgeCard
 passed z row i p key e =
-    let a = aboutOf (row i) in
-    let (f, e₁) = cond-done _ _ (Form (suc i)) e in
-    let (g, _) = cond-done _ Done (Range (suc i)) e₁ in
-    let (sn, c) = and-told (stands z i p a && not (full row i a)) (clean (row i)) f in
-    let (s, n) = and-told (stands z i p a) (not (full row i a)) sn in
-    let (wo, r) = and-told (inRange (columnsOf z (row i)) (row i) 5 0 && ordered a (row i)) (rises p key a (row i)) g in
-    let (w, o) = and-told (inRange (columnsOf z (row i)) (row i) 5 0) (ordered a (row i)) wo in
-    record { place = s; spare = not-true (full row i a) n; clear = c; range = w; order = o; rise = r }
+    let (h, k) = both-done (judgeOne z i p key (full row i (aboutOf (row i))) (row i)) _ e in
+    let q = one-told z i p key (full row i (aboutOf (row i))) (row i) h in
+    let (a, _) = cond-done _ Done (Range (suc i)) k in
+    record { place = q .place; spare = q .spare; clear = q .clear; range = q .range; order = q .order; rise = q .rise; asked = a }
 
 pub passing : (z : Counts) (row : ℕ → List ℕ) (i p key : ℕ) → Passed z row i p key → judgeCard z row i p key ≡ Done
-unfolding judgeOne formed ranged
-passing z row i p key h = rw (h .place, h .spare, h .clear, h .range, h .order, h .rise)
+unfolding judgeCard judgeOne formed ranged
+passing z row i p key h = rw (h .place, h .spare, h .clear, h .range, h .order, h .rise, h .asked)
 
 -- a card stands within its section, and not before the group of the card before it
 pub record Stood (z : Counts) (i p : ℕ) (a : About) : Type 0 where
@@ -171,7 +188,7 @@ module _ (t : List ℕ) (ok : judged t ≡ Done) where
   is-Z : kindIn t (rows t - 1) ≡ Z
   unfolding trailer
   is-Z =
-      let (l, _) = and-told (isA Z card) (inRange (columnsOf z card) card 5 0) (tp .zed) in
+      let (l, _) = and-told (isA Z card) (inRange (columnsOf (countsOf card (λ i. 0)) card) card 5 0) (tp .zed) in
       kind-of (letter t (rows t - 1)) Z (sym (row-field t (rows t - 1) 0 (omega arith)) ∙ eqb-true (getD card 0 0) (letterOf Z) l)
 
   kind-row : (row : ℕ) → kindAt (rowAt t row) ≡ kindIn t row
@@ -185,12 +202,14 @@ module _ (t : List ℕ) (ok : judged t ≡ Done) where
       (range-each (columnsOf z (rowAt t row)) (rowAt t row) 5 0 k g (omega arith) (omega arith)))
 
   spanZ : (k : ℕ) → k < 5 → let c = getD (columns z Z) k (0 ⋯ 0) in In (c .least) (c .most) (field t (rows t - 1) (suc k))
-  unfolding trailer
+  unfolding trailer columns before
   spanZ k l =
       let r = rows t - 1 in
-      let (_, g) = and-told (isA Z card) (inRange (columnsOf z card) card 5 0) (tp .zed) in
+      let (_, g) = and-told (isA Z card) (inRange (columnsOf (countsOf card (λ i. 0)) card) card 5 0) (tp .zed) in
+      let w = range-each (columnsOf (countsOf card (λ i. 0)) card) card 5 0 k g (omega arith) (omega arith) in
       in-told (getD (columns z Z) k (0 ⋯ 0)) (field t r (suc k))
-      (subst (λ (q : Kind). within (getD (columns z q) k (0 ⋯ 0)) (field t r (suc k)) ≡ true) is-Z (spans r k g l))
+      (subst (λ (v : ℕ). within (getD (columns z Z) k (0 ⋯ 0)) v ≡ true) (row-field t r (suc k) (omega arith))
+      (subst (λ (q : Kind). within (getD (columns (countsOf card (λ i. 0)) q) k (0 ⋯ 0)) (getD card (suc k) 0) ≡ true) (kind-row r ∙ is-Z) w))
 
   count : rows t ≡ 2 + nodes t + materials t + elements t + loads t
   unfolding columns
@@ -282,6 +301,10 @@ module _ (t : List ℕ) (ok : judged t ≡ Done) where
       inner (yes q) = absurd (omega (arith, last q))
       inner (no q) = let q′ : s ≡ rows t - 1 → ⊥ = q in omega arith
 
+  orders : (r s : ℕ) → r < s → suc s < rows t → about (kindIn t r) .order ≤ about (kindIn t s) .order
+  unfolding orderAt
+  orders r s h i = let q : r + suc (s - suc r) ≡ s = omega arith in subst (Up r) q (up r (s - suc r) (rw q i)) .order
+
   lower : (row : ℕ) → row < rows t → edge (about (kindIn t row)) ≡ true → field t row 1 < field t row 2
   unfolding about
   lower row h e = go (ℕ-discrete row (rows t - 1))
@@ -306,4 +329,6 @@ module _ (t : List ℕ) (ok : judged t ≡ Done) where
     span = λ row k h l. spans row k (told row h .range) l;
     rising = rise;
     lower = lower;
+    order = orders;
+    asked = λ row h. ap (asks z (rowAt t) (rowAt t row)) (sym (kind-row row)) ∙ told row h .asked;
   }

@@ -8,10 +8,9 @@ use native.Mathlib.Omega.{arith}
 use borrow.Author.Tests.{eq-eqb, ne-eqb, lt-ltb, le-ltb}
 use lib.Dec.{eqb, leb}
 use lib.ListN.{length, getD}
-use Rattle.paper.specs.Refusals.{andThen}
 use Rattle.paper.specs.Kinds.{kindAt, aboutOf}
 use Rattle.paper.specs.Cards.{used, columnsOf, zeros, inRange, orderOf, rank, countsAt, mostRows, rowAt, rows}
-use Rattle.paper.specs.Judge.{stands, rises, ordered, full, clean, formed, ranged, judgeOne, judgeCard, judgeFrom, trailer, judgeRows, judged}
+use Rattle.paper.specs.Judge.{stands, rises, ordered, full, clean, formed, ranged, judgeOne, asks, judgeCard, judgeFrom, trailer, judgeRows, judged}
 use Rattle.paper.specs.declared.About.{About}
 use Rattle.paper.specs.declared.Answer.{Answer}
 use Rattle.paper.specs.declared.Answer.the-variants.{Done, Refused}
@@ -83,6 +82,23 @@ module _ (z : Counts) (i p key : ℕ) (crowded : Bool) (card : List ℕ) where
   unfolding judgeOne
   card-done h g = simp (h, g)
 
+-- and of what it asks of those before it
+module _ (z : Counts) (row : ℕ → List ℕ) (i p key : ℕ) where
+  abbrev alone : Answer
+  alone = judgeOne z i p key (full row i (aboutOf (row i))) (row i)
+
+  pub alone-refused : (r : Refusal) → alone ≡ Refused r → Refused r ≡ judgeCard z row i p key
+  unfolding judgeCard
+  alone-refused r h = simp h
+
+  pub asked-not : alone ≡ Done → asks z row (row i) (kindAt (row i)) ≡ false → Refused (Range (i + 1)) ≡ judgeCard z row i p key
+  unfolding judgeCard
+  asked-not h a = rw add-one (simp (h, a))
+
+  pub asked-done : alone ≡ Done → asks z row (row i) (kindAt (row i)) ≡ true → Done ≡ judgeCard z row i p key
+  unfolding judgeCard
+  asked-done h a = simp (h, a)
+
 -- cards in turn
 module _ (z : Counts) (row : ℕ → List ℕ) (n i p key : ℕ) where
   pub judge-on : i < n → judgeCard z row i p key ≡ Done → judgeFrom z row (n - i) i p key ≡ judgeFrom z row (n - (i + 1)) (i + 1) (orderOf (row i)) (rank (row i))
@@ -107,21 +123,6 @@ module _ (z : Counts) (row : ℕ → List ℕ) (n i p key : ℕ) where
 pub full-same : (f g : ℕ → List ℕ) (i : ℕ) (a : About) → getD (f (i - a .most)) 0 0 ≡ getD (g (i - a .most)) 0 0 → full f i a ≡ full g i a
 unfolding full
 full-same f g i a e = ap (λ (l : ℕ). leb (a .most) i && eqb l (a .letter)) e
-
-pub card-same : (z : Counts) (f g : ℕ → List ℕ) (i p key : ℕ) → ((j : ℕ) → j ≤ i → f j ≡ g j) → judgeCard z f i p key ≡ judgeCard z g i p key
-card-same z f g i p key e =
-    ap (λ (b : Bool). judgeOne z i p key b (f i)) (full-same f g i (aboutOf (f i)) (ap (λ (c : List ℕ). getD c 0 0) (e (i - aboutOf (f i) .most) (omega arith))))
-    ∙ ap (λ (c : List ℕ). judgeOne z i p key (full g i (aboutOf c)) c) (e i (omega arith))
-
-pub judge-same : (z : Counts) (f g : ℕ → List ℕ) (n i p key : ℕ) → ((j : ℕ) → j < i + n → f j ≡ g j) → judgeFrom z f n i p key ≡ judgeFrom z g n i p key
-unfolding judgeFrom
-judge-same z f g zero i p key e = refl
-judge-same z f g (suc n) i p key e =
-    let r = judge-same z f g n (suc i) (orderOf (f i)) (rank (f i)) (λ j x. e j (omega arith)) in
-    let h = e i (omega arith) in
-    ap (andThen (judgeCard z f i p key)) r
-    ∙ ap (λ (c : List ℕ). andThen (judgeCard z f i p key) (judgeFrom z g n (suc i) (orderOf c) (rank c))) h
-    ∙ ap (λ (a : Answer). andThen a (judgeFrom z g n (suc i) (orderOf (g i)) (rank (g i)))) (card-same z f g i p key (λ j l. e j (omega arith)))
 
 -- a table of n cards and Z
 module _ (t : List ℕ) (n : ℕ) where

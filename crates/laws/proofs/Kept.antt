@@ -55,9 +55,6 @@ module _ (t : List ℕ) (c : ℕ) (card : List ℕ) (d : Deck t) (g : Change t c
   pub last-row : rowAt t′ (rows t′ - 1) ≡ rowAt t (rows t - 1)
   last-row = ap (λ (n : ℕ). rowAt t′ (n - 1)) rows-same ∙ other-row (rows t - 1) (omega (arith, d .all)) (λ e. omega (arith, high))
 
-  pub counts-same : countsAt t′ ≡ countsAt t
-  counts-same = ap countsOf last-row
-
   pub last-same : (k : ℕ) → k < 6 → field t′ (rows t′ - 1) k ≡ field t (rows t - 1) k
   last-same k h = ap (λ n. field t′ (n - 1) k) rows-same ∙ other (rows t - 1) k h (λ e. omega (arith, high))
 
@@ -86,6 +83,9 @@ module _ (t : List ℕ) (c : ℕ) (card : List ℕ) (d : Deck t) (g : Change t c
 
   pub letter-same : (r : ℕ) → letter t′ r ≡ letter t r
   letter-same r = kept r 0 (omega arith) (λ q. omega arith)
+
+  pub counts-same : countsAt t′ ≡ countsAt t
+  counts-same = λ i. countsOf (last-row i) (λ r. letter-same r i)
 
   pub kind-same : (r : ℕ) → kindIn t′ r ≡ kindIn t r
   kind-same r = ap kindOf (letter-same r)

@@ -11,13 +11,13 @@ use Rattle.whole.specs.Packed.{tri, matrix}
 use Rattle.whole.proofs.Tests.{cond-true}
 use Rattle.whole.proofs.Packed.{tri-le}
 use Rattle.paper.specs.Refusals.{Outcome, refused, done, when, after, answerOf}
-use Rattle.paper.specs.Cards.{cards, countsOf, rowAt, rows, nodes, put}
+use Rattle.paper.specs.Cards.{cards, countsAt, rowAt, rows, nodes, put}
 use Rattle.paper.specs.Judge.{judged, newJudged}
 use Rattle.paper.specs.Building.{Slices, build}
 use Rattle.paper.specs.Lent.{roomy, opened, lentJudged}
 use Rattle.paper.specs.Replacing.{stirs, firstRow, redone, replaced}
 use Rattle.paper.specs.Step.{Settling}
-use Rattle.paper.specs.Calls.{whenDone, joined, textAt, writes, written, writeCall, lastCard, startOf, cardAt, reads, readTable, readCall}
+use Rattle.paper.specs.Calls.{whenDone, joined, textAt, writes, written, writeCall, lastCard, startOf, countsIn, cardAt, reads, readTable, readCall}
 use Rattle.paper.specs.Calls.{Lent, Exit, StepExit, over, long, closed, worked, inFactor, asLent, leaves, endsStep, buildCall, replaceCall, stepCall}
 use Rattle.paper.specs.Replacements.{ready, on, present, Beyond}
 use Rattle.paper.specs.declared.Answer.{Answer}
@@ -243,16 +243,21 @@ unfolding written
 write-beyond t b = go (writes t (length b))
   where
     go : (a : Answer) → drop (rows t * 42) (whenDone a (joined (textAt t) (rows t) 0 ++ drop (rows t * 42) b) b) ≡ drop (rows t * 42) b
-    go Done = drop-at (joined (textAt t) (rows t) 0) (drop (rows t * 42) b) (rows t * 42) (joined-length 42 (textAt t) (λ i. length-textOf (rowAt t i)) (rows t) 0)
+    go Done = drop-at (joined (textAt t) (rows t) 0) (drop (rows t * 42) b) (rows t * 42) (joined-length 42 (textAt t) (λ i. length-textOf (countsAt t .solid) (rowAt t i)) (rows t) 0)
     go (Refused r) = refl
 
-pub read-beyond : (b t : List ℕ) → let room = (cards (countsOf (lastCard b)) + 1) * 6 in drop room (readCall b t .table) ≡ drop room t
+pub read-beyond : (b t : List ℕ) → let room = (cards (countsIn b) + 1) * 6 in drop room (readCall b t .table) ≡ drop room t
 unfolding readTable
 read-beyond b t = go (reads b (length t))
   where
     n : ℕ
-    n = cards (countsOf (lastCard b)) + 1
+    n = cards (countsIn b) + 1
 
-    go : (a : Answer) → drop (n * 6) (whenDone a (joined (cardAt b (startOf b (lastCard b))) n 0 ++ drop (n * 6) t) t) ≡ drop (n * 6) t
-    go Done = drop-at (joined (cardAt b (startOf b (lastCard b))) n 0) (drop (n * 6) t) (n * 6) (joined-length 6 (cardAt b (startOf b (lastCard b))) (λ i. length-card (take 42 (drop (startOf b (lastCard b) + i * 42) b))) n 0)
+    card : ℕ → List ℕ
+    card = cardAt (countsIn b .solid) b (startOf b (lastCard b))
+
+    go : (a : Answer) → drop (n * 6) (whenDone a (joined card n 0 ++ drop (n * 6) t) t) ≡ drop (n * 6) t
+    go Done =
+        drop-at (joined card n 0) (drop (n * 6) t) (n * 6)
+        (joined-length 6 card (λ i. length-card (countsIn b .solid) (take 42 (drop (startOf b (lastCard b) + i * 42) b))) n 0)
     go (Refused r) = refl

@@ -9,24 +9,24 @@ use lib.ListN.{getD}
 use borrow.Author.Tests.{eqb-true}
 use Rattle.paper.specs.Kinds.{about, letterOf, kindOf}
 use Rattle.paper.specs.declared.Kind.{Kind}
-use Rattle.paper.specs.declared.Kind.the-variants.{D, N, M, E, H, F, G, T, Z, Other}
+use Rattle.paper.specs.declared.Kind.the-variants.{D, N, M, E, «V», H, F, G, T, Z, Other}
 
 -- ---- a letter by its kind
 
-named : (l : ℕ) (k rest : Kind) → (about rest .order < 9 → letterOf rest ≡ l) → about (cond (eqb l (letterOf k)) k rest) .order < 9 → letterOf (cond (eqb l (letterOf k)) k rest) ≡ l
+named : (l : ℕ) (k rest : Kind) → (about rest .order < 10 → letterOf rest ≡ l) → about (cond (eqb l (letterOf k)) k rest) .order < 10 → letterOf (cond (eqb l (letterOf k)) k rest) ≡ l
 named l k rest f h = go (eqb l (letterOf k)) refl h
   where
-    go : (b : Bool) → eqb l (letterOf k) ≡ b → about (cond b k rest) .order < 9 → letterOf (cond b k rest) ≡ l
+    go : (b : Bool) → eqb l (letterOf k) ≡ b → about (cond b k rest) .order < 10 → letterOf (cond b k rest) ≡ l
     go true e h = sym (eqb-true l (letterOf k) e)
     go false e h = f h
 
 -- THEOREM. Every letter but Other's is its kind's.
-pub known : (l : ℕ) → about (kindOf l) .order < 9 → letterOf (kindOf l) ≡ l
+pub known : (l : ℕ) → about (kindOf l) .order < 10 → letterOf (kindOf l) ≡ l
 unfolding kindOf about
 known l =
-    named l D _ (named l N _ (named l M _ (named l E _ (named l H _ (named l F _ (named l G _ (named l T _ (named l Z Other (λ h. absurd (omega arith))))))))))
+    named l D _ (named l N _ (named l M _ (named l E _ (named l «V» _ (named l H _ (named l F _ (named l G _ (named l T _ (named l Z Other (λ h. absurd (omega arith)))))))))))
 
-pub letter-of : (l : ℕ) (k : Kind) → kindOf l ≡ k → about k .order < 9 → l ≡ letterOf k
+pub letter-of : (l : ℕ) (k : Kind) → kindOf l ≡ k → about k .order < 10 → l ≡ letterOf k
 letter-of l k e h = sym (known l (rw e h)) ∙ ap letterOf e
 
 pub kind-letter : (k : Kind) → kindOf (letterOf k) ≡ k
@@ -35,6 +35,7 @@ kind-letter D = refl
 kind-letter N = refl
 kind-letter M = refl
 kind-letter E = refl
+kind-letter «V» = refl
 kind-letter H = refl
 kind-letter F = refl
 kind-letter G = refl
@@ -53,6 +54,7 @@ node-kind D e = absurd (omega arith)
 node-kind N e = refl
 node-kind M e = absurd (omega arith)
 node-kind E e = absurd (omega arith)
+node-kind «V» e = absurd (omega arith)
 node-kind H e = absurd (omega arith)
 node-kind F e = absurd (omega arith)
 node-kind G e = absurd (omega arith)
@@ -63,6 +65,7 @@ node-kind Other e = absurd (omega arith)
 -- elements
 pub data Body (k : Kind) : Type 0 where
   flat : k ≡ E → Body k
+  solid : k ≡ «V» → Body k
 
 pub body-kind : (k : Kind) → about k .section ≡ 3 → Body k
 unfolding about
@@ -70,6 +73,7 @@ body-kind D e = absurd (omega arith)
 body-kind N e = absurd (omega arith)
 body-kind M e = absurd (omega arith)
 body-kind E e = flat refl
+body-kind «V» e = solid refl
 body-kind H e = absurd (omega arith)
 body-kind F e = absurd (omega arith)
 body-kind G e = absurd (omega arith)
@@ -80,6 +84,7 @@ body-kind Other e = absurd (omega arith)
 pub body-section : (k : Kind) → Body k → about k .section ≡ 3
 unfolding about
 body-section k (flat e) = rw e
+body-section k (solid e) = rw e
 
 -- THEOREM. What is replaced stands among the elements or the loads.
 pub replaced-section : (k : Kind) → 1 ≤ about k .keeps → (3 ≤ about k .section) × (about k .section ≤ 4)
@@ -88,6 +93,7 @@ replaced-section D h = absurd (omega arith)
 replaced-section N h = absurd (omega arith)
 replaced-section M h = absurd (omega arith)
 replaced-section E h = (omega arith, omega arith)
+replaced-section «V» h = (omega arith, omega arith)
 replaced-section H h = (omega arith, omega arith)
 replaced-section F h = (omega arith, omega arith)
 replaced-section G h = (omega arith, omega arith)
@@ -102,6 +108,7 @@ rising-section D h = absurd (omega arith)
 rising-section N h = absurd (omega arith)
 rising-section M h = absurd (omega arith)
 rising-section E h = absurd (omega arith)
+rising-section «V» h = absurd (omega arith)
 rising-section H h = refl
 rising-section F h = refl
 rising-section G h = refl
@@ -116,6 +123,7 @@ keys-kept D h = omega arith
 keys-kept N h = omega arith
 keys-kept M h = omega arith
 keys-kept E h = omega arith
+keys-kept «V» h = omega arith
 keys-kept H h = omega arith
 keys-kept F h = omega arith
 keys-kept G h = omega arith
@@ -130,6 +138,7 @@ first-kind D e = refl
 first-kind N e = absurd (omega arith)
 first-kind M e = absurd (omega arith)
 first-kind E e = absurd (omega arith)
+first-kind «V» e = absurd (omega arith)
 first-kind H e = absurd (omega arith)
 first-kind F e = absurd (omega arith)
 first-kind G e = absurd (omega arith)
@@ -143,6 +152,7 @@ material-kind D e = absurd (omega arith)
 material-kind N e = absurd (omega arith)
 material-kind M e = refl
 material-kind E e = absurd (omega arith)
+material-kind «V» e = absurd (omega arith)
 material-kind H e = absurd (omega arith)
 material-kind F e = absurd (omega arith)
 material-kind G e = absurd (omega arith)
@@ -153,7 +163,7 @@ material-kind Other e = absurd (omega arith)
 -- ---- a kind by its order
 
 abbrev inOrder : List Kind
-inOrder = D ∷ N ∷ M ∷ E ∷ H ∷ F ∷ G ∷ T ∷ Z ∷ Other ∷ []
+inOrder = D ∷ N ∷ M ∷ E ∷ «V» ∷ H ∷ F ∷ G ∷ T ∷ Z ∷ Other ∷ []
 
 by-order : (k : Kind) → getD inOrder (about k .order) Other ≡ k
 unfolding about
@@ -161,6 +171,7 @@ by-order D = refl
 by-order N = refl
 by-order M = refl
 by-order E = refl
+by-order «V» = refl
 by-order H = refl
 by-order F = refl
 by-order G = refl

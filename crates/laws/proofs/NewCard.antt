@@ -9,18 +9,19 @@ use borrow.Author.Tests.{leb-true, eqb-true}
 use lib.Dec.{eqb, leb, ltb}
 use lib.ListN.{length, getD}
 use Rattle.whole.proofs.Tests.{and-told}
-use Rattle.paper.specs.Kinds.{about, kindOf, kindAt, edge}
-use Rattle.paper.specs.Cards.{columnsOf, inRange, agree, orderOf, ranked, rank, countsAt, rowAt, field, rows, put}
-use Rattle.paper.specs.Judge.{clean, stands, rises, ordered, full, judged, answers, newJudged}
+use Rattle.paper.specs.Kinds.{about, letterOf, kindOf, kindAt, isA, bodies, edge}
+use Rattle.paper.specs.Cards.{before, columns, nodes, columnsOf, inRange, agree, orderOf, ranked, rank, countsAt, rowAt, field, rows, put}
+use Rattle.paper.specs.Judge.{clean, stands, rises, ordered, full, asks, judged, answers, newJudged}
 use Rattle.paper.specs.declared.Answer.the-variants.{Done}
 use Rattle.paper.specs.declared.Refusal.the-variants.{Form, Range, Replacement}
 use Rattle.paper.specs.declared.Kind.{Kind}
-use Rattle.paper.specs.declared.Kind.the-variants.{D, N, M, E, H, F, G, T, Z, Other}
+use Rattle.paper.specs.declared.Kind.the-variants.{D, N, M, E, «V», H, F, G, T, Z, Other}
 use Rattle.laws.proofs.Outcomes.{cond-done}
 use Rattle.laws.proofs.Letters.{keys-kept}
 use Rattle.laws.proofs.Tables.{row-field, length-put, row-here}
 use Rattle.laws.proofs.Decks.{kindIn, Deck, Change}
-use Rattle.laws.proofs.Kept.{room, other-row, last-row, counts-same, letter-same, key-same, kind-keeps}
+use Rattle.laws.proofs.Spans.{nodes-are, field-in}
+use Rattle.laws.proofs.Kept.{room, low, other, other-row, last-row, counts-same, letter-same, key-same, kind-keeps}
 use Rattle.laws.proofs.Judging.{full-same}
 use Rattle.laws.proofs.Judged.{orderBefore, rankBefore, passes, passed, passing, top-told, top-done, deck}
 
@@ -65,6 +66,7 @@ keeps-few D = omega arith
 keeps-few N = omega arith
 keeps-few M = omega arith
 keeps-few E = omega arith
+keeps-few «V» = omega arith
 keeps-few H = omega arith
 keeps-few F = omega arith
 keeps-few G = omega arith
@@ -165,6 +167,45 @@ module _ (t : List ℕ) (card : ℕ) (new : List ℕ) (six : length new ≡ 6) (
       go (yes e) = subst P (sym (ap (rowAt t′) e ∙ row-here t c new six (room t c new dk change))) p
       go (no e) = subst P (sym (other-row t c new dk change r h e)) q
 
+  -- what it asks of nodes and elements, which stay
+  height-same : (r k : ℕ) → suc r < rows t → kindAt (rowAt t r) ≡ E → 1 ≤ k → k ≤ 3 → getD (rowAt t′ (getD (rowAt t′ r) k 0)) 3 0 ≡ getD (rowAt t (getD (rowAt t r) k 0)) 3 0
+  unfolding about columns
+  height-same r k h e lo hi =
+      let e′ : kindIn t r ≡ E = ap kindOf (sym (row-field t r 0 (omega arith))) ∙ e in
+      let m : getD (rowAt t′ r) k 0 ≡ getD (rowAt t r) k 0 = field-same r k (omega arith) (kind-keeps t c new dk change r k E e′ (omega arith) hi) in
+      let n = getD (rowAt t r) k 0 in
+      let few : n ≤ nodes t = omega (arith, row-field t r k (omega arith), corner k lo hi e′) in
+      ap (λ (x : ℕ). getD (rowAt t′ x) 3 0) m
+      ∙ field-same n 3 (omega arith) (other t c new dk change n 3 (omega arith) (λ q. omega (arith, low t c new dk change)))
+    where
+      corner : (k : ℕ) → 1 ≤ k → k ≤ 3 → kindIn t r ≡ E → field t r k ≤ nodes t
+      corner zero lo hi e = absurd (omega arith)
+      corner (suc zero) lo hi e = omega (arith, nodes-are t, field-in t r 0 E dk h e (omega arith))
+      corner (suc (suc zero)) lo hi e = omega (arith, nodes-are t, field-in t r 1 E dk h e (omega arith))
+      corner (suc (suc (suc zero))) lo hi e = omega (arith, nodes-are t, field-in t r 2 E dk h e (omega arith))
+      corner (suc (suc (suc (suc k)))) lo hi e = absurd (omega arith)
+
+  asks-same : (r : ℕ) → suc r < rows t → (kind : Kind) → kindAt (rowAt t r) ≡ kind → asks (countsAt t) (rowAt t′) (rowAt t′ r) kind ≡ asks (countsAt t) (rowAt t) (rowAt t r) kind
+  unfolding asks
+  asks-same r h D e = refl
+  asks-same r h N e = refl
+  asks-same r h M e = refl
+  asks-same r h E e =
+      let a = height-same r 1 h e (omega arith) (omega arith) in
+      let b = height-same r 2 h e (omega arith) (omega arith) in
+      let d = height-same r 3 h e (omega arith) (omega arith) in
+      λ j. eqb (a j) (b j) && eqb (a j) (d j)
+  asks-same r h «V» e = refl
+  asks-same r h H e = refl
+  asks-same r h F e =
+      let x = before (countsAt t) bodies + getD (rowAt t r) 1 0 - 1 in
+      ap (λ (k : ℕ). isA E (rowAt t′ (before (countsAt t) bodies + k - 1))) (first-same r)
+      ∙ ap (λ (l : ℕ). eqb l (letterOf E)) (field-same x 0 (omega arith) (letter-same t c new dk change x))
+  asks-same r h G e = refl
+  asks-same r h T e = refl
+  asks-same r h Z e = refl
+  asks-same r h Other e = refl
+
   each-passes : (r : ℕ) → suc r < rows t → passes (countsAt t) (rowAt t′) r ≡ Done
   each-passes r h =
       let z = countsAt t in
@@ -178,6 +219,7 @@ module _ (t : List ℕ) (card : ℕ) (new : List ℕ) (six : length new ≡ 6) (
         range = alone r i (λ x. inRange (columnsOf z x) x 5 0 ≡ true) (ac .range) (q .range);
         order = ordered-same r ∙ q .order;
         rise = rises-same r ∙ q .rise;
+        asked = ap (asks z (rowAt t′) (rowAt t′ r)) (kinds-same r) ∙ asks-same r h (kindAt (rowAt t r)) refl ∙ q .asked;
       })
 
   -- THEOREM. The deck with the new card in its place is accepted.

@@ -1,6 +1,6 @@
--- What the judge accepts can be printed: a letter of the eight, no field of more than eight digits, unused fields 0.
+-- What the judge accepts can be printed: a letter of the ten, no field of more than eight digits, unused fields 0.
 use mathlib.Core.Path.{_≡_, refl, sym, ap, subst, _∙_}
-use mathlib.Core.Bool.{Bool, true, false}
+use mathlib.Core.Bool.{Bool, true, false, cond}
 use mathlib.Core.List.{List, [], _∷_}
 use Prim.Native.Nat.{ℕ, zero, suc, _+_, _-_, _≤_, _<_}
 use native.Mathlib.Omega.{arith}
@@ -10,12 +10,12 @@ use lib.ListN.{length, getD}
 use Rattle.whole.proofs.Tests.{and-told}
 use Rattle.whole.specs.Sums.{sumN}
 use Rattle.paper.specs.Kinds.{about, kindOf, kindAt}
-use Rattle.paper.specs.Cards.{Column, _⋯_, before, cards, columns, used, zeros, inRange, countsOf, mostRows}
+use Rattle.paper.specs.Cards.{Column, _⋯_, blankOr, before, cards, columns, used, zeros, inRange, countsOf, mostRows}
 use Rattle.paper.specs.Judge.{stands, clean, judgeCard, trailer}
 use Rattle.paper.specs.declared.Answer.the-variants.{Done}
 use Rattle.paper.specs.declared.Counts.{Counts}
 use Rattle.paper.specs.declared.Kind.{Kind}
-use Rattle.paper.specs.declared.Kind.the-variants.{D, N, M, E, H, F, G, T, Z, Other}
+use Rattle.paper.specs.declared.Kind.the-variants.{D, N, M, E, «V», H, F, G, T, Z, Other}
 use Rattle.laws.proofs.Judged.{passed, stands-told, range-each}
 use Rattle.laws.proofs.CardText.{Printable}
 use Rattle.laws.proofs.Reading.{trailer-told}
@@ -28,6 +28,7 @@ other-of D e = absurd (omega arith)
 other-of N e = absurd (omega arith)
 other-of M e = absurd (omega arith)
 other-of E e = absurd (omega arith)
+other-of «V» e = absurd (omega arith)
 other-of H e = absurd (omega arith)
 other-of F e = absurd (omega arith)
 other-of G e = absurd (omega arith)
@@ -52,12 +53,19 @@ small-at [] s k = omega arith
 small-at (b ∷ bs) s zero = s .0
 small-at (b ∷ bs) s (suc k) = small-at bs (s .1) k
 
+by-solid : (b : Bool) (x y : Column) → x .most < 100000000 → y .most < 100000000 → cond b x y .most < 100000000
+by-solid true x y h g = h
+by-solid false x y h g = g
+
 all-small : (z : Counts) → cards z < mostRows → (k : Kind) → AllSmall (columns z k)
 unfolding columns before sumN
 all-small z h D = (omega arith, (omega arith, (omega arith, tt)))
-all-small z h N = (omega arith, (omega arith, tt))
-all-small z h M = (omega arith, (omega arith, (omega arith, tt)))
+all-small z h N =
+    let reach = by-solid (z .solid) (0 ⋯ 1023) (0 ⋯ 4095) (omega arith) (omega arith) in
+    (reach, (reach, (by-solid (z .solid) (cond (z .solid) (0 ⋯ 1023) (0 ⋯ 4095)) (blankOr 0) reach (omega arith), tt)))
+all-small z h M = (omega arith, (omega arith, (omega arith, (by-solid (z .solid) (1 ⋯ 500000) (blankOr 0) (omega arith) (omega arith), tt))))
 all-small z h E = (omega arith, (omega arith, (omega arith, (omega arith, (omega arith, tt)))))
+all-small z h «V» = (omega arith, (omega arith, (omega arith, (omega arith, (omega arith, tt)))))
 all-small z h H = (omega arith, (omega arith, tt))
 all-small z h F = (omega arith, (omega arith, (omega arith, tt)))
 all-small z h G = (omega arith, (omega arith, (omega arith, (omega arith, (omega arith, tt)))))
@@ -91,6 +99,9 @@ zeros-at card (suc n) j h k a b =
 
 -- ---- a card that is judged, and Z
 
+pub letter-known : (z : Counts) (row : ℕ → List ℕ) (i p key : ℕ) → judgeCard z row i p key ≡ Done → used (kindAt (row i)) ≡ 0 → ⊥
+letter-known z row i p key h e = none-stands z i p (subst (λ (k : Kind). stands z i p (about k) ≡ true) (other-of (kindAt (row i)) e) (passed z row i p key h .place))
+
 pub prints : (z : Counts) → cards z < mostRows → (row : ℕ → List ℕ) (i p key : ℕ) → length (row i) ≡ 6 → judgeCard z row i p key ≡ Done → Printable (row i)
 unfolding clean
 prints z few row i p key six h =
@@ -98,7 +109,7 @@ prints z few row i p key six h =
     let s = passed z row i p key h in
     record {
       six = six;
-      letter = λ e. none-stands z i p (subst (λ (k : Kind). stands z i p (about k) ≡ true) (other-of (kindAt (row i)) e) (s .place));
+      letter = letter-known z row i p key h;
       small = small-of z few (kindAt (row i)) (row i) (s .range);
       unused = λ k l m. zeros-at (row i) (5 - u) (1 + u) (s .clear) (suc k) (omega arith) (omega arith);
     }
@@ -109,27 +120,19 @@ used-Z = refl
 
 pub prints-Z : (card : List ℕ) → length card ≡ 6 → trailer card ≡ true → Printable card
 prints-Z card six h =
-    let s = trailer-told card h in
+    let s = trailer-told card (λ i. 0) h in
     let u : used (kindAt card) ≡ 5 = ap used (s .kind) ∙ used-Z in
     record {
       six = six;
       letter = λ e. omega arith;
-      small = small-of (countsOf card) (s .few) (kindAt card) card (s .range);
+      small = small-of (countsOf card (λ i. 0)) (s .few) (kindAt card) card (s .range);
       unused = λ k l m. absurd (omega arith);
     }
 
--- a malformed card reads as six zeros, which no place allows
-zero-kind : kindOf 0 ≡ Other
-unfolding kindOf about
-zero-kind = refl
+-- a malformed card reads as six zeros, which have no letter
+zero-none : used (kindOf 0) ≡ 0
+unfolding used columns kindOf about
+zero-none = refl
 
-pub lettered : (z : Counts) (row : ℕ → List ℕ) (i p key : ℕ) → judgeCard z row i p key ≡ Done → getD (row i) 0 0 ≡ 0 → ⊥
-lettered z row i p key h e =
-    none-stands z i p (subst (λ (k : Kind). stands z i p (about k) ≡ true) (ap kindOf e ∙ zero-kind) (passed z row i p key h .place))
-
-pub z-lettered : (card : List ℕ) → trailer card ≡ true → getD card 0 0 ≡ 0 → ⊥
-unfolding used columns
-z-lettered card h e = prints-not (ap used (sym (trailer-told card h .kind) ∙ ap kindOf e ∙ zero-kind))
-  where
-    prints-not : used Z ≡ used Other → ⊥
-    prints-not q = omega arith
+pub lettered : (card : List ℕ) → (used (kindAt card) ≡ 0 → ⊥) → getD card 0 0 ≡ 0 → ⊥
+lettered card h e = h (ap (λ (l : ℕ). used (kindOf l)) e ∙ zero-none)

@@ -1,5 +1,5 @@
 -- The reader step by step: what a test passed or failed comes to, and what an acceptance says.
-use mathlib.Core.Path.{_≡_, subst}
+use mathlib.Core.Path.{_≡_, sym, ap, subst}
 use mathlib.Core.Bool.{true, false, _&&_, _||_}
 use mathlib.Core.List.{List, [], _++_}
 use Prim.Native.Nat.{ℕ, suc, _+_, _-_, _*_, _≤_, _<_}
@@ -12,7 +12,7 @@ use Rattle.whole.specs.Sums.{sumN}
 use Rattle.paper.specs.Kinds.{letterOf, kindAt, isA}
 use Rattle.paper.specs.Cards.{before, cards, columns, columnsOf, inRange, within, _⋯_, countsOf, mostRows}
 use Rattle.paper.specs.Judge.{judgeFrom, trailer}
-use Rattle.paper.specs.Calls.{joined, lastCard, cardAt, startOf, readsFrom, reads, readPart, readTable, readStart, readEnd}
+use Rattle.paper.specs.Calls.{joined, lastCard, cardAt, startOf, countsIn, readsFrom, reads, readPart, readTable, readStart, readEnd}
 use Rattle.paper.specs.declared.Answer.the-variants.{Done, Refused}
 use Rattle.paper.specs.declared.Counts.{Counts}
 use Rattle.paper.specs.declared.Kind.{Kind}
@@ -25,37 +25,51 @@ use Rattle.laws.proofs.Decks.{In}
 use Rattle.laws.proofs.Spans.{in-told}
 use Rattle.laws.proofs.Judged.{range-each}
 
--- ---- a Z that is accepted
+-- ---- a Z that is accepted: whatever the letters of the rows, which only tell whether the deck is solid
 
-pub record Trailed (card : List ℕ) : Type 0 where
+pub record Trailed (card : List ℕ) (letterAt : ℕ → ℕ) : Type 0 where
   pub kind : kindAt card ≡ Z
-  pub back : getD card 1 0 ≡ 42 * cards (countsOf card)
-  pub few : cards (countsOf card) < mostRows
-  pub range : inRange (columnsOf (countsOf card) card) card 5 0 ≡ true
+  pub back : getD card 1 0 ≡ 42 * cards (countsOf card letterAt)
+  pub few : cards (countsOf card letterAt) < mostRows
+  pub range : inRange (columnsOf (countsOf card letterAt) card) card 5 0 ≡ true
 
-pub trailer-told : (card : List ℕ) → trailer card ≡ true → Trailed card
+pub trailer-told : (card : List ℕ) (letterAt : ℕ → ℕ) → trailer card ≡ true → Trailed card letterAt
 unfolding trailer columns before sumN
-trailer-told card h =
+trailer-told card letterAt h =
     let b₀ = told 0 (omega arith) in
     let b₁ = told 1 (omega arith) in
     let b₂ = told 2 (omega arith) in
     let b₃ = told 3 (omega arith) in
     let b₄ = told 4 (omega arith) in
-    record { kind = is; back = omega (arith, b₀); few = omega (arith, b₁ .1, b₂ .1, b₃ .1, b₄ .1); range = both .1 }
+    record {
+      kind = is;
+      back = omega (arith, b₀);
+      few = omega (arith, b₁ .1, b₂ .1, b₃ .1, b₄ .1);
+      range = subst (λ (q : Kind). inRange (columns z q) card 5 0 ≡ true) (sym is) ranges;
+    }
   where
     z : Counts
-    z = countsOf card
+    z = countsOf card letterAt
 
-    both : (isA Z card ≡ true) × (inRange (columnsOf z card) card 5 0 ≡ true)
-    both = and-told (isA Z card) (inRange (columnsOf z card) card 5 0) h
+    both : (isA Z card ≡ true) × (inRange (columnsOf (countsOf card (λ i. 0)) card) card 5 0 ≡ true)
+    both = and-told (isA Z card) (inRange (columnsOf (countsOf card (λ i. 0)) card) card 5 0) h
 
     is : kindAt card ≡ Z
     is = kind-of (getD card 0 0) Z (eqb-true (getD card 0 0) (letterOf Z) (both .0))
 
+    ranges : inRange (columns z Z) card 5 0 ≡ true
+    ranges = subst (λ (q : Kind). inRange (columns (countsOf card (λ i. 0)) q) card 5 0 ≡ true) is (both .1)
+
     told : (k : ℕ) → k < 5 → In (getD (columns z Z) k (0 ⋯ 0) .least) (getD (columns z Z) k (0 ⋯ 0) .most) (getD card (suc k) 0)
-    told k l =
-        in-told (getD (columns z Z) k (0 ⋯ 0)) (getD card (suc k) 0)
-        (subst (λ (q : Kind). within (getD (columns z q) k (0 ⋯ 0)) (getD card (suc k) 0) ≡ true) is (range-each (columnsOf z card) card 5 0 k (both .1) (omega arith) (omega arith)))
+    told k l = in-told (getD (columns z Z) k (0 ⋯ 0)) (getD card (suc k) 0) (range-each (columns z Z) card 5 0 k ranges (omega arith) (omega arith))
+
+-- the letter of the last element tells whether the deck is solid
+pub counts-same : (card : List ℕ) (f g : ℕ → ℕ) → let last = getD card 2 0 + getD card 3 0 + getD card 4 0 in f last ≡ g last → countsOf card f ≡ countsOf card g
+counts-same card f g e = ap (λ (l : ℕ). countsOf card (λ i. l)) e
+
+pub last-within : (card : List ℕ) (f : ℕ → ℕ) → getD card 2 0 + getD card 3 0 + getD card 4 0 < cards (countsOf card f)
+unfolding before sumN
+last-within card f = omega arith
 
 -- ---- the tests in their order
 
@@ -79,20 +93,20 @@ module _ (b : List ℕ) (room : ℕ) where
       reads-back e l = simp (le-ltb (length b) 42 h, le-ltb 65536 (length b) g, e, lt-leb (getD (lastCard b) 1 0) (length b - 42) l)
 
       pub reads-on : trailer (lastCard b) ≡ true → getD (lastCard b) 1 0 ≤ length b - 42
-          → readsFrom b room (countsOf (lastCard b)) (startOf b (lastCard b)) (cards (countsOf (lastCard b))) ≡ reads b room
+          → readsFrom b room (countsIn b) (startOf b (lastCard b)) (cards (countsIn b)) ≡ reads b room
       unfolding reads
       reads-on e l = simp (le-ltb (length b) 42 h, le-ltb 65536 (length b) g, e, le-leb (getD (lastCard b) 1 0) (length b - 42) l)
 
 module _ (b : List ℕ) (room : ℕ) (z : Counts) (start n : ℕ) where
-  pub from-refused : (r : Refusal) → judgeFrom z (cardAt b start) n 0 0 0 ≡ Refused r → Refused r ≡ readsFrom b room z start n
+  pub from-refused : (r : Refusal) → judgeFrom z (cardAt (z .solid) b start) n 0 0 0 ≡ Refused r → Refused r ≡ readsFrom b room z start n
   unfolding readsFrom
   from-refused r e = simp e
 
-  pub from-short : judgeFrom z (cardAt b start) n 0 0 0 ≡ Done → room < (n + 1) * 6 → Refused Short ≡ readsFrom b room z start n
+  pub from-short : judgeFrom z (cardAt (z .solid) b start) n 0 0 0 ≡ Done → room < (n + 1) * 6 → Refused Short ≡ readsFrom b room z start n
   unfolding readsFrom
   from-short e l = simp (e, lt-ltb room ((n + 1) * 6) l)
 
-  pub from-done : judgeFrom z (cardAt b start) n 0 0 0 ≡ Done → (n + 1) * 6 ≤ room → Done ≡ readsFrom b room z start n
+  pub from-done : judgeFrom z (cardAt (z .solid) b start) n 0 0 0 ≡ Done → (n + 1) * 6 ≤ room → Done ≡ readsFrom b room z start n
   unfolding readsFrom
   from-done e l = simp (e, le-ltb room ((n + 1) * 6) l)
 
@@ -103,19 +117,20 @@ pub record Accepted (b : List ℕ) (room : ℕ) : Type 0 where
   pub most : length b ≤ 65536
   pub trails : trailer (lastCard b) ≡ true
   pub within : getD (lastCard b) 1 0 ≤ length b - 42
-  pub judges : judgeFrom (countsOf (lastCard b)) (cardAt b (startOf b (lastCard b))) (cards (countsOf (lastCard b))) 0 0 0 ≡ Done
-  pub fits : (cards (countsOf (lastCard b)) + 1) * 6 ≤ room
+  pub judges : judgeFrom (countsIn b) (cardAt (countsIn b .solid) b (startOf b (lastCard b))) (cards (countsIn b)) 0 0 0 ≡ Done
+  pub fits : (cards (countsIn b) + 1) * 6 ≤ room
 
 pub accepted : (b : List ℕ) (room : ℕ) → reads b room ≡ Done → Accepted b room
 unfolding reads readsFrom
 accepted b room h =
     let z = lastCard b in
-    let n = cards (countsOf z) in
+    let c = countsIn b in
+    let n = cards c in
     let (p, h₁) = cond-rest (ltb (length b) 42 || ltb 65536 (length b)) _ Length h in
     let (short, long) = nor-told (ltb (length b) 42) (ltb 65536 (length b)) p in
     let (f, h₂) = cond-done (trailer z && leb (getD z 1 0) (length b - 42)) _ Trailer h₁ in
     let (t, w) = and-told (trailer z) (leb (getD z 1 0) (length b - 42)) f in
-    let (j, h₃) = both-done (judgeFrom (countsOf z) (cardAt b (startOf b z)) n 0 0 0) _ h₂ in
+    let (j, h₃) = both-done (judgeFrom c (cardAt (c .solid) b (startOf b z)) n 0 0 0) _ h₂ in
     let (s, _) = cond-rest (ltb room ((n + 1) * 6)) Done Short h₃ in
     record {
       least = ltb-false (length b) 42 short;
@@ -130,10 +145,10 @@ accepted b room h =
 
 -- the cards of the part, as their numbers
 abbrev pub tableOf : List ℕ → List ℕ
-tableOf b = joined (cardAt b (startOf b (lastCard b))) (cards (countsOf (lastCard b)) + 1) 0
+tableOf b = joined (cardAt (countsIn b .solid) b (startOf b (lastCard b))) (cards (countsIn b) + 1) 0
 
 module _ (b t : List ℕ) where
-  pub table-read : reads b (length t) ≡ Done → tableOf b ++ drop ((cards (countsOf (lastCard b)) + 1) * 6) t ≡ readTable b t
+  pub table-read : reads b (length t) ≡ Done → tableOf b ++ drop ((cards (countsIn b) + 1) * 6) t ≡ readTable b t
   unfolding readTable
   table-read h = simp h
 

@@ -9,9 +9,9 @@ use lib.Signed.{leZ}
 use lib.ListN.{length, getD, set}
 use Rattle.whole.specs.Packed.{tri}
 use Rattle.paper.specs.Refusals.{Outcome, refused, done, when, then, andThen}
-use Rattle.paper.specs.Kinds.{about, aboutOf}
+use Rattle.paper.specs.Kinds.{about, aboutOf, kindAt}
 use Rattle.paper.specs.Cards.{columnsOf, inRange, orderOf, rank, countsAt, mostRows, rowAt, rows, elementRow}
-use Rattle.paper.specs.Judge.{clean, full, formed, ranged, judgeOne, judgeCard, judgeFrom, trailer, judgeRows, judged, answers, newJudged}
+use Rattle.paper.specs.Judge.{clean, full, formed, ranged, judgeOne, asks, judgeCard, judgeFrom, trailer, judgeRows, judged, answers, newJudged}
 use Rattle.paper.specs.Elements.{Element, elementAt, fair, formJudged, elementJudged}
 use Rattle.paper.specs.Factor.{w, l, small, rowFrom, rowsFrom}
 use Rattle.paper.specs.Building.{elementsFrom}
@@ -40,8 +40,11 @@ either true x y p q = p
 either false x y p q = q
 
 card-plain : (z : Counts) (row : ℕ → List ℕ) (i p key : ℕ) → Plain (judgeCard z row i p key)
-unfolding judgeOne
-card-plain z row i p key = either (formed z i p (full row i (aboutOf (row i))) (row i)) _ _ (either (ranged z p key (row i)) _ _ tt refl) refl
+unfolding judgeCard judgeOne
+card-plain z row i p key =
+    both (judgeOne z i p key (full row i (aboutOf (row i))) (row i)) _
+    (either (formed z i p (full row i (aboutOf (row i))) (row i)) _ _ (either (ranged z p key (row i)) _ _ tt refl) refl)
+    (either (asks z row (row i) (kindAt (row i))) _ _ tt refl)
 
 cards-plain : (z : Counts) (row : ℕ → List ℕ) (n i p key : ℕ) → Plain (judgeFrom z row n i p key)
 unfolding judgeFrom

@@ -22,8 +22,8 @@ use Rattle.paper.specs.Replacing.{formOf, moved, firstRow, redone, stirs}
 use Rattle.paper.specs.declared.Answer.{Answer}
 use Rattle.paper.specs.declared.Answer.the-variants.{Done}
 use Rattle.paper.specs.declared.Kind.{Kind}
-use Rattle.paper.specs.declared.Kind.the-variants.{D, N, M, E, H, F, G, T, Z, Other}
-use Rattle.laws.proofs.Letters.{Body, flat, body-section}
+use Rattle.paper.specs.declared.Kind.the-variants.{D, N, M, E, «V», H, F, G, T, Z, Other}
+use Rattle.laws.proofs.Letters.{Body, flat, solid, body-section}
 use Rattle.laws.proofs.Decks.{In, kindIn, Deck, Change}
 use Rattle.laws.proofs.Spans.{is-body, in-bodies, names-F, part-corners}
 use Rattle.laws.proofs.Least.{above-A, least-in}
@@ -48,6 +48,7 @@ made J J′ X X′ p p′ a a′ eJ eR ep ea = λ i. after (eJ i) (then (eR i) (
 body-stirs : (t card : List ℕ) (kind : Kind) → Body kind → partOf t card kind .stirs ≡ true
 unfolding partOf
 body-stirs t card kind (flat e) = rw e
+body-stirs t card kind (solid e) = rw e
 
 module _ (t : List ℕ) (c : ℕ) (card : List ℕ) (d : Deck t) (g : Change t c card) where
   abbrev from : ℕ
@@ -86,6 +87,7 @@ module _ (t : List ℕ) (c : ℕ) (card : List ℕ) (d : Deck t) (g : Change t c
     form-by N e q = never q
     form-by M e q = never q
     form-by E e q = form-body (flat e) ∙ sym (form-named t c card d g (rw e))
+    form-by «V» e q = form-body (solid e) ∙ sym (form-named t c card d g (rw e))
     form-by H e q = never q
     form-by F e q =
         let h = names-F t d c (g .inside) e in

@@ -1,21 +1,16 @@
--- A tetrahedron's squares, symmetric and with rows that sum to zero by the laws over any number of corners, and the sizes of its numbers
--- before the test of 6: a bound by the products of sides would pass 2^62.
+-- A tetrahedron's pairs, the same either way, and the sizes of its numbers before the test of 6: a bound by the products of sides would
+-- pass 2^62. Square has the rows that sum to zero.
 use mathlib.Core.Path.{_≡_, ap, _∙_}
-use mathlib.Core.Bool.{true}
 use mathlib.Core.List.{List}
 use Prim.Native.Nat.{ℕ, _*_, _^_, _≤_}
-use native.Mathlib.Nat.{mul-zero, mul-le-mul}
+use native.Mathlib.Nat.{mul-le-mul}
 use native.Mathlib.Omega.{arith}
 use lib.IntN.{ℤ, pos, natAbs, _+ℤ_, _*ℤ_, *ℤ-comm}
 use lib.ListN.{length}
 use Rattle.whole.proofs.Signs.{natAbs-plus, natAbs-times}
-use Rattle.whole.proofs.Rounding.{nearest-size, nearest-zero, nearest-none, nearestN-by}
+use Rattle.whole.proofs.Rounding.{nearest-size, nearestN-by}
 use Rattle.paper.specs.Corners.{from}
 use Rattle.paper.specs.Tetrahedron.{Space, Tetrahedron, face, b, c, d, sixfold, S, pair, u}
-use Rattle.paper.specs.Elements.{solidOf, fair}
-use Rattle.paper.specs.Parts.{bulk}
-use Rattle.laws.proofs.Square.{Sound, bulk-sound}
-use Rattle.laws.proofs.Elements.{none-is-fair}
 use Rattle.laws.proofs.Faces.{OnGrid, edge-size, face-size}
 
 pub pair-symmetric : (e : Tetrahedron) (i j : ℕ) → pair e i j ≡ pair e j i
@@ -23,17 +18,6 @@ unfolding pair
 pair-symmetric e i j =
     let s = e .space in
     rw (*ℤ-comm (b s i) (b s j), *ℤ-comm (c s i) (c s j), *ℤ-comm (d s i) (d s j))
-
--- THEOREM. The conductance is symmetric, and each of its rows sums to zero.
-pub solid-sound : (ms : ℕ) (e : Tetrahedron) → Sound (bulk (solidOf ms e))
-solid-sound ms e = bulk-sound (solidOf ms e) (pair-symmetric e)
-
--- THEOREM. 6 asks nothing of a tetrahedron with no volume.
-pub solid-flat-is-fair : (ms : ℕ) (e : Tetrahedron) → 1 ≤ ms → S (e .space) ≡ 0 → fair (solidOf ms e) ≡ true
-unfolding u pair
-solid-flat-is-fair ms e h z =
-    none-is-fair (solidOf ms e) (nearest-zero _ (960 * ms) (omega arith) (ap (λ (k : ℕ). e .capacity * k) z ∙ mul-zero (e .capacity)))
-    (λ i j. nearest-none _ (120 * S (e .space)) (ap (λ (k : ℕ). 120 * k) z))
 
 -- ---- sizes
 

@@ -1,26 +1,28 @@
 -- What a deck's sections and columns say: which kind stands in which row, and the range of each field.
 use mathlib.Core.Path.{_≡_, refl, sym, ap, subst, _∙_}
-use mathlib.Core.Bool.{true}
+use mathlib.Core.Bool.{Bool, true, false, cond}
 use mathlib.Core.List.{List, [], _∷_}
 use Prim.Native.Nat.{ℕ, zero, suc, _+_, _-_, _≤_, _<_}
 use native.Mathlib.Decide.{decLt}
 use native.Mathlib.Omega.{arith}
-use borrow.Author.Tests.{leb-true, ne-eqb}
-use lib.Dec.{leb}
+use borrow.Author.Tests.{leb-true, eqb-true, ne-eqb}
+use lib.Dec.{leb, eqb}
 use lib.ListN.{length, getD}
 use Rattle.whole.specs.Sums.{sumN}
 use Rattle.whole.proofs.Tests.{and-told}
 use Rattle.whole.proofs.Sums.{sumN-upto}
-use Rattle.paper.specs.Kinds.{about, kindOf, kindAt}
-use Rattle.paper.specs.Cards.{Column, _⋯_, within, sections, before, columns, ranked, rank, field, letter, rows, nodes, materials, elements, materialRow, elementRow, rowAt, countsOf, countsAt, stepOf}
+use Rattle.paper.specs.Kinds.{about, letterOf, kindOf, kindAt, isA}
+use Rattle.paper.specs.Cards.{Column, _⋯_, blankOr, within, sections, before, columns, ranked, rank, field, letter, rows, nodes, materials, elements, materialRow, elementRow, rowAt, countsOf, countsAt, stepOf}
+use Rattle.paper.specs.Judge.{asks}
 use Rattle.paper.specs.Ticks.{top}
 use Rattle.paper.specs.Corners.{Shape, shapeOf}
-use Rattle.paper.specs.Elements.{bodyOf, elementOf, elementAt}
-use Rattle.paper.specs.Parts.{namedShape, partOf, partAt}
+use Rattle.paper.specs.Tetrahedron.{spaceOf}
+use Rattle.paper.specs.Elements.{bodyOf, flatOf, tetrahedronOf, solidOf, elementOf, elementAt}
+use Rattle.paper.specs.Parts.{namedRow, namedShape, partOf, partAt}
 use Rattle.paper.specs.declared.Counts.{Counts}
 use Rattle.paper.specs.declared.Kind.{Kind}
-use Rattle.paper.specs.declared.Kind.the-variants.{D, N, M, E, H, F, G, T, Z, Other}
-use Rattle.laws.proofs.Letters.{first-kind, node-kind, material-kind, Body, flat, body-kind, body-section, rising-section}
+use Rattle.paper.specs.declared.Kind.the-variants.{D, N, M, E, «V», H, F, G, T, Z, Other}
+use Rattle.laws.proofs.Letters.{letter-of, kind-of, first-kind, node-kind, material-kind, Body, flat, solid, body-kind, body-section, rising-section}
 use Rattle.laws.proofs.Tables.{row-field}
 use Rattle.laws.proofs.Decks.{In, kindIn, loads, Within, Deck}
 
@@ -34,6 +36,20 @@ pub inside-each : (n : ℕ) (ns : List ℕ) → Inside n ns → (a : ℕ) → a 
 inside-each n [] h a l = absurd (omega arith)
 inside-each n (x ∷ xs) (h, hs) zero l = h
 inside-each n (x ∷ xs) (h, hs) (suc a) l = inside-each n xs hs a (omega arith)
+
+-- ---- the card in a row
+
+pub row-kind : (t : List ℕ) (row : ℕ) → kindAt (rowAt t row) ≡ kindIn t row
+row-kind t row = ap kindOf (row-field t row 0 (omega arith))
+
+-- whether it is a V, by its kind
+pub is-solid : (card : List ℕ) → kindAt card ≡ «V» → isA «V» card ≡ true
+unfolding about
+is-solid card e = ap (λ (l : ℕ). eqb l (letterOf «V»)) (letter-of (getD card 0 0) «V» e (omega arith))
+
+pub is-flat : (card : List ℕ) → kindAt card ≡ E → isA «V» card ≡ false
+unfolding about
+is-flat card e = ap (λ (l : ℕ). eqb l (letterOf «V»)) (letter-of (getD card 0 0) E e (omega arith))
 
 -- ---- what Z counts
 
@@ -133,12 +149,38 @@ module _ (t : List ℕ) (d : Deck t) where
   pub body-inner : (row : ℕ) → row < rows t → Body (kindIn t row) → suc row < rows t
   body-inner row h b = omega (arith, in-bodies row h (body-section (kindIn t row) b), d .all)
 
+  -- THEOREM. A deck with a V is solid: its last element is one, as V comes after E.
+  pub solid-deck : (row : ℕ) → row < rows t → kindIn t row ≡ «V» → countsAt t .solid ≡ true
+  unfolding about
+  solid-deck row h e =
+      (λ i. eqb (letter t (nodes-are t i + materials-are t i + elements-are t i)) (letterOf «V»))
+      ∙ ap (λ (l : ℕ). eqb l (letterOf «V»)) (letter-of (letter t last) «V» (go (is-body (elements t) (d .someE .0, omega arith))) (omega arith))
+    where
+      last : ℕ
+      last = elementRow t (elements t)
+
+      below : row ≤ last
+      below = in-bodies row h (body-section (kindIn t row) (solid e)) .1
+
+      apart : row < last → kindIn t last ≡ E → ⊥
+      apart l q = omega (arith, d .order row last l (omega (arith, d .all)), ap (λ (k : Kind). about k .order) e, ap (λ (k : Kind). about k .order) q)
+
+      go : Body (kindIn t last) → kindIn t last ≡ «V»
+      go (solid q) = q
+      go (flat q) = at (decLt row last)
+        where
+          at : Dec (row < last) → kindIn t last ≡ «V»
+          at (yes l) = absurd (apart l q)
+          at (no l) =
+              let l′ : row < last → ⊥ = l in
+              let r : row ≡ last = omega (arith, below) in
+              ap (kindIn t) (sym r) ∙ e
+
   -- of a kind that rises by one key, the rank is the key
   key-rank : (r : ℕ) → about (kindIn t r) .keys ≡ 1 → rank (rowAt t r) ≡ field t r 1
   unfolding ranked
   key-rank r k =
-      let n : kindAt (rowAt t r) ≡ kindIn t r = ap kindOf (row-field t r 0 (omega arith)) in
-      rw (ne-eqb (about (kindAt (rowAt t r)) .keys) 2 (λ q. omega (arith, ap (λ (x : Kind). about x .keys) n))) (row-field t r 1 (omega arith))
+      rw (ne-eqb (about (kindAt (rowAt t r)) .keys) 2 (λ q. omega (arith, ap (λ (x : Kind). about x .keys) (row-kind t r)))) (row-field t r 1 (omega arith))
 
   -- THEOREM. Two cards of a kind that rises by one key have two keys.
   pub once : (r s : ℕ) → r < rows t → s < rows t → about (kindIn t r) .keys ≡ 1 → letter t r ≡ letter t s → field t r 1 ≡ field t s 1 → r ≡ s
@@ -167,6 +209,21 @@ field-in t row k kind d h e l =
     in-told (getD (columns (countsAt t) kind) k (0 ⋯ 0)) (field t row (suc k))
     (subst (λ (q : Kind). within (getD (columns (countsAt t) q) k (0 ⋯ 0)) (field t row (suc k)) ≡ true) e (d .span row k h l))
 
+-- how far the nodes of a deck lie along x and y, and along z: of a solid one and of a flat one
+abbrev pub side : Bool → ℕ
+side deep = cond deep 1023 4095
+
+abbrev pub height : Bool → ℕ
+height deep = cond deep 1023 0
+
+side-most : (b : Bool) → side b ≡ (cond b (0 ⋯ 1023) (0 ⋯ 4095)) .most
+side-most true = refl
+side-most false = refl
+
+height-most : (b : Bool) → height b ≡ (cond b (cond b (0 ⋯ 1023) (0 ⋯ 4095)) (blankOr 0)) .most
+height-most true = refl
+height-most false = refl
+
 -- THEOREMS. The ranges, by kind.
 module _ (t : List ℕ) (d : Deck t) where
   pub step-in : In 1 60000 (stepOf t)
@@ -182,11 +239,16 @@ module _ (t : List ℕ) (d : Deck t) where
   start-in = field-in t 0 1 D d (omega (arith, d .all)) (is-D t d) (omega arith)
 
   -- x and y, fields 1 and 2
-  pub coordinate : (n k : ℕ) → In 1 (nodes t) n → k < 2 → field t n (suc k) ≤ 4095
+  pub coordinate : (n k : ℕ) → In 1 (nodes t) n → k < 2 → field t n (suc k) ≤ side (countsAt t .solid)
   unfolding columns
-  coordinate n zero h l = field-in t n 0 N d (omega (arith, d .all, h .1)) (is-N t d n h) (omega arith) .1
-  coordinate n (suc zero) h l = field-in t n 1 N d (omega (arith, d .all, h .1)) (is-N t d n h) (omega arith) .1
+  coordinate n zero h l = rw (side-most (countsAt t .solid)) (field-in t n 0 N d (omega (arith, d .all, h .1)) (is-N t d n h) (omega arith) .1)
+  coordinate n (suc zero) h l = rw (side-most (countsAt t .solid)) (field-in t n 1 N d (omega (arith, d .all, h .1)) (is-N t d n h) (omega arith) .1)
   coordinate n (suc (suc k)) h l = absurd (omega arith)
+
+  -- z, field 3
+  pub height-in : (n : ℕ) → In 1 (nodes t) n → field t n 3 ≤ height (countsAt t .solid)
+  unfolding columns
+  height-in n h = rw (height-most (countsAt t .solid)) (field-in t n 2 N d (omega (arith, d .all, h .1)) (is-N t d n h) (omega arith) .1)
 
   -- a material's conductivities and capacity
   module _ (m : ℕ) (h : In 1 (materials t) m) where
@@ -205,23 +267,49 @@ module _ (t : List ℕ) (d : Deck t) where
     unfolding columns
     capacity-in = field-in t (materialRow t m) 2 M d inner (is-M t d m h) (omega arith)
 
+    -- of a solid deck
+    pub kz-in : countsAt t .solid ≡ true → In 1 500000 (field t (materialRow t m) 4)
+    unfolding columns
+    kz-in s = rw s at (field-in t (materialRow t m) 3 M d inner (is-M t d m h) (omega arith))
+
 -- ---- an element's corners, material and thickness
 
--- its node numbers, as the card has them
-abbrev pub cornersAt : List ℕ → ℕ → List ℕ
-cornersAt t row = field t row 1 ∷ field t row 2 ∷ field t row 3 ∷ []
+-- a card's node numbers and its material: a V has a corner more
+abbrev pub cornersBy : Bool → List ℕ → List ℕ
+cornersBy deep card = getD card 1 0 ∷ getD card 2 0 ∷ getD card 3 0 ∷ cond deep (getD card 4 0 ∷ []) []
+
+abbrev pub materialBy : Bool → List ℕ → ℕ
+materialBy deep card = getD card (cond deep 5 4) 0
+
+abbrev pub cornersOf : List ℕ → List ℕ
+cornersOf card = cornersBy (isA «V» card) card
+
+abbrev pub materialOf : List ℕ → ℕ
+materialOf card = materialBy (isA «V» card) card
 
 module _ (t : List ℕ) (d : Deck t) where
+  -- a corner that a field of an element names
+  corner-in : (row k : ℕ) (kind : Kind) → row < rows t → (b : Body (kindIn t row)) → kindIn t row ≡ kind → k < 5 → getD (columns (countsAt t) kind) k (0 ⋯ 0) ≡ (1 ⋯ (countsAt t .nodes))
+      → In 1 (nodes t) (getD (rowAt t row) (suc k) 0)
+  corner-in row k kind h b e l q =
+      rw (row-field t row (suc k) (omega arith), ← nodes-are t) (subst (λ (c : Column). In (c .least) (c .most) (field t row (suc k))) q (field-in t row k kind d (body-inner t d row h b) e l))
+
   -- THEOREM. The corners of an element are nodes of the deck, and its material is one of the deck.
-  pub body-corners : (row : ℕ) → row < rows t → Body (kindIn t row) → Inside (nodes t) (cornersAt t row)
+  pub body-corners : (row : ℕ) → row < rows t → Body (kindIn t row) → Inside (nodes t) (cornersOf (rowAt t row))
   unfolding columns
   body-corners row h (flat e) =
-      let i = body-inner t d row h (flat e) in
-      rw (← nodes-are t) (field-in t row 0 E d i e (omega arith), (field-in t row 1 E d i e (omega arith), (field-in t row 2 E d i e (omega arith), tt)))
+      let at : (k : ℕ) → k < 5 → getD (columns (countsAt t) E) k (0 ⋯ 0) ≡ (1 ⋯ (countsAt t .nodes)) → In 1 (nodes t) (getD (rowAt t row) (suc k) 0) = λ k. corner-in row k E h (flat e) e in
+      rw (is-flat (rowAt t row) (row-kind t row ∙ e)) (at 0 (omega arith) refl, (at 1 (omega arith) refl, (at 2 (omega arith) refl, tt)))
+  body-corners row h (solid e) =
+      let at : (k : ℕ) → k < 5 → getD (columns (countsAt t) «V») k (0 ⋯ 0) ≡ (1 ⋯ (countsAt t .nodes)) → In 1 (nodes t) (getD (rowAt t row) (suc k) 0) = λ k. corner-in row k «V» h (solid e) e in
+      rw (is-solid (rowAt t row) (row-kind t row ∙ e)) (at 0 (omega arith) refl, (at 1 (omega arith) refl, (at 2 (omega arith) refl, (at 3 (omega arith) refl, tt))))
 
-  pub body-material : (row : ℕ) → row < rows t → Body (kindIn t row) → In 1 (materials t) (field t row 4)
+  pub body-material : (row : ℕ) → row < rows t → Body (kindIn t row) → In 1 (materials t) (materialOf (rowAt t row))
   unfolding columns
-  body-material row h (flat e) = rw (← materials-are t) (field-in t row 3 E d (body-inner t d row h (flat e)) e (omega arith))
+  body-material row h (flat e) =
+      rw (is-flat (rowAt t row) (row-kind t row ∙ e), row-field t row 4 (omega arith), ← materials-are t) (field-in t row 3 E d (body-inner t d row h (flat e)) e (omega arith))
+  body-material row h (solid e) =
+      rw (is-solid (rowAt t row) (row-kind t row ∙ e), row-field t row 5 (omega arith), ← materials-are t) (field-in t row 4 «V» d (body-inner t d row h (solid e)) e (omega arith))
 
   pub thickness-in : (row : ℕ) → row < rows t → kindIn t row ≡ E → In 1 4000 (field t row 5)
   unfolding columns
@@ -243,6 +331,15 @@ module _ (t : List ℕ) (d : Deck t) where
     pub names-F : kindIn t row ≡ F → In 1 (elements t) (field t row 1)
     unfolding columns about
     names-F e = rw (← elements-are t) (field-in t row 0 F d (load-inner (rw e)) e (omega arith))
+
+    -- a film's element is a triangle
+    pub film-flat : kindIn t row ≡ F → kindIn t (namedRow t (rowAt t row)) ≡ E
+    unfolding asks about
+    film-flat e =
+        let card = rowAt t row in
+        let q : asks (countsAt t) (rowAt t) card F ≡ true = subst (λ (k : Kind). asks (countsAt t) (rowAt t) card k ≡ true) e (d .asked row (load-inner (rw e))) in
+        let at : before (countsAt t) 3 + getD card 1 0 - 1 ≡ namedRow t card = omega (arith, begins t .atE) in
+        sym (row-kind t (namedRow t card)) ∙ kind-of (getD (rowAt t (namedRow t card)) 0 0) E (eqb-true _ _ (subst (λ (r : ℕ). isA E (rowAt t r) ≡ true) at q))
 
     pub film-in : kindIn t row ≡ F → In 1 100000 (field t row 2)
     unfolding columns about
@@ -283,30 +380,45 @@ module _ (t : List ℕ) (d : Deck t) where
     unfolding columns about
     held-in e = field-in t row 1 T d (load-inner (rw e)) e (omega arith)
 
--- ---- the shape of an element is its body's
+-- ---- the shape of an element is its corners'
 
-pub element-shape : (t : List ℕ) (row : ℕ) → elementAt t row .shape ≡ shapeOf t (cornersAt t row)
-unfolding elementOf bodyOf
-element-shape t row =
-    λ i. shapeOf t (row-field t row 1 (omega arith) i ∷ row-field t row 2 (omega arith) i ∷ row-field t row 3 (omega arith) i ∷ [])
+pub element-shape : (t card : List ℕ) → elementOf t card .shape ≡ shapeOf t (cornersOf card)
+unfolding elementOf flatOf bodyOf tetrahedronOf spaceOf
+element-shape t card = go (isA «V» card)
+  where
+    go : (b : Bool) → (cond b (solidOf (stepOf t) (tetrahedronOf t card)) (flatOf t card)) .shape ≡ shapeOf t (cornersBy b card)
+    go true = refl
+    go false = refl
 
-pub element-corners : (t : List ℕ) (row : ℕ) → elementAt t row .shape .corners ≡ cornersAt t row
+pub element-corners : (t card : List ℕ) → elementOf t card .shape .corners ≡ cornersOf card
 unfolding shapeOf
-element-corners t row = ap (λ (s : Shape). s .corners) (element-shape t row)
+element-corners t card = ap (λ (s : Shape). s .corners) (element-shape t card)
+
+-- three or four
+pub few-corners : (t card : List ℕ) → In 3 4 (length (elementOf t card .shape .corners))
+few-corners t card = rw (element-corners t card) (go (isA «V» card))
+  where
+    go : (b : Bool) → In 3 4 (length (cornersBy b card))
+    go true = (omega arith, omega arith)
+    go false = (omega arith, omega arith)
+
+pub three-corners : (t card : List ℕ) → kindAt card ≡ E → length (elementOf t card .shape .corners) ≡ 3
+three-corners t card e = rw (element-corners t card, is-flat card e)
 
 module _ (t : List ℕ) (d : Deck t) where
   named-corners : (e : ℕ) → In 1 (elements t) e → Inside (nodes t) (elementAt t (elementRow t e) .shape .corners)
-  named-corners e h = rw (element-corners t (elementRow t e)) (body-corners t d (elementRow t e) (omega (arith, d .all, h .1)) (is-body t d e h))
+  named-corners e h = rw (element-corners t (rowAt t (elementRow t e))) (body-corners t d (elementRow t e) (omega (arith, d .all, h .1)) (is-body t d e h))
 
   named-at : (row : ℕ) → In 1 (elements t) (field t row 1) → Inside (nodes t) (namedShape t (rowAt t row) .corners)
   named-at row h = named-corners (getD (rowAt t row) 1 0) (rw (row-field t row 1 (omega arith)) h)
 
   corners-by : (row : ℕ) (kind : Kind) → row < rows t → kindIn t row ≡ kind → Inside (nodes t) (partOf t (rowAt t row) kind .corners)
-  unfolding partOf shapeOf
+  unfolding partOf spaceOf shapeOf
   corners-by row D h e = tt
   corners-by row N h e = tt
   corners-by row M h e = tt
-  corners-by row E h e = rw (element-corners t row) (body-corners t d row h (flat e))
+  corners-by row E h e = rw (element-corners t (rowAt t row)) (body-corners t d row h (flat e))
+  corners-by row «V» h e = rw (element-corners t (rowAt t row)) (body-corners t d row h (solid e))
   corners-by row H h e = named-at row (names-H t d row h e)
   corners-by row F h e = named-at row (names-F t d row h e)
   corners-by row G h e = rw (row-field t row 1 (omega arith), row-field t row 2 (omega arith)) (ends-G t d row h e)

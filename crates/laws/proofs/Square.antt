@@ -13,15 +13,16 @@ use Rattle.whole.specs.Squares.{pairsOf, among}
 use Rattle.whole.proofs.Tests.{eqb-swap}
 use Rattle.whole.proofs.Sums.{sum-ext, sum-plus, sum-single, sum-swap, sum-zero}
 use Rattle.whole.proofs.Squares.{among-pairs}
-use Rattle.paper.specs.Kinds.{kindOf}
-use Rattle.paper.specs.Cards.{rowAt, rows, letter}
+use Rattle.paper.specs.Kinds.{kindOf, isA}
+use Rattle.paper.specs.Cards.{rowAt, rows, letter, stepOf}
 use Rattle.paper.specs.Corners.{Body, square, mass, spread}
 use Rattle.paper.specs.Triangle.{b, c, pair}
-use Rattle.paper.specs.Elements.{Element, bodyOf, elementOf}
+use Rattle.paper.specs.Elements.{Element, bodyOf, flatOf, tetrahedronOf, solidOf, elementOf}
 use Rattle.paper.specs.Parts.{Part, nothing, nowhere, bulk, partOf, partAt}
 use Rattle.paper.specs.Matrices.{addsP, addsA, P, A}
 use Rattle.paper.specs.declared.Kind.{Kind}
-use Rattle.paper.specs.declared.Kind.the-variants.{D, N, M, E, H, F, G, T, Z, Other}
+use Rattle.paper.specs.declared.Kind.the-variants.{D, N, M, E, «V», H, F, G, T, Z, Other}
+use Rattle.laws.proofs.Solids as solid
 
 -- ---- a square over n corners
 
@@ -91,8 +92,12 @@ unfolding pair
 pair-symmetric e i j = rw (*ℤ-comm (b (e .shape) i) (b (e .shape) j), *ℤ-comm (c (e .shape) i) (c (e .shape) j))
 
 pub between-symmetric : (t card : List ℕ) (i j : ℕ) → elementOf t card .between i j ≡ elementOf t card .between j i
-unfolding elementOf
-between-symmetric t card i j = pair-symmetric (bodyOf t card) i j
+unfolding elementOf flatOf
+between-symmetric t card i j = go (isA «V» card)
+  where
+    go : (b : Bool) → (cond b (solidOf (stepOf t) (tetrahedronOf t card)) (flatOf t card)) .between i j ≡ (cond b (solidOf (stepOf t) (tetrahedronOf t card)) (flatOf t card)) .between j i
+    go true = solid.pair-symmetric (tetrahedronOf t card) i j
+    go false = pair-symmetric (bodyOf t card) i j
 
 -- ---- what a card adds
 
@@ -120,6 +125,7 @@ card-sound t card D = plain nothing refl
 card-sound t card N = plain nothing refl
 card-sound t card M = plain nothing refl
 card-sound t card E = bulk-sound (elementOf t card) (between-symmetric t card)
+card-sound t card «V» = bulk-sound (elementOf t card) (between-symmetric t card)
 card-sound t card H = plain (partOf t card H) refl
 card-sound t card F = plain (partOf t card F) refl
 card-sound t card G = plain (partOf t card G) refl

@@ -15,21 +15,22 @@ use Rattle.whole.proofs.Signs.{natAbs-plus}
 use Rattle.whole.proofs.Areas.{area-size}
 use Rattle.whole.proofs.Sums.{sum-none, sumN-mono, sumN-plus, sumN-ext, sumN-zero, sumN-swap, sumN-one, sumN-upto, abs-sum}
 use Rattle.paper.specs.Kinds.{about, bodies}
-use Rattle.paper.specs.Cards.{field, rowAt, rows, nodes, materials, elements, elementRow}
+use Rattle.paper.specs.Cards.{field, rowAt, rows, nodes, materials, elements, elementRow, countsAt}
 use Rattle.paper.specs.Corners.{Shape, shapeOf, area, mass, spread}
+use Rattle.paper.specs.Tetrahedron.{spaceOf}
 use Rattle.paper.specs.Triangle.{S, faceFilm}
 use Rattle.paper.specs.Edge.{edgeFilm}
-use Rattle.paper.specs.Elements.{bodyOf, elementOf, elementAt}
-use Rattle.paper.specs.Parts.{Part, nothing, bulk, filmed, loaded, namedShape, edgeShape, partOf, partAt}
+use Rattle.paper.specs.Elements.{elementOf, elementAt}
+use Rattle.paper.specs.Parts.{Part, nothing, bulk, filmed, loaded, namedRow, namedShape, edgeSpace, partOf, partAt}
 use Rattle.paper.specs.Matrices.{addsP, addsA}
 use Rattle.paper.specs.Building.{elementsFrom}
 use Rattle.paper.specs.declared.Answer.the-variants.{Done}
 use Rattle.paper.specs.declared.Kind.{Kind}
-use Rattle.paper.specs.declared.Kind.the-variants.{D, N, M, E, H, F, G, T, Z, Other}
-use Rattle.laws.proofs.Letters.{Body, flat}
+use Rattle.paper.specs.declared.Kind.the-variants.{D, N, M, E, «V», H, F, G, T, Z, Other}
+use Rattle.laws.proofs.Letters.{Body, flat, solid}
 use Rattle.laws.proofs.Tables.{row-field}
 use Rattle.laws.proofs.Decks.{In, kindIn, Deck}
-use Rattle.laws.proofs.Spans.{cornersAt, coordinate, body-corners, is-body, in-bodies, names-F, film-in, element-shape}
+use Rattle.laws.proofs.Spans.{side, coordinate, row-kind, cornersOf, body-corners, is-body, in-bodies, names-F, film-flat, film-in, element-shape, few-corners, three-corners}
 use Rattle.laws.proofs.Sizes.{Distinct, spread-row, mass-row, square-row}
 use Rattle.laws.proofs.Places.{squareP, squareA}
 use Rattle.laws.proofs.Edge.{g-small}
@@ -116,15 +117,11 @@ four-times : (c : ℕ) → sumN 4 (λ b. c) ≡ c + c + c + c
 unfolding sumN
 four-times c = omega arith
 
-short : (t card : List ℕ) → length (elementOf t card .shape .corners) ≤ 4
-unfolding elementOf bodyOf shapeOf
-short t card = omega arith
-
 pub bulk-weighs : (t card : List ℕ) → Formed (elementOf t card) → Weighs (bulk (elementOf t card)) 44000000
 bulk-weighs t card s =
     let e = elementOf t card in
     let n = length (e .shape .corners) in
-    let few : n ≤ 4 = short t card in
+    let few : n ≤ 4 = few-corners t card .1 in
     weighs-more (bulk e) _ 44000000 (weighs (bulk e) 24000000 (distinct t card (s .some)) (λ a l. omega (
       arith,
       square-row n 4000000 a (e .between) l (λ k m q. between-small t card (s .fair) a k l m q),
@@ -168,15 +165,24 @@ face-size film s h k = let m : film * S s ≤ 100000 * (4095 * 4095) = mul-le-mu
 module _ (t : List ℕ) (d : Deck t) where
   -- THEOREM. An element's corners lie on the sheet.
   pub on-sheet : (row : ℕ) → row < rows t → Body (kindIn t row) → OnSheet (elementAt t row .shape)
-  on-sheet row h b a l = subst (λ (s : Shape). (getD (s .xs) a 0 ≤ 4095) × (getD (s .ys) a 0 ≤ 4095)) (sym (element-shape t row)) (go a l)
+  on-sheet row h b a l = subst (λ (s : Shape). (getD (s .xs) a 0 ≤ 4095) × (getD (s .ys) a 0 ≤ 4095)) (sym (element-shape t (rowAt t row))) (go a l)
     where
-      at : (n : ℕ) → In 1 (nodes t) n → (field t n 1 ≤ 4095) × (field t n 2 ≤ 4095)
-      at n i = (coordinate t d n 0 i (omega arith), coordinate t d n 1 i (omega arith))
+      sides : (deep : Bool) → side deep ≤ 4095
+      sides true = omega arith
+      sides false = omega arith
 
-      go : (a : ℕ) → a < 3 → (getD (shapeOf t (cornersAt t row) .xs) a 0 ≤ 4095) × (getD (shapeOf t (cornersAt t row) .ys) a 0 ≤ 4095)
-      go zero l = unfold shapeOf in at (field t row 1) (body-corners t d row h b .0)
-      go (suc zero) l = unfold shapeOf in at (field t row 2) (body-corners t d row h b .1 .0)
-      go (suc (suc zero)) l = unfold shapeOf in at (field t row 3) (body-corners t d row h b .1 .1 .0)
+      at : (n : ℕ) → In 1 (nodes t) n → (field t n 1 ≤ 4095) × (field t n 2 ≤ 4095)
+      at n i =
+          let most = sides (countsAt t .solid) in
+          (omega (arith, coordinate t d n 0 i (omega arith)), omega (arith, coordinate t d n 1 i (omega arith)))
+
+      ns : List ℕ
+      ns = cornersOf (rowAt t row)
+
+      go : (a : ℕ) → a < 3 → (getD (shapeOf t ns .xs) a 0 ≤ 4095) × (getD (shapeOf t ns .ys) a 0 ≤ 4095)
+      go zero l = unfold shapeOf in at (getD ns 0 0) (body-corners t d row h b .0)
+      go (suc zero) l = unfold shapeOf in at (getD ns 1 0) (body-corners t d row h b .1 .0)
+      go (suc (suc zero)) l = unfold shapeOf in at (getD ns 2 0) (body-corners t d row h b .1 .1 .0)
       go (suc (suc (suc a))) l = absurd (omega arith)
 
   -- the shape that a load names
@@ -198,22 +204,21 @@ module _ (t : List ℕ) (d : Deck t) (pass : elementsFrom (elements t) 1 t ≡ D
       let film : getD card 2 0 ≤ 100000 = omega (arith, row-field t row 2 (omega arith), film-in t d row h e .1) in
       let of : In 1 (elements t) (getD card 1 0) = rw (row-field t row 1 (omega arith)) (names-F t d row h e) in
       let s = namedShape t card in
+      let of-E = row-kind t (namedRow t card) ∙ film-flat t d row h e in
+      let three = three-corners t (rowAt t (namedRow t card)) of-E in
       let w = face-size (getD card 2 0) s film (S-size s (named-on-sheet t d (getD card 1 0) of)) in
       weighs-more _ _ 1400000
-      (filmed-weighs (s .corners) (faceFilm (getD card 2 0) s) (getD card 3 0) 3 (subst (λ (k : Kind). Distinct (partOf t card k .corners)) e (part-distinct t d pass row h)) (three-corners (elementRow t (getD card 1 0))))
+      (filmed-weighs (s .corners) (faceFilm (getD card 2 0) s) (getD card 3 0) 3 (subst (λ (k : Kind). Distinct (partOf t card k .corners)) e (part-distinct t d pass row h)) (omega (arith, three)))
       (omega (arith, three-times (faceFilm (getD card 2 0) s)))
-    where
-      three-corners : (r : ℕ) → length (elementAt t r .shape .corners) ≤ 3
-      three-corners r = unfold elementOf in unfold bodyOf in unfold shapeOf in omega arith
 
   weighs-G : (row : ℕ) → row < rows t → kindIn t row ≡ G → Weighs (partOf t (rowAt t row) G) 1400000
-  unfolding partOf shapeOf
+  unfolding partOf spaceOf shapeOf
   weighs-G row h e =
       let card = rowAt t row in
-      let s = edgeShape t card in
+      let s = edgeSpace t card in
       let w = edgeFilm (getD card 3 0) (getD card 5 0) s in
       weighs-more _ _ 1400000
-      (filmed-weighs (s .corners) w (getD card 4 0) 2 (subst (λ (k : Kind). Distinct (partOf t card k .corners)) e (part-distinct t d pass row h)) (omega arith))
+      (filmed-weighs (s .shape .corners) w (getD card 4 0) 2 (subst (λ (k : Kind). Distinct (partOf t card k .corners)) e (part-distinct t d pass row h)) (omega arith))
       (omega (arith, two-times w, g-small (getD card 3 0) (getD card 5 0) s))
 
   weighs-by : (row : ℕ) (kind : Kind) → row < rows t → kindIn t row ≡ kind → Weighs (partOf t (rowAt t row) kind) (most kind)
@@ -222,6 +227,7 @@ module _ (t : List ℕ) (d : Deck t) (pass : elementsFrom (elements t) 1 t ≡ D
   weighs-by row N h e = weighs-none [] _ _
   weighs-by row M h e = weighs-none [] _ _
   weighs-by row E h e = weighs-more _ _ _ (bulk-weighs t (rowAt t row) (sound t row d pass h (flat e))) (omega arith)
+  weighs-by row «V» h e = weighs-more _ _ _ (bulk-weighs t (rowAt t row) (sound t row d pass h (solid e))) (omega arith)
   weighs-by row H h e = weighs-none _ _ _
   weighs-by row F h e = weighs-F row h e
   weighs-by row G h e = weighs-G row h e

@@ -3,7 +3,7 @@ use mathlib.Core.Path.{_≡_, refl, sym, ap, subst, _∙_}
 use mathlib.Core.Bool.{Bool, true, false, cond}
 use mathlib.Core.List.{List}
 use Prim.Native.Nat.{ℕ, suc, _+_, _*_, _/_, _%_, _-_, _^_, _≤_, _<_}
-use native.Mathlib.Nat.{mul-le-mul}
+use native.Mathlib.Nat.{mul-le-mul, div-le-self}
 use native.Mathlib.Omega.{arith}
 use lib.Dec.{eqb, ltb}
 use lib.IntN.{ℤ, pos, natAbs, _+ℤ_, +ℤ-idr}
@@ -15,16 +15,17 @@ use Rattle.paper.specs.Ticks.{top}
 use Rattle.paper.specs.Kinds.{about, kindOf, kindAt}
 use Rattle.paper.specs.Cards.{field, letter, rowAt, rows, nodes, materials, elements, elementRow, before, countsAt}
 use Rattle.paper.specs.Corners.{Shape, shapeOf, share}
+use Rattle.paper.specs.Tetrahedron.{spaceOf}
 use Rattle.paper.specs.Triangle.{faceFilm}
 use Rattle.paper.specs.Edge.{edgeFilm}
-use Rattle.paper.specs.Elements.{bodyOf, elementOf, elementAt}
-use Rattle.paper.specs.Parts.{Part, heatShare, namedShape, edgeShape, partOf, partFor, partAt}
+use Rattle.paper.specs.Elements.{elementAt}
+use Rattle.paper.specs.Parts.{Part, heatShare, namedRow, namedShape, edgeSpace, partOf, partFor, partAt}
 use Rattle.paper.specs.Matrices.{addsLoad, loadOf}
 use Rattle.paper.specs.declared.Kind.{Kind}
-use Rattle.paper.specs.declared.Kind.the-variants.{D, N, M, E, H, F, G, T, Z, Other}
+use Rattle.paper.specs.declared.Kind.the-variants.{D, N, M, E, «V», H, F, G, T, Z, Other}
 use Rattle.laws.proofs.Decks.{In, kindIn, Deck}
 use Rattle.laws.proofs.Tables.{row-field}
-use Rattle.laws.proofs.Spans.{Inside, part-corners, heat-in, film-in, ambient-in, edge-ambient-in, names-H, names-F, in-loads}
+use Rattle.laws.proofs.Spans.{Inside, row-kind, few-corners, three-corners, part-corners, heat-in, film-in, film-flat, ambient-in, edge-ambient-in, names-F, in-loads}
 use Rattle.laws.proofs.Edge.{g-small}
 use Rattle.laws.proofs.Weights.{S-size, face-size, named-on-sheet}
 use Rattle.part.specs.Asks.{Card}
@@ -37,31 +38,37 @@ use Rattle.loads.specs.Asks.{AtRow, Room, Spread}
 abbrev heaviest : ℕ
 heaviest = 4 * 349500 * 33554432
 
-heat-size : (heat a : ℕ) → heat ≤ 5000000 → 65536 * heat / 3 + cond (ltb a (65536 * heat % 3)) 1 0 ≤ heaviest
-heat-size heat a h = go (ltb a (65536 * heat % 3))
+-- a heat's share is far from it
+heat-size : (n heat a : ℕ) → heat ≤ 5000000 → 65536 * heat / n + cond (ltb a (65536 * heat % n)) 1 0 ≤ 2 ^ 39
+heat-size n heat a h = go (ltb a (65536 * heat % n))
   where
-    go : (b : Bool) → 65536 * heat / 3 + cond b 1 0 ≤ heaviest
-    go true = omega arith
-    go false = omega arith
+    go : (b : Bool) → 65536 * heat / n + cond b 1 0 ≤ 2 ^ 39
+    go true = omega (arith, div-le-self (65536 * heat) n)
+    go false = omega (arith, div-le-self (65536 * heat) n)
 
 film-size : (n w ambient : ℕ) → n ≤ 3 → w ≤ 349500 → ambient ≤ top → (1 + n) * w * ambient ≤ heaviest
 film-size n w ambient l h k =
     let a : (1 + n) * w ≤ 1398000 = mul-le-mul {n₂ = 4} {m₂ = 349500} (omega arith) h in
     omega (arith, mul-le-mul {n₂ = 1398000} {m₂ = 33554432} a k)
 
-share-size : (ns : List ℕ) (q : ℕ → ℤ) (i : ℕ) → length ns ≤ 3 → ((a : ℕ) → natAbs (q a) ≤ heaviest) → natAbs (share ns q i) ≤ 3 * heaviest
+share-size : (ns : List ℕ) (q : ℕ → ℤ) (w i : ℕ) → ((a : ℕ) → natAbs (q a) ≤ w) → natAbs (share ns q i) ≤ length ns * w
 unfolding share
-share-size ns q i few h =
-    omega (arith, sum-size-each (length ns) (λ a. cond (eqb (getD ns a 0) (suc i)) (q a) (pos 0)) heaviest (λ a l. one (eqb (getD ns a 0) (suc i)) a), few)
+share-size ns q w i h = sum-size-each (length ns) (λ a. cond (eqb (getD ns a 0) (suc i)) (q a) (pos 0)) w (λ a l. one (eqb (getD ns a 0) (suc i)) a)
   where
-    one : (b : Bool) (a : ℕ) → natAbs (cond b (q a) (pos 0)) ≤ heaviest
+    one : (b : Bool) (a : ℕ) → natAbs (cond b (q a) (pos 0)) ≤ w
     one true a = h a
     one false a = omega arith
 
--- what a part weighs on its corners
+-- what a part weighs on its corners: no more than a film does on three
 pub record Light (x : Part) : Type 0 where
-  pub few : length (x .corners) ≤ 3
-  pub each : (a : ℕ) → natAbs (x .load a) ≤ heaviest
+  pub few : length (x .corners) ≤ 4
+  pub most : ℕ
+  pub small : most ≤ heaviest
+  pub each : (a : ℕ) → natAbs (x .load a) ≤ most
+  pub all : length (x .corners) * most ≤ 3 * heaviest
+
+weightless : (x : Part) → length (x .corners) ≤ 4 → ((a : ℕ) → natAbs (x .load a) ≤ 0) → Light x
+weightless x h e = record { few = h; most = 0; small = omega arith; each = e; all = omega arith }
 
 module _ {t : List ℕ} (d : Deck t) (row : ℕ) (l : row < rows t) where
   -- field k of the card in the row
@@ -69,35 +76,53 @@ module _ {t : List ℕ} (d : Deck t) (row : ℕ) (l : row < rows t) where
   at k h P p = subst P (sym (row-field t row k h)) p
 
   light-by : (kind : Kind) → kindIn t row ≡ kind → Light (partOf t (rowAt t row) kind)
-  unfolding partOf elementOf bodyOf shapeOf heatShare
-  light-by D e = record { few = omega arith; each = λ a. omega arith }
-  light-by N e = record { few = omega arith; each = λ a. omega arith }
-  light-by M e = record { few = omega arith; each = λ a. omega arith }
-  light-by E e = record { few = omega arith; each = λ a. omega arith }
-  light-by H e = record { few = omega arith; each = λ a. heat-size (getD (rowAt t row) 2 0) a (at 2 (omega arith) (λ v. v ≤ 5000000) (heat-in t d row l e .1)) }
-  light-by F e = record {
-    few = omega arith;
-    each = λ a. film-size 3 (faceFilm (getD (rowAt t row) 2 0) (namedShape t (rowAt t row))) (getD (rowAt t row) 3 0) (omega arith)
-        (face-size (getD (rowAt t row) 2 0) (namedShape t (rowAt t row)) (at 2 (omega arith) (λ v. v ≤ 100000) (film-in t d row l e .1))
-        (S-size (namedShape t (rowAt t row)) (named-on-sheet t d (getD (rowAt t row) 1 0) (at 1 (omega arith) (In 1 (elements t)) (names-F t d row l e)))))
-        (at 3 (omega arith) (λ v. v ≤ top) (ambient-in t d row l e .1));
-  }
+  unfolding partOf spaceOf shapeOf heatShare
+  light-by D e = weightless (partOf t (rowAt t row) D) (omega arith) (λ a. omega arith)
+  light-by N e = weightless (partOf t (rowAt t row) N) (omega arith) (λ a. omega arith)
+  light-by M e = weightless (partOf t (rowAt t row) M) (omega arith) (λ a. omega arith)
+  light-by E e = weightless (partOf t (rowAt t row) E) (few-corners t (rowAt t row) .1) (λ a. omega arith)
+  light-by «V» e = weightless (partOf t (rowAt t row) «V») (few-corners t (rowAt t row) .1) (λ a. omega arith)
+  light-by H e =
+      let n = few-corners t (rowAt t (namedRow t (rowAt t row))) .1 in
+      record {
+        few = n;
+        most = 2 ^ 39;
+        small = omega arith;
+        each = λ a. heat-size (length (namedShape t (rowAt t row) .corners)) (getD (rowAt t row) 2 0) a (at 2 (omega arith) (λ v. v ≤ 5000000) (heat-in t d row l e .1));
+        all = omega (arith, n);
+      }
+  light-by F e =
+      let s = namedShape t (rowAt t row) in
+      let n = three-corners t (rowAt t (namedRow t (rowAt t row))) (row-kind t (namedRow t (rowAt t row)) ∙ film-flat t d row l e) in
+      record {
+        few = omega (arith, n);
+        most = heaviest;
+        small = omega arith;
+        each = λ a. film-size (length (s .corners)) (faceFilm (getD (rowAt t row) 2 0) s) (getD (rowAt t row) 3 0) (omega (arith, n))
+            (face-size (getD (rowAt t row) 2 0) s (at 2 (omega arith) (λ v. v ≤ 100000) (film-in t d row l e .1))
+            (S-size s (named-on-sheet t d (getD (rowAt t row) 1 0) (at 1 (omega arith) (In 1 (elements t)) (names-F t d row l e)))))
+            (at 3 (omega arith) (λ v. v ≤ top) (ambient-in t d row l e .1));
+        all = omega (arith, n);
+      }
   light-by G e = record {
     few = omega arith;
-    each = λ a. film-size 2 (edgeFilm (getD (rowAt t row) 3 0) (getD (rowAt t row) 5 0) (edgeShape t (rowAt t row))) (getD (rowAt t row) 4 0) (omega arith)
-        (omega (arith, g-small (getD (rowAt t row) 3 0) (getD (rowAt t row) 5 0) (edgeShape t (rowAt t row))))
+    most = heaviest;
+    small = omega arith;
+    each = λ a. film-size 2 (edgeFilm (getD (rowAt t row) 3 0) (getD (rowAt t row) 5 0) (edgeSpace t (rowAt t row))) (getD (rowAt t row) 4 0) (omega arith)
+        (omega (arith, g-small (getD (rowAt t row) 3 0) (getD (rowAt t row) 5 0) (edgeSpace t (rowAt t row))))
         (at 4 (omega arith) (λ v. v ≤ top) (edge-ambient-in t d row l e .1));
+    all = omega arith;
   }
-  light-by T e = record { few = omega arith; each = λ a. omega arith }
-  light-by Z e = record { few = omega arith; each = λ a. omega arith }
-  light-by Other e = record { few = omega arith; each = λ a. omega arith }
+  light-by T e = weightless (partOf t (rowAt t row) T) (omega arith) (λ a. omega arith)
+  light-by Z e = weightless (partOf t (rowAt t row) Z) (omega arith) (λ a. omega arith)
+  light-by Other e = weightless (partOf t (rowAt t row) Other) (omega arith) (λ a. omega arith)
 
   light : Light (partAt t row)
   light = light-by (kindIn t row) refl
 
   adds-size : (i : ℕ) → natAbs (addsLoad (partAt t row) i) ≤ 3 * heaviest
   unfolding addsLoad
-  adds-size i = share-size (partAt t row .corners) (partAt t row .load) i (light .few) (light .each)
+  adds-size i = omega (arith, share-size (partAt t row .corners) (partAt t row .load) (light .most) i (light .each), light .all)
 
 -- ---- rows that add nothing: those of no load
 
@@ -115,6 +140,7 @@ idle t card i D n = share-none _ _ i (λ a. refl)
 idle t card i N n = share-none _ _ i (λ a. refl)
 idle t card i M n = share-none _ _ i (λ a. refl)
 idle t card i E n = share-none _ _ i (λ a. refl)
+idle t card i «V» n = share-none _ _ i (λ a. refl)
 idle t card i H n = absurd (n refl)
 idle t card i F n = absurd (n refl)
 idle t card i G n = absurd (n refl)
@@ -187,14 +213,14 @@ pub card-ready : {t : List ℕ} {r : List ℤ} {row : ℕ} → Room t r row → 
 card-ready {t} {r} {row} q card e = subst (Card t) (sym e) (card-at t row (q .here .each .deck) (q .here .inside))
 
 module _ {t : List ℕ} {r : List ℤ} {row : ℕ} (q : Room t r row) (ns vs card : List ℕ) (eo : card ≡ rowAt t row) (ec : ns ≡ partFor t card .corners)
-    (ev : (a : ℕ) → a < 3 → pos (getD vs a 0) ≡ partFor t card .load a) where
+    (ev : (a : ℕ) → a < 4 → pos (getD vs a 0) ≡ partFor t card .load a) where
   part-is : partFor t card ≡ partAt t row
   part-is = ap (partFor t) eo ∙ part-row t row
 
   corners-are : ns ≡ partAt t row .corners
   corners-are = ec ∙ ap (λ (x : Part). x .corners) part-is
 
-  load-is : (a : ℕ) → a < 3 → pos (getD vs a 0) ≡ partAt t row .load a
+  load-is : (a : ℕ) → a < 4 → pos (getD vs a 0) ≡ partAt t row .load a
   load-is a l = ev a l ∙ ap (λ (x : Part). x .load a) part-is
 
   inner : row < rows t
@@ -208,7 +234,7 @@ module _ {t : List ℕ} {r : List ℤ} {row : ℕ} (q : Room t r row) (ns vs car
       (record {
         few = w .few;
         inside = subst (λ (m : ℕ). Inside m (partAt t row .corners)) (sym (q .here .each .long)) (part-corners t d row inner);
-        share-small = λ a l. subst (λ (z : ℤ). natAbs z ≤ 2 ^ 46) (sym (load-is a l)) (omega (arith, w .each a));
+        share-small = λ a l. subst (λ (z : ℤ). natAbs z ≤ 2 ^ 46) (sym (load-is a l)) (omega (arith, w .each a, w .small));
         small = λ i h. q .small i (omega (arith, q .here .each .long));
       })
 

@@ -37,7 +37,7 @@ pub record Corner (r : List ℤ) (k v : ℕ) : Type 0 where
 
 -- and at each of these its share
 pub record Spread (r : List ℤ) (ns vs : List ℕ) : Type 0 where
-  pub few : length ns ≤ 3
+  pub few : length ns ≤ 4
   pub inside : Inside (length r) ns
-  pub share-small : (a : ℕ) → a < 3 → getD vs a 0 ≤ 2 ^ 46
+  pub share-small : (a : ℕ) → a < 4 → getD vs a 0 ≤ 2 ^ 46
   pub small : (i : ℕ) → i < length r → natAbs (cell r i) ≤ 2 ^ 57

@@ -41,7 +41,7 @@ fn add(r: &mut [i64], node: Node, v: u64)
 }
 
 // At each corner its share; some corners may be the same.
-fn spread(r: &mut [i64], c: Corners, shares: [u64; 3])
+fn spread(r: &mut [i64], c: Corners, shares: [u64; 4])
     requires { ⌜ Full c × Spread (now r) (cornersOf c) shares ⌝ }
     ensures { λ _. ⌜ now (r .exit) ≡ list (length (now (r .entry))) (λ i. cell (now (r .entry)) i +ℤ share (cornersOf c) (λ a. pos (getD shares a 0)) i) ⌝ }
 {

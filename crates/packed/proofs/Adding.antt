@@ -30,23 +30,23 @@ set-size xs p b w h l k = go (ℕ-discrete k p) (decLt p (length xs))
     go (yes e) (no m) = let m′ : p < length xs → ⊥ = m in rw (set-out xs p w (omega arith)) (h k)
     go (no n) m = rw (getD-set-other xs p k w (pos 0) n) (h k)
 
-add-size : (xs : List ℤ) (i j b : ℕ) (v : ℤ) → Bounded b xs → natAbs v ≤ 2 ^ 52 → Bounded (b + 2 ^ 52) (add xs i j v)
+add-size : (xs : List ℤ) (i j b : ℕ) (v : ℤ) → Bounded b xs → natAbs v ≤ 2 ^ 58 → Bounded (b + 2 ^ 58) (add xs i j v)
 add-size xs i j b v h l = record {
-  each = set-size xs (place i j) (b + 2 ^ 52) (entry xs i j +ℤ v) (λ k. omega (arith, h .each k)) (omega (arith, natAbs-plus (entry xs i j) v, h .each (place i j)));
+  each = set-size xs (place i j) (b + 2 ^ 58) (entry xs i j +ℤ v) (λ k. omega (arith, h .each k)) (omega (arith, natAbs-plus (entry xs i j) v, h .each (place i j)));
 }
 
-row-size : (k : ℕ) (b : ℕ) (xs : List ℤ) (ns : List ℕ) (q : List (List ℤ)) (a : ℕ) → Bounded b xs → Small (2 ^ 52) q → Bounded (b + k * 2 ^ 52) (addRow k xs ns (at q) a)
+row-size : (k : ℕ) (b : ℕ) (xs : List ℤ) (ns : List ℕ) (q : List (List ℤ)) (a : ℕ) → Bounded b xs → Small (2 ^ 58) q → Bounded (b + k * 2 ^ 58) (addRow k xs ns (at q) a)
 unfolding addRow
 row-size zero b xs ns q a h s = record { each = λ p. omega (arith, h .each p) }
 row-size (suc k) b xs ns q a h s =
-    let more = add-size (addRow k xs ns (at q) a) (cornerRow ns a) (cornerRow ns k) (b + k * 2 ^ 52) (at q a k) (row-size k b xs ns q a h s) (s .each a k) in
+    let more = add-size (addRow k xs ns (at q) a) (cornerRow ns a) (cornerRow ns k) (b + k * 2 ^ 58) (at q a k) (row-size k b xs ns q a h s) (s .each a k) in
     record { each = λ p. omega (arith, more .each p) }
 
-square-size : (n : ℕ) (b : ℕ) (xs : List ℤ) (ns : List ℕ) (q : List (List ℤ)) → Bounded b xs → Small (2 ^ 52) q → Bounded (b + tri n * 2 ^ 52) (addSquare n xs ns (at q))
+pub square-size : (n : ℕ) (b : ℕ) (xs : List ℤ) (ns : List ℕ) (q : List (List ℤ)) → Bounded b xs → Small (2 ^ 58) q → Bounded (b + tri n * 2 ^ 58) (addSquare n xs ns (at q))
 unfolding addSquare tri
 square-size zero b xs ns q h s = record { each = λ p. omega (arith, h .each p) }
 square-size (suc n) b xs ns q h s =
-    let more = row-size (suc n) (b + tri n * 2 ^ 52) (addSquare n xs ns (at q)) ns q n (square-size n b xs ns q h s) s in
+    let more = row-size (suc n) (b + tri n * 2 ^ 58) (addSquare n xs ns (at q)) ns q n (square-size n b xs ns q h s) s in
     record { each = λ p. omega (arith, more .each p) }
 
 -- ---- a row
@@ -64,10 +64,10 @@ module _ {xs₀ : List ℤ} {c : List Node} {q : List (List ℤ)} {a : ℕ} (h :
   pub row-long : length xs ≡ length xs₀
   row-long = ap length (r .is) ∙ length-row b xs₀ (numbers c) (at q) a
 
-  row-bound : Bounded (8 * 2 ^ 52 + b * 2 ^ 52) xs
-  row-bound = subst (Bounded (8 * 2 ^ 52 + b * 2 ^ 52)) (sym (r .is)) (row-size b (8 * 2 ^ 52) xs₀ (numbers c) q a (h .small) (h .square))
+  row-bound : Bounded (8 * 2 ^ 58 + b * 2 ^ 58) xs
+  row-bound = subst (Bounded (8 * 2 ^ 58 + b * 2 ^ 58)) (sym (r .is)) (row-size b (8 * 2 ^ 58) xs₀ (numbers c) q a (h .small) (h .square))
 
-  pub row-asks : b ≤ a → AddsAt xs (nth c a) (nth c b) × (natAbs (rd (at q a b)) ≤ 2 ^ 52)
+  pub row-asks : b ≤ a → AddsAt xs (nth c a) (nth c b) × (natAbs (rd (at q a b)) ≤ 2 ^ 58)
   row-asks l =
       let (la, ha) = h .corners a (omega arith) in
       let (lb, hb) = h .corners b l in
@@ -102,20 +102,21 @@ pub square-start : (n : ℕ) (xs : List ℤ) (c : List Node) (q : List (List ℤ
 unfolding addSquare
 square-start n xs c q = record { within = omega arith; is = refl }
 
--- before its last row a square over three corners has three places
-few-places : (a : ℕ) → a ≤ 2 → tri a ≤ 3
+-- before its last row a square over four corners has six places
+few-places : (a : ℕ) → a ≤ 3 → tri a ≤ 6
 unfolding tri
 few-places zero h = omega arith
 few-places (suc zero) h = omega arith
 few-places (suc (suc zero)) h = omega arith
-few-places (suc (suc (suc a))) h = absurd (omega arith)
+few-places (suc (suc (suc zero))) h = omega arith
+few-places (suc (suc (suc (suc a)))) h = absurd (omega arith)
 
 module _ {n : ℕ} {xs₀ : List ℤ} {c : List Node} {q : List (List ℤ)} (h : Takes n xs₀ (numbers c) q) {xs : List ℤ} {a : ℕ} (r : Square n xs₀ c q xs a) where
   pub square-long : length xs ≡ length xs₀
   square-long = ap length (r .is) ∙ length-square a xs₀ (numbers c) (at q)
 
-  square-bound : Bounded (2 ^ 52 + tri a * 2 ^ 52) xs
-  square-bound = subst (Bounded (2 ^ 52 + tri a * 2 ^ 52)) (sym (r .is)) (square-size a (2 ^ 52) xs₀ (numbers c) q (h .small) (h .square))
+  square-bound : Bounded (2 ^ 58 + tri a * 2 ^ 58) xs
+  square-bound = subst (Bounded (2 ^ 58 + tri a * 2 ^ 58)) (sym (r .is)) (square-size a (2 ^ 58) xs₀ (numbers c) q (h .small) (h .square))
 
   pub square-asks : a < n → AddsRow xs (numbers c) q a
   square-asks l = record {

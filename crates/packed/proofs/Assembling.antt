@@ -9,7 +9,7 @@ use lib.Dec.{eqb}
 use lib.ListN.{length, getD, replicate}
 use Rattle.whole.specs.Sums.{sum}
 use Rattle.whole.specs.Packed.{tri, cell, entry, lower}
-use Rattle.whole.specs.Squares.{at, squareOf}
+use Rattle.whole.specs.Squares.{at, Holds}
 use Rattle.whole.proofs.Tests.{never}
 use Rattle.whole.proofs.Sums.{sum-more, sum-none}
 use Rattle.whole.proofs.Packed.{length-lower, lower-at, lower-ext, lower-zeros, lower-size}
@@ -20,8 +20,8 @@ use Rattle.paper.specs.Elements.{elementOf}
 use Rattle.paper.specs.Parts.{Part, nothing, loaded, partOf, partFor, partAt}
 use Rattle.paper.specs.Matrices.{addsP, addsA}
 use Rattle.paper.specs.declared.Kind.{Kind}
-use Rattle.paper.specs.declared.Kind.the-variants.{D, N, M, E, H, F, G, T, Z, Other}
-use Rattle.laws.proofs.Letters.{Body, flat}
+use Rattle.paper.specs.declared.Kind.the-variants.{D, N, M, E, «V», H, F, G, T, Z, Other}
+use Rattle.laws.proofs.Letters.{Body, flat, solid}
 use Rattle.laws.proofs.Decks.{kindIn, Deck}
 use Rattle.laws.proofs.Tables.{row-field}
 use Rattle.laws.proofs.Spans.{part-corners, body-inner, in-loads}
@@ -29,11 +29,10 @@ use Rattle.laws.proofs.Square.{part-sound}
 use Rattle.laws.proofs.Elements.{sound, part-distinct}
 use Rattle.laws.proofs.Places.{addSquare, squareP, squareA, added-P, added-A}
 use Rattle.triangle.specs.Forms.{numbers}
-use Rattle.triangle.proofs.Sizes.{mass-size}
 use Rattle.part.specs.Forms.{cornersOf, doesBy, does}
 use Rattle.part.specs.Asks.{Card, Solid, Full}
 use Rattle.part.specs.declared.Corners.{Corners}
-use Rattle.part.proofs.Parts.{card-at, stored-size, square-small}
+use Rattle.part.proofs.Parts.{card-at}
 use Rattle.packed.specs.Asks.{Takes, Sound, Walked}
 use Rattle.packed.proofs.Squares.{takes, gives, unchanged}
 
@@ -70,6 +69,7 @@ idle-kind t card D e = idle [] _
 idle-kind t card N e = idle [] _
 idle-kind t card M e = idle [] _
 idle-kind t card E e = never (sym e)
+idle-kind t card «V» e = never (sym e)
 idle-kind t card H e = idle _ _
 idle-kind t card F e = never (sym e)
 idle-kind t card G e = never (sym e)
@@ -89,6 +89,7 @@ module _ (t : List ℕ) (row : ℕ) (d : Deck t) (h : row < rows t) where
   inner-kind N e q = never q
   inner-kind M e q = never q
   inner-kind E e q = body-inner t d row h (flat e)
+  inner-kind «V» e q = body-inner t d row h (solid e)
   inner-kind H e q = never q
   inner-kind F e q = in-loads t d row h (rw e) .1
   inner-kind G e q = in-loads t d row h (rw e) .1
@@ -105,6 +106,7 @@ module _ (t : List ℕ) (row : ℕ) (d : Deck t) (h : row < rows t) where
   conducts-kind N q = never q
   conducts-kind M q = never q
   conducts-kind E q = flat refl
+  conducts-kind «V» q = solid refl
   conducts-kind H q = never q
   conducts-kind F q = never q
   conducts-kind G q = never q
@@ -131,26 +133,28 @@ module _ (t : List ℕ) (row : ℕ) (xs : List ℤ) (k : Walked t row xs) (q : p
   card : Card t (rowAt t row)
   card = stirring t row (k .sound .deck) (k .inside) q
 
-  module _ (r : List (List ℤ)) where
-    pub a-takes : r ≡ squareOf 3 (squareA (partFor t (rowAt t row))) → Takes (c .count) xs (numbers (c .nodes)) r
-    a-takes s =
-        takes c full (x .corners) at-row r (squareA (partFor t (rowAt t row))) s (nodes t) xs (k .sound .deck .someN .1) (k .long) (k .small) (part-corners t (k .sound .deck) row (k .inside))
-        (λ i j a b. omega (arith, square-small t (rowAt t row) card (solid-row t row (k .sound) (k .inside)) i j a b))
+  -- a square that holds what the card adds
+  module _ {b : ℕ} (r : List (List ℤ)) (f : Part → ℕ → ℕ → ℤ) (s : Holds (length (partFor t (rowAt t row) .corners)) b (f (partFor t (rowAt t row))) r) where
+    held : Holds (length (x .corners)) b (f x) r
+    held = subst (λ (y : Part). Holds (length (y .corners)) b (f y) r) (sym (part-row t row)) s
 
-    pub a-gives : {ys : List ℤ} → r ≡ squareOf 3 (squareA (partFor t (rowAt t row))) → ys ≡ addSquare (c .count) xs (numbers (c .nodes)) (at r) → ys ≡ lower (nodes t) (λ i j. entry xs i j +ℤ addsA x i j)
-    a-gives s g =
-        g ∙ gives c full (x .corners) at-row r (squareA x) (s ∙ ap (λ (y : Part). squareOf 3 (squareA y)) (sym (part-row t row))) xs
-        ∙ added-A (nodes t) x xs (part-corners t (k .sound .deck) row (k .inside)) (part-distinct t (k .sound .deck) (k .sound .passed) row (k .inside)) (part-sound t row) (k .long)
+    pub walk-takes : b ≤ 2 ^ 58 → Takes (c .count) xs (numbers (c .nodes)) r
+    walk-takes l = takes c full (x .corners) at-row r (f x) held (nodes t) xs (k .sound .deck .someN .1) (k .long) (k .small) (part-corners t (k .sound .deck) row (k .inside)) l
 
-    pub p-takes : {w : ℕ} → w ≡ partFor t (rowAt t row) .capacity → r ≡ squareOf 3 (mass w) → Takes (c .count) xs (numbers (c .nodes)) r
-    p-takes {w} z s =
-        takes c full (x .corners) at-row r (mass w) s (nodes t) xs (k .sound .deck .someN .1) (k .long) (k .small) (part-corners t (k .sound .deck) row (k .inside))
-        (λ i j a b. omega (arith, mass-size w i j, z, stored-size t (rowAt t row) card))
+    walk-gives : addSquare (c .count) xs (numbers (c .nodes)) (at r) ≡ addSquare (length (x .corners)) xs (x .corners) (f x)
+    walk-gives = gives c full (x .corners) at-row r (f x) held xs
 
-    pub p-gives : {ys : List ℤ} {w : ℕ} → w ≡ partFor t (rowAt t row) .capacity → r ≡ squareOf 3 (mass w) → ys ≡ addSquare (c .count) xs (numbers (c .nodes)) (at r) → ys ≡ lower (nodes t) (λ i j. entry xs i j +ℤ addsP x i j)
-    p-gives {ys} {w} z s g =
-        g ∙ gives c full (x .corners) at-row r (squareP x) (s ∙ ap (λ (v : ℕ). squareOf 3 (mass v)) (z ∙ ap (λ (y : Part). y .capacity) (sym (part-row t row)))) xs
-        ∙ added-P (nodes t) x xs (part-corners t (k .sound .deck) row (k .inside)) (part-distinct t (k .sound .deck) (k .sound .passed) row (k .inside)) (part-sound t row) (k .long)
+  pub a-gives : {b : ℕ} {r : List (List ℤ)} {ys : List ℤ} → Holds (length (partFor t (rowAt t row) .corners)) b (squareA (partFor t (rowAt t row))) r → ys ≡ addSquare (c .count) xs (numbers (c .nodes)) (at r)
+      → ys ≡ lower (nodes t) (λ i j. entry xs i j +ℤ addsA x i j)
+  a-gives {r = r} s g =
+      g ∙ walk-gives r squareA s
+      ∙ added-A (nodes t) x xs (part-corners t (k .sound .deck) row (k .inside)) (part-distinct t (k .sound .deck) (k .sound .passed) row (k .inside)) (part-sound t row) (k .long)
+
+  pub p-gives : {b : ℕ} {r : List (List ℤ)} {ys : List ℤ} → Holds (length (partFor t (rowAt t row) .corners)) b (squareP (partFor t (rowAt t row))) r → ys ≡ addSquare (c .count) xs (numbers (c .nodes)) (at r)
+      → ys ≡ lower (nodes t) (λ i j. entry xs i j +ℤ addsP x i j)
+  p-gives {r = r} s g =
+      g ∙ walk-gives r squareP s
+      ∙ added-P (nodes t) x xs (part-corners t (k .sound .deck) row (k .inside)) (part-distinct t (k .sound .deck) (k .sound .passed) row (k .inside)) (part-sound t row) (k .long)
 
 -- ---- the walk over the table: the slice is the sum over the first rows
 

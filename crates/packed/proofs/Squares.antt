@@ -7,9 +7,8 @@ use lib.IntN.{ℤ, pos, natAbs, _+ℤ_, +ℤ-idr}
 use lib.ListN.{length, getD, take}
 use lib.Seq.{getD-take}
 use Rattle.whole.specs.Packed.{tri, matrix, entry, lower, Bounded}
-use Rattle.whole.specs.Squares.{at, squareOf, Small}
+use Rattle.whole.specs.Squares.{at, Holds}
 use Rattle.whole.proofs.Packed.{lower-ext, lower-eta, add}
-use Rattle.whole.proofs.Squares.{small-square, square-at}
 use Rattle.laws.proofs.Spans.{Inside, inside-each}
 use Rattle.laws.proofs.Places.{cornerRow, addRow, addSquare}
 use Rattle.triangle.specs.Forms.{numbers}
@@ -38,14 +37,14 @@ square-ext (suc a) xs ns ms q r e f =
 
 -- ---- the corners ns as code has them, and f's square
 
-module _ (c : Corners) (full : Full c) (ns : List ℕ) (e : cornersOf c ≡ ns) (q : List (List ℤ)) (f : ℕ → ℕ → ℤ) (s : q ≡ squareOf 3 f) where
+module _ (c : Corners) (full : Full c) (ns : List ℕ) (e : cornersOf c ≡ ns) (q : List (List ℤ)) {b : ℕ} (f : ℕ → ℕ → ℤ) (s : Holds (length ns) b f q) where
   count-is : c .count ≡ length ns
   count-is = sym (full .full) ∙ ap length e
 
   corner-at : (a : ℕ) → a < c .count → getD (numbers (c .nodes)) a 0 ≡ getD ns a 0
   corner-at a l = sym (getD-take (c .count) (numbers (c .nodes)) a 0 l) ∙ ap (λ (z : List ℕ). getD z a 0) e
 
-  pub takes : (m : ℕ) (xs : List ℤ) → m ≤ 96 → length xs ≡ matrix m → Bounded (2 ^ 52) xs → Inside m ns → ((i j : ℕ) → i < 3 → j < 3 → natAbs (f i j) ≤ 2 ^ 52) → Takes (c .count) xs (numbers (c .nodes)) q
+  pub takes : (m : ℕ) (xs : List ℤ) → m ≤ 96 → length xs ≡ matrix m → Bounded (2 ^ 58) xs → Inside m ns → b ≤ 2 ^ 58 → Takes (c .count) xs (numbers (c .nodes)) q
   takes m xs few long small inside size = record {
     m = m;
     few = few;
@@ -53,13 +52,13 @@ module _ (c : Corners) (full : Full c) (ns : List ℕ) (e : cornersOf c ≡ ns) 
     most = full .few;
     corners = λ k l. rw (corner-at k l) (inside-each m ns inside k (omega (arith, count-is)));
     small = small;
-    square = subst (Small (2 ^ 52)) (sym s) (small-square 3 (2 ^ 52) f size);
+    square = record { each = λ i j. omega (arith, s .small .each i j) };
   }
 
   pub gives : (xs : List ℤ) → addSquare (c .count) xs (numbers (c .nodes)) (at q) ≡ addSquare (length ns) xs ns f
   gives xs =
       square-ext (c .count) xs (numbers (c .nodes)) ns (at q) f corner-at
-      (λ a b l k. ap (λ (z : List (List ℤ)). at z a b) s ∙ square-at 3 f a b (omega (arith, full .few)) (omega (arith, full .few)))
+      (λ a b l k. s .each a b (omega (arith, count-is)) (omega (arith, count-is)))
       ∙ ap (λ (n : ℕ). addSquare n xs ns f) count-is
 
 -- a slice to which nothing is added

@@ -2,25 +2,24 @@
 use mathlib.Core.Path.{_≡_, sym, ap, subst, _∙_}
 use mathlib.Core.Bool.{Bool, true, false, not}
 use mathlib.Core.List.{List}
-use Prim.Native.Nat.{ℕ, _≤_, _<_}
+use Prim.Native.Nat.{ℕ, _^_, _≤_, _<_}
 use borrow.Author.Tests.{not-true, not-false}
 use lib.IntN.{ℤ, pos, _+ℤ_}
 use lib.ListN.{length}
 use Rattle.whole.specs.Packed.{entry, lower}
-use Rattle.whole.specs.Squares.{at, squareOf}
+use Rattle.whole.specs.Squares.{at, Holds}
 use Rattle.paper.specs.Kinds.{kindOf}
 use Rattle.paper.specs.Cards.{rowAt, letter, field, nodes}
-use Rattle.paper.specs.Corners.{mass}
-use Rattle.paper.specs.Parts.{partOf, partFor, partAt}
+use Rattle.paper.specs.Parts.{Part, partOf, partFor, partAt}
 use Rattle.paper.specs.Matrices.{addsP, addsA}
-use Rattle.laws.proofs.Places.{addSquare, squareA}
+use Rattle.laws.proofs.Places.{addSquare, squareP, squareA}
 use Rattle.triangle.specs.Forms.{numbers}
 use Rattle.part.specs.Forms.{cornersOf}
 use Rattle.part.specs.Asks.{Card, Solid, Full}
 use Rattle.part.specs.declared.Corners.{Corners}
 use Rattle.packed.specs.Asks.{Takes, Walked}
 use Rattle.packed.proofs.Squares.{unchanged}
-use Rattle.packed.proofs.Assembling.{idle-row, stirring, solid-row, a-takes, a-gives, p-takes, p-gives}
+use Rattle.packed.proofs.Assembling.{idle-row, stirring, solid-row, walk-takes, a-gives, p-gives}
 
 module _ (t : List ℕ) (row : ℕ) {l : ℕ} (el : l ≡ field t row 0) {b : Bool} (eb : (s c : List ℕ) → b ≡ partOf s c (kindOf l) .stirs) where
   stirs-is : b ≡ partAt t row .stirs
@@ -48,19 +47,20 @@ module _ (t : List ℕ) (row : ℕ) {l : ℕ} (el : l ≡ field t row 0) {b : Bo
     pub turn-solid : Card t card × Solid t card
     turn-solid = (turn-card, subst (Solid t) (sym ec) (solid-row t row (k .sound) (k .inside)))
 
-    module _ (c : Corners) (full : Full c) (e : cornersOf c ≡ partFor t card .corners) (r : List (List ℤ)) where
+    module _ (c : Corners) (full : Full c) (e : cornersOf c ≡ partFor t card .corners) where
       at-row : cornersOf c ≡ partFor t (rowAt t row) .corners
       at-row = e ∙ ap (λ (z : List ℕ). partFor t z .corners) ec
 
-      pub turn-a-takes : r ≡ squareOf 3 (squareA (partFor t card)) → Takes (c .count) xs (numbers (c .nodes)) r
-      turn-a-takes s = a-takes t row xs k moves c full at-row r (s ∙ ap (λ (z : List ℕ). squareOf 3 (squareA (partFor t z))) ec)
+      in-row : {b : ℕ} {r : List (List ℤ)} (f : Part → ℕ → ℕ → ℤ) → Holds (length (partFor t card .corners)) b (f (partFor t card)) r → Holds (length (partFor t (rowAt t row) .corners)) b (f (partFor t (rowAt t row))) r
+      in-row {b} {r} f s = subst (λ (z : List ℕ). Holds (length (partFor t z .corners)) b (f (partFor t z)) r) ec s
 
-      pub turn-a-gives : {ys : List ℤ} → r ≡ squareOf 3 (squareA (partFor t card)) → ys ≡ addSquare (c .count) xs (numbers (c .nodes)) (at r) → ys ≡ lower (nodes t) (λ i j. entry xs i j +ℤ addsA (partAt t row) i j)
-      turn-a-gives s g = a-gives t row xs k moves c full at-row r (s ∙ ap (λ (z : List ℕ). squareOf 3 (squareA (partFor t z))) ec) g
+      pub turn-takes : {b : ℕ} {r : List (List ℤ)} (f : Part → ℕ → ℕ → ℤ) → Holds (length (partFor t card .corners)) b (f (partFor t card)) r → b ≤ 2 ^ 58 → Takes (c .count) xs (numbers (c .nodes)) r
+      turn-takes {r = r} f s l = walk-takes t row xs k moves c full at-row r f (in-row f s) l
 
-      pub turn-p-takes : {w : ℕ} → w ≡ partFor t card .capacity → r ≡ squareOf 3 (mass w) → Takes (c .count) xs (numbers (c .nodes)) r
-      turn-p-takes z s = p-takes t row xs k moves c full at-row r (z ∙ ap (λ (y : List ℕ). partFor t y .capacity) ec) s
+      pub turn-a-gives : {b : ℕ} {r : List (List ℤ)} {ys : List ℤ} → Holds (length (partFor t card .corners)) b (squareA (partFor t card)) r → ys ≡ addSquare (c .count) xs (numbers (c .nodes)) (at r)
+          → ys ≡ lower (nodes t) (λ i j. entry xs i j +ℤ addsA (partAt t row) i j)
+      turn-a-gives s g = a-gives t row xs k moves c full at-row (in-row squareA s) g
 
-      pub turn-p-gives : {ys : List ℤ} {w : ℕ} → w ≡ partFor t card .capacity → r ≡ squareOf 3 (mass w) → ys ≡ addSquare (c .count) xs (numbers (c .nodes)) (at r)
+      pub turn-p-gives : {b : ℕ} {r : List (List ℤ)} {ys : List ℤ} → Holds (length (partFor t card .corners)) b (squareP (partFor t card)) r → ys ≡ addSquare (c .count) xs (numbers (c .nodes)) (at r)
           → ys ≡ lower (nodes t) (λ i j. entry xs i j +ℤ addsP (partAt t row) i j)
-      turn-p-gives z s g = p-gives t row xs k moves c full at-row r (z ∙ ap (λ (y : List ℕ). partFor t y .capacity) ec) s g
+      turn-p-gives s g = p-gives t row xs k moves c full at-row (in-row squareP s) g

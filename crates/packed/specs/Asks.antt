@@ -16,27 +16,27 @@ pub record AddsAt (xs : List ℤ) (a b : ℕ) : Type 0 where
   pub inA : In 1 96 a
   pub inB : In 1 96 b
   pub inside : place (a - 1) (b - 1) < length xs
-  pub small : Bounded (2 ^ 56) xs
+  pub small : Bounded (2 ^ 62) xs
 
 -- a slice of m rows with the corners 0, .., a among them, for row a of a square
 pub record AddsRow (xs : List ℤ) (ns : List ℕ) (q : List (List ℤ)) (a : ℕ) : Type 0 where
   pub m : ℕ
   pub few : m ≤ 96
   pub long : length xs ≡ matrix m
-  pub last : a ≤ 2
+  pub last : a ≤ 3
   pub corners : (k : ℕ) → k ≤ a → In 1 m (getD ns k 0)
-  pub small : Bounded (8 * 2 ^ 52) xs
-  pub square : Small (2 ^ 52) q
+  pub small : Bounded (8 * 2 ^ 58) xs
+  pub square : Small (2 ^ 58) q
 
 -- a slice of m rows with n corners among them
 pub record Takes (n : ℕ) (xs : List ℤ) (ns : List ℕ) (q : List (List ℤ)) : Type 0 where
   pub m : ℕ
   pub few : m ≤ 96
   pub long : length xs ≡ matrix m
-  pub most : n ≤ 3
+  pub most : n ≤ 4
   pub corners : (k : ℕ) → k < n → In 1 m (getD ns k 0)
-  pub small : Bounded (2 ^ 52) xs
-  pub square : Small (2 ^ 52) q
+  pub small : Bounded (2 ^ 58) xs
+  pub square : Small (2 ^ 58) q
 
 -- a judged deck whose elements pass 5 and 6
 pub record Sound (t : List ℕ) : Type 0 where
@@ -48,7 +48,7 @@ pub record Walked (t : List ℕ) (row : ℕ) (xs : List ℤ) : Type 0 where
   pub sound : Sound t
   pub inside : row < rows t
   pub long : length xs ≡ matrix (nodes t)
-  pub small : Bounded (2 ^ 52) xs
+  pub small : Bounded (2 ^ 58) xs
 
 -- a slice of n rows, and a node among them
 pub record Clears (xs : List ℤ) (n node : ℕ) : Type 0 where

@@ -35,7 +35,7 @@ fn place(i: usize, j: usize) -> usize
 // ---- a square added
 
 fn add_at(xs: &mut [i64], a: Node, b: Node, v: i64)
-    requires { ⌜ AddsAt (now xs) (a .0) (b .0) × (natAbs v ≤ 2 ^ 52) ⌝ }
+    requires { ⌜ AddsAt (now xs) (a .0) (b .0) × (natAbs v ≤ 2 ^ 58) ⌝ }
     ensures { λ _. ⌜ now (xs .exit) ≡ add (now (xs .entry)) (a .0 - 1) (b .0 - 1) v ⌝ }
 {
     let k = place(element::node_row(a) - 1, element::node_row(b) - 1);
@@ -43,7 +43,7 @@ fn add_at(xs: &mut [i64], a: Node, b: Node, v: i64)
 }
 
 // Row a of a square, up to the diagonal.
-fn add_row(xs: &mut [i64], c: [Node; 3], q: [[i64; 3]; 3], a: usize)
+fn add_row(xs: &mut [i64], c: [Node; 4], q: [[i64; 4]; 4], a: usize)
     requires { ⌜ AddsRow (now xs) (numbers c) q a ⌝ }
     ensures { λ _. ⌜ now (xs .exit) ≡ addRow (suc a) (now (xs .entry)) (numbers c) (at q) a ⌝ }
 {
@@ -55,7 +55,7 @@ fn add_row(xs: &mut [i64], c: [Node; 3], q: [[i64; 3]; 3], a: usize)
 }
 
 // Over any count of corners.
-pub fn add_square(xs: &mut [i64], c: Corners, q: [[i64; 3]; 3])
+pub fn add_square(xs: &mut [i64], c: Corners, q: [[i64; 4]; 4])
     requires { ⌜ Takes (c .count) (now xs) (numbers (c .nodes)) q ⌝ }
     ensures { λ _. ⌜ now (xs .exit) ≡ addSquare (c .count) (now (xs .entry)) (numbers (c .nodes)) (at q) ⌝ }
 {
@@ -94,7 +94,7 @@ fn add_card(table: &[u32], row: usize, p: &mut [i64], a: &mut [i64])
     }
     let card = element::card_at(table, row);
     let c = part::corners_of(table, card);
-    add_square(p, c, triangle::mass(part::stored(table, card)));
+    add_square(p, c, part::square_p(table, card));
     add_square(a, c, part::square_a(table, card));
 }
 

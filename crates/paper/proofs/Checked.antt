@@ -11,12 +11,13 @@ use Rattle.whole.specs.Packed.{tri, place, lower}
 use Rattle.whole.specs.Largest.{climb}
 use Rattle.paper.specs.Refusals.{toldStep, packed, numberOf, placeOf}
 use Rattle.paper.specs.Kinds.{about, kindOf, letterOf}
-use Rattle.paper.specs.Cards.{before, columns, used, zeros, inRange, agree, ranked, field, nodes, materials, elements, put}
-use Rattle.paper.specs.Judge.{stands, clean, rises, ordered, full, nameAt, formed, ranged, judgeOne, judgeFrom, trailer, judgeRows, judged, answers, newJudged}
+use Rattle.paper.specs.Cards.{before, columns, used, zeros, inRange, agree, ranked, field, rows, nodes, materials, elements, put}
+use Rattle.paper.specs.Judge.{stands, clean, rises, ordered, full, nameAt, formed, ranged, judgeOne, asks, judgeCard, judgeFrom, trailer, judgeRows, judged, answers, newJudged}
 use Rattle.paper.specs.Corners.{square, mass, spread, share, shapeOf, area}
 use Rattle.paper.specs.Triangle.{b, c, S, pair, u, faceFilm}
+use Rattle.paper.specs.Tetrahedron.{spaceOf}
 use Rattle.paper.specs.Edge.{length², reaches, edgeFilm}
-use Rattle.paper.specs.Elements.{bodyOf, elementOf, fair, formJudged, elementJudged, elementAt}
+use Rattle.paper.specs.Elements.{bodyOf, flatOf, elementOf, fair, formJudged, elementJudged, elementAt}
 use Rattle.paper.specs.Parts.{heatShare, partOf, least, partAt}
 use Rattle.paper.specs.Matrices.{addsP, addsA, addsLoad, P, A, loadOf, fixed, held, cleared}
 use Rattle.paper.specs.Factor.{w, l, rowFrom, rowsFrom}
@@ -27,7 +28,7 @@ use Rattle.paper.specs.Step.{boardOf, rightSide, residual, residuals, ro
 use Rattle.paper.specs.Calls.{closed, leaves, buildCall, replaceCall, stepCall, Lent, lent, Exit}
 use Rattle.paper.specs.declared.Answer.{Answer}
 use Rattle.paper.specs.declared.Answer.the-variants.{Done, Refused}
-use Rattle.paper.specs.declared.Kind.the-variants.{D, N, M, E, H, G, Z}
+use Rattle.paper.specs.declared.Kind.the-variants.{D, N, M, E, «V», H, G, Z}
 use Rattle.paper.proofs.Cases.{same, eqZ, figures-told}
 
 -- a deck of one element over nodes 1, 2, 3, k the same both ways: step, three nodes, k, capacity, the E card, the loads
@@ -44,6 +45,25 @@ element a b c t = letterOf E ∷ a ∷ b ∷ c ∷ 1 ∷ t ∷ []
 
 abbrev pub right : List ℕ
 right = node 0 0 ++ node 100 0 ++ node 0 100
+
+-- of a solid deck: a node, a material, a tetrahedron of material m; four nodes, the corner of a cube of side 100
+abbrev pub point : ℕ → ℕ → ℕ → List ℕ
+point x y z = letterOf N ∷ x ∷ y ∷ z ∷ 0 ∷ 0 ∷ []
+
+abbrev pub material : ℕ → ℕ → ℕ → ℕ → List ℕ
+material kx ky kz capacity = letterOf M ∷ kx ∷ ky ∷ capacity ∷ kz ∷ 0 ∷ []
+
+abbrev pub tetra : ℕ → ℕ → ℕ → ℕ → ℕ → List ℕ
+tetra a b c d m = letterOf «V» ∷ a ∷ b ∷ c ∷ d ∷ m ∷ []
+
+abbrev pub cube : List ℕ
+cube = point 0 0 0 ++ point 100 0 0 ++ point 0 100 0 ++ point 0 0 100
+
+-- a deck of these nodes, materials, elements and loads: step, and the four
+abbrev pub counted : ℕ → List ℕ → List ℕ → List ℕ → List ℕ → List ℕ
+counted ms ns ks es loads =
+    let cards = (letterOf D ∷ ms ∷ 19660800 ∷ 1 ∷ 0 ∷ 0 ∷ []) ++ ns ++ ks ++ es ++ loads in
+    cards ++ (letterOf Z ∷ 42 * rows cards ∷ rows ns ∷ rows ks ∷ rows es ∷ rows loads ∷ [])
 
 abbrev pub base : List ℕ
 base = deck 1000 right 1000 2400 (element 1 2 3 1000) [] 0
@@ -99,7 +119,7 @@ factor s = s .factor
 
 -- g of the largest film and thickness from corner to corner of the grid, and between two nodes at one point
 abbrev far : ℕ → ℤ
-far n = pos (edgeFilm 100000 4000 (shapeOf (deck 1000 (node 0 0 ++ node 4095 4095 ++ node 0 0) 1 1 (element 1 2 3 1) [] 0) (1 ∷ n ∷ [])))
+far n = pos (edgeFilm 100000 4000 (spaceOf (deck 1000 (node 0 0 ++ node 4095 4095 ++ node 0 0) 1 1 (element 1 2 3 1) [] 0) (1 ∷ n ∷ [])))
 
 pub record Case : Type 0 where
   pub name : ℕ
@@ -145,7 +165,7 @@ cases =
     ∷ []
 
 run : same (same eqZ) (map (λ (k : Case). k .got) cases) (map (λ (k : Case). k .want) cases) ≡ true
-unfolding cases same eqZ nearestN nearest sum sumN any firstFrom table tri place lower toldStep packed about kindOf before columns used zeros inRange agree ranked field nodes materials elements put stands clean rises ordered full nameAt formed ranged judgeOne judgeFrom trailer judgeRows judged answers newJudged square mass spread share shapeOf area b c S pair u faceFilm climb length² reaches edgeFilm bodyOf elementOf fair formJudged elementJudged heatShare partOf least addsP addsA addsLoad P A loadOf fixed held cleared w l rowFrom rowsFrom elementsFrom build formOf moved redone replaced rowSize heavy badRow noFactor foreign enough opened lentJudged boardOf rightSide residual residuals rowBound yAt forwardFrom xAt backFrom warmed addFrom correct unsettled attempts stepped offScale closed leaves buildCall replaceCall stepCall
+unfolding cases same eqZ nearestN nearest sum sumN any firstFrom table tri place lower toldStep packed about kindOf before columns used zeros inRange agree ranked field nodes materials elements put stands clean rises ordered full nameAt formed ranged judgeOne asks judgeCard judgeFrom trailer judgeRows judged answers newJudged square mass spread share shapeOf spaceOf area b c S pair u faceFilm climb length² reaches edgeFilm bodyOf flatOf elementOf fair formJudged elementJudged heatShare partOf least addsP addsA addsLoad P A loadOf fixed held cleared w l rowFrom rowsFrom elementsFrom build formOf moved redone replaced rowSize heavy badRow noFactor foreign enough opened lentJudged boardOf rightSide residual residuals rowBound yAt forwardFrom xAt backFrom warmed addFrom correct unsettled attempts stepped offScale closed leaves buildCall replaceCall stepCall
 run = refl
 
 pub all-checked : map (λ (k : Case). k .got) cases ≡ map (λ (k : Case). k .want) cases

@@ -10,17 +10,17 @@ use Rattle.whole.specs.Sums.{sum, sumN, any, firstFrom, table}
 use Rattle.whole.specs.Packed.{tri, place, lower}
 use Rattle.paper.specs.Kinds.{about, kindOf}
 use Rattle.paper.specs.Cards.{before, columns, used, zeros, inRange, ranked, field, nodes, materials, elements}
-use Rattle.paper.specs.Judge.{stands, clean, rises, ordered, full, formed, ranged, judgeOne, judgeCard}
+use Rattle.paper.specs.Judge.{stands, clean, rises, ordered, full, formed, ranged, judgeOne, asks, judgeCard, judgeFrom, trailer, judgeRows, judged}
 use Rattle.paper.specs.Corners.{square, mass, spread, share, shapeOf, area}
 use Rattle.paper.specs.Triangle.{b, c, S, pair, u}
-use Rattle.paper.specs.Elements.{bodyOf, elementOf, fair, formJudged, elementJudged, elementAt}
+use Rattle.paper.specs.Elements.{bodyOf, flatOf, elementOf, fair, formJudged, elementJudged, elementAt}
 use Rattle.paper.specs.Factor.{w, l, rowFrom, rowsFrom}
 use Rattle.paper.specs.Lent.{rowSize, heavy, badRow, noFactor}
 use Rattle.paper.specs.Refusals.{Outcome, refused, done, numberOf}
 use Rattle.paper.specs.declared.Answer.{Answer}
 use Rattle.paper.specs.declared.Answer.the-variants.{Done, Refused}
 use Rattle.paper.proofs.Cases.{same, numbers-told}
-use Rattle.paper.proofs.Checked.{deck, node, element, right, rim}
+use Rattle.paper.proofs.Checked.{deck, node, element, right, rim, point, material, tetra, counted}
 
 -- a refusal's number, 0 for none
 abbrev number : Answer → ℕ
@@ -71,13 +71,22 @@ abbrev rimAt : ℕ → List ℕ
 rimAt i = cond (ltb i 6) (element 1 2 3 1) (rim 1 2 1 1)
 
 abbrev crowd : ℕ → Answer
-crowd i = judgeCard (record { nodes = 3; materials = 1; elements = 1; loads = 200 }) rimAt i 6 0
+crowd i = judgeCard (record { nodes = 3; materials = 1; elements = 1; loads = 200; solid = false }) rimAt i 6 0
+
+-- what the judge says of a solid deck, of node 4 and of kz
+abbrev reach : ℕ → ℕ → ℕ → ℕ → ℕ
+reach x y z kz = number (judged (counted 1000 (point 0 0 0 ++ point 100 0 0 ++ point 0 100 0 ++ point x y z) (material 1 1 kz 1) (tetra 1 2 3 4 1) []))
 
 unfoldable pub edges : List Edge
 edges =
     edge (ends (rowsFrom 1 0 (pos 16 ∷ []))) (ends (rowsFrom 1 0 (pos 15 ∷ []))) 7
     ∷ edge (ends (rowsFrom 1 0 (pos (2 ^ 38) ∷ []))) (ends (rowsFrom 1 0 (pos (2 ^ 38 + 1) ∷ []))) 8
     ∷ edge (ends (rowsFrom 2 0 (pos 16 ∷ pos 256 ∷ pos 5000 ∷ []))) (ends (rowsFrom 2 0 (pos 16 ∷ pos 257 ∷ pos 5000 ∷ []))) 8
+    ∷ edge (reach 1023 0 1 1) (reach 1024 0 1 1) 4
+    ∷ edge (reach 0 1023 1 1) (reach 0 1024 1 1) 4
+    ∷ edge (reach 0 0 1023 1) (reach 0 0 1024 1) 4
+    ∷ edge (reach 0 0 1 500000) (reach 0 0 1 500001) 4
+    ∷ edge (reach 0 0 1 1) (reach 0 0 1 0) 4
     ∷ edge (number (crowd 165)) (number (crowd 166)) 3
     ∷ edge (number (elementJudged (thin 1) 1)) (number (elementJudged (thin 0) 1)) 5
     ∷ edge (number (elementJudged (turned 3) 1)) (number (elementJudged (turned 1) 1)) 5
@@ -90,7 +99,7 @@ edges =
     ∷ []
 
 run : same (same eqb) (map (λ (e : Edge). e .passes ∷ e .fails ∷ []) edges) (map (λ (e : Edge). 0 ∷ e .number ∷ []) edges) ≡ true
-unfolding edges same about kindOf before columns used zeros inRange ranked stands clean rises ordered full formed ranged judgeOne nearestN nearest sum sumN any firstFrom table tri place lower field nodes materials elements square mass spread share shapeOf area b c S pair u bodyOf elementOf fair formJudged elementJudged w l rowFrom rowsFrom rowSize heavy badRow noFactor
+unfolding edges same about kindOf before columns used zeros inRange ranked stands clean rises ordered full formed ranged judgeOne asks judgeCard judgeFrom trailer judgeRows judged nearestN nearest sum sumN any firstFrom table tri place lower field nodes materials elements square mass spread share shapeOf area b c S pair u bodyOf flatOf elementOf fair formJudged elementJudged w l rowFrom rowsFrom rowSize heavy badRow noFactor
 run = refl
 
 pub at-the-edges : map (λ (e : Edge). e .passes ∷ e .fails ∷ []) edges ≡ map (λ (e : Edge). 0 ∷ e .number ∷ []) edges
@@ -98,5 +107,5 @@ at-the-edges = numbers-told (map (λ (e : Edge). e .passes ∷ e .fails ∷ []) 
 
 -- the decks above that limit 6 tells apart have just these values
 pub limit-6 : map storedIn (stored 3200 ∷ stored 3198 ∷ []) ++ map betweenIn (tight 100000 40 ∷ tight 97561 41 ∷ []) ≡ 4000000 ∷ 4000001 ∷ 4000000 ∷ 4000001 ∷ []
-unfolding nearestN nearest sum sumN any firstFrom table tri place lower field nodes materials elements square mass spread share shapeOf area b c S pair u bodyOf elementOf fair formJudged elementJudged
+unfolding about kindOf nearestN nearest sum sumN any firstFrom table tri place lower field nodes materials elements square mass spread share shapeOf area b c S pair u bodyOf flatOf elementOf fair formJudged elementJudged
 limit-6 = refl

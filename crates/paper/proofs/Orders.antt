@@ -12,10 +12,10 @@ use Rattle.whole.specs.Packed.{tri, place, lower}
 use Rattle.paper.specs.Refusals.{told, toldStep, Told, answerOf}
 use Rattle.paper.specs.Kinds.{about, kindOf, letterOf}
 use Rattle.paper.specs.Cards.{before, columns, used, zeros, inRange, agree, ranked, field, nodes, materials, elements, put}
-use Rattle.paper.specs.Judge.{stands, clean, rises, ordered, full, nameAt, formed, ranged, judgeOne, judgeFrom, trailer, judgeRows, judged, answers, newJudged}
+use Rattle.paper.specs.Judge.{stands, clean, rises, ordered, full, nameAt, formed, ranged, judgeOne, asks, judgeCard, judgeFrom, trailer, judgeRows, judged, answers, newJudged}
 use Rattle.paper.specs.Corners.{square, mass, spread, share, shapeOf, area}
 use Rattle.paper.specs.Triangle.{b, c, S, pair, u, faceFilm}
-use Rattle.paper.specs.Elements.{bodyOf, elementOf, fair, formJudged, elementJudged}
+use Rattle.paper.specs.Elements.{bodyOf, flatOf, elementOf, fair, formJudged, elementJudged}
 use Rattle.paper.specs.Parts.{partOf, least}
 use Rattle.paper.specs.Matrices.{addsP, addsA, P, A, fixed, cleared}
 use Rattle.paper.specs.Factor.{w, l, rowFrom, rowsFrom}
@@ -26,9 +26,9 @@ use Rattle.paper.specs.Step.{offScale}
 use Rattle.paper.specs.Calls.{closed, leaves, buildCall, replaceCall, stepCall, Lent, lent}
 use Rattle.paper.specs.declared.Answer.{Answer}
 use Rattle.paper.specs.declared.Stepped.{Stepped}
-use Rattle.paper.specs.declared.Kind.the-variants.{D, N, M, H, Z}
+use Rattle.paper.specs.declared.Kind.the-variants.{D, N, M, H, F, Z}
 use Rattle.paper.proofs.Cases.{same, numbers-told}
-use Rattle.paper.proofs.Checked.{deck, node, element, right, rim, base, heated}
+use Rattle.paper.proofs.Checked.{deck, node, element, right, rim, base, heated, point, material, tetra, cube, counted}
 
 -- number and place, 0 and 0 for none
 abbrev shown : Told → List ℕ
@@ -73,7 +73,7 @@ heat e µW unused = letterOf H ∷ e ∷ µW ∷ unused ∷ 0 ∷ 0 ∷ []
 
 -- a deck whose first node has an x past its range
 abbrev wide : ℕ → List ℕ
-wide unused = (letterOf D ∷ 1000 ∷ 19660800 ∷ 1 ∷ 0 ∷ 0 ∷ []) ++ (letterOf N ∷ 4096 ∷ 0 ∷ unused ∷ 0 ∷ 0 ∷ []) ++ node 100 0 ++ node 0 100
+wide unused = (letterOf D ∷ 1000 ∷ 19660800 ∷ 1 ∷ 0 ∷ 0 ∷ []) ++ (letterOf N ∷ 4096 ∷ 0 ∷ 0 ∷ unused ∷ 0 ∷ []) ++ node 100 0 ++ node 0 100
     ++ (letterOf M ∷ 1 ∷ 1 ∷ 1 ∷ 0 ∷ 0 ∷ []) ++ element 1 2 3 1 ++ (letterOf Z ∷ 42 * 6 ∷ 3 ∷ 1 ∷ 1 ∷ 0 ∷ [])
 
 -- a deck whose loads are two edges
@@ -83,6 +83,21 @@ rims e e′ = deck 1000 right 1000 2400 (element 1 2 3 1000) (e ++ e′) 2
 -- one along nodes 1 and 2, and so on
 abbrev along : ℕ → ℕ → List ℕ
 along a b = rim a b 1 1
+
+-- a solid deck: nodes 1, 2 and 3 of one z, node 4 above them, these triangles, a tetrahedron over all four
+abbrev block : List ℕ → List ℕ → List ℕ
+block es loads = counted 1000 cube (material 1000 1000 1000 2400) (es ++ tetra 1 2 3 4 1) loads
+
+abbrev low : List ℕ
+low = element 1 2 3 1000
+
+-- F on an element
+abbrev film : ℕ → List ℕ
+film e = letterOf F ∷ e ∷ 1 ∷ 0 ∷ 0 ∷ 0 ∷ []
+
+-- a flat deck of the first node's z and of kz
+abbrev risen : ℕ → ℕ → List ℕ
+risen z kz = counted 1000 (point 0 0 z ++ node 100 0 ++ node 0 100) (material 1 1 kz 1) low []
 
 pub record Both : Type 0 where
   pub got : List ℕ
@@ -108,6 +123,23 @@ cases =
     -- an edge keeps both nodes
     ∷ both (says (newJudged (rims (along 1 2) (along 2 3)) 8 (along 1 3))) 13 8
     ∷ both (says (newJudged (rims (along 1 2) (along 2 3)) 8 (rim 2 3 100001 1))) 4 8
+    -- a solid deck: H on a V, F on an E and on a V
+    ∷ both (says (judged (block low (heat 2 3 0)))) 0 0
+    ∷ both (says (judged (block low (film 1)))) 0 0
+    ∷ both (builds (block low (film 2)) 0) 4 9
+    -- an E whose nodes differ in z, and one after a V
+    ∷ both (builds (block (element 1 2 4 1000) []) 0) 4 7
+    ∷ both (builds (block (element 1 4 2 1000) []) 0) 4 7
+    ∷ both (says (judged (counted 1000 right (material 1 1 0 1) (tetra 1 2 3 3 1 ++ low) []))) 3 7
+    -- a flat deck: z and kz, in turn
+    ∷ both (builds (risen 1 1) 0) 4 2
+    ∷ both (builds (risen 0 1) 0) 4 5
+    -- a V keeps its letter and its four nodes; no N is replaced, of whatever z
+    ∷ both (replaces (block [] []) 0 7 (tetra 1 2 3 3 2)) 13 7
+    ∷ both (replaces (block [] []) 0 7 low) 13 7
+    ∷ both (replaces (block [] []) 0 7 (tetra 1 2 3 4 2)) 4 7
+    ∷ both (replaces (block [] []) 9 7 (tetra 1 2 3 4 1)) 9 0
+    ∷ both (says (newJudged (block [] []) 2 (point 0 0 1024))) 13 2
     -- elements in turn, after 9
     ∷ both (builds (two stiff flat) 6) 6 1
     ∷ both (builds (two flat stiff) 6) 5 1
@@ -130,7 +162,7 @@ cases =
     ∷ []
 
 run : same (same eqb) (map (λ (x : Both). x .got) cases) (map (λ (x : Both). x .want) cases) ≡ true
-unfolding cases same nearestN nearest sum sumN any firstFrom table tri place lower told toldStep about kindOf before columns used zeros inRange agree ranked field nodes materials elements put stands clean rises ordered full nameAt formed ranged judgeOne judgeFrom trailer judgeRows judged answers newJudged square mass spread share shapeOf area b c S pair u faceFilm bodyOf elementOf fair formJudged elementJudged partOf least addsP addsA P A fixed cleared w l rowFrom rowsFrom elementsFrom build formOf moved redone replaced rowSize heavy badRow noFactor foreign enough opened lentJudged offScale closed leaves buildCall replaceCall stepCall
+unfolding cases same nearestN nearest sum sumN any firstFrom table tri place lower told toldStep about kindOf before columns used zeros inRange agree ranked field nodes materials elements put stands clean rises ordered full nameAt formed ranged judgeOne asks judgeCard judgeFrom trailer judgeRows judged answers newJudged square mass spread share shapeOf area b c S pair u faceFilm bodyOf flatOf elementOf fair formJudged elementJudged partOf least addsP addsA P A fixed cleared w l rowFrom rowsFrom elementsFrom build formOf moved redone replaced rowSize heavy badRow noFactor foreign enough opened lentJudged offScale closed leaves buildCall replaceCall stepCall
 run = refl
 
 pub in-order : map (λ (x : Both). x .got) cases ≡ map (λ (x : Both). x .want) cases

@@ -1,20 +1,20 @@
 -- Cards and decks as bytes, by figures: what is read, what is written, what a refusal leaves. One theorem over one list.
 use mathlib.Core.Path.{_≡_, refl}
-use mathlib.Core.Bool.{true}
+use mathlib.Core.Bool.{true, false}
 use mathlib.Core.List.{List, [], _∷_, _++_, map}
-use Prim.Native.Nat.{ℕ}
+use Prim.Native.Nat.{ℕ, _+_, _*_}
 use lib.Dec.{eqb}
-use lib.ListN.{replicate}
+use lib.ListN.{take, drop, replicate}
 use Rattle.whole.specs.Sums.{sumN}
 use Rattle.paper.specs.Refusals.{told}
 use Rattle.paper.specs.Kinds.{about, kindOf, letterOf}
-use Rattle.paper.specs.Cards.{before, columns, used, zeros, inRange}
+use Rattle.paper.specs.Cards.{before, columns, used, mayBlank, zeros, inRange, field}
 use Rattle.paper.specs.Text.{digits, alone, number, blank, spaced, printed, fieldOf, noCard, fieldsFrom, cardOf, textField, textFrom, textOf}
-use Rattle.paper.specs.Judge.{stands, clean, rises, ordered, full, formed, ranged, judgeOne, judgeFrom, trailer, judgeRows, judged}
+use Rattle.paper.specs.Judge.{stands, clean, rises, ordered, full, formed, ranged, judgeOne, asks, judgeCard, judgeFrom, trailer, judgeRows, judged}
 use Rattle.paper.specs.Calls.{joined, writes, written, Written, writeCall, readsFrom, reads, readPart, readTable, Read, readCall}
 use Rattle.paper.specs.declared.Kind.the-variants.{T}
 use Rattle.paper.proofs.Cases.{same, same-told, numbers-told}
-use Rattle.paper.proofs.Checked.{base}
+use Rattle.paper.proofs.Checked.{base, material, tetra, cube, counted}
 
 -- a T card of a node's 8 columns, at 20 ticks
 abbrev card : List ℕ → List ℕ
@@ -43,6 +43,26 @@ bytes = writeCall base (replicate 294 7) .bytes
 abbrev read : ℕ → List (List ℕ)
 read room = let x = readCall bytes (replicate room 77) in (told (x .answer) .number ∷ []) ∷ x .part ∷ x .table ∷ []
 
+-- number and place of what bytes are read as, into no table (9 where the cards are right), with other columns in field k of the card in a row
+abbrev amended : List ℕ → ℕ → ℕ → List ℕ → List ℕ
+amended b row k columns =
+    let at = row * 42 + 1 + k * 8 in
+    let x = told (readCall (take at b ++ columns ++ drop (at + 8) b) [] .answer) in
+    x .number ∷ x .place ∷ []
+
+abbrev empty : List ℕ
+empty = replicate 8 32
+
+-- other columns for the first node's z and for the material's kz, in the bytes of a flat deck and of a solid one
+abbrev inFlat : List ℕ → List (List ℕ)
+inFlat b = map (amended b 1 2) (empty ∷ seven ∷ nought ∷ led ∷ []) ++ map (amended b 4 3) (seven ∷ nought ∷ led ∷ [])
+
+abbrev inSolid : List ℕ → List (List ℕ)
+inSolid b = map (amended b 1 2) (nought ∷ empty ∷ []) ++ map (amended b 5 3) (seven ∷ empty ∷ [])
+
+abbrev solid : List ℕ
+solid = writeCall (counted 1000 cube (material 1000 1000 1000 2400) (tetra 1 2 3 4 1) []) (replicate 336 7) .bytes
+
 pub record Line : Type 0 where
   pub got : List (List ℕ)
   pub want : List (List ℕ)
@@ -50,17 +70,21 @@ pub record Line : Type 0 where
 unfoldable pub lines : List Line
 lines =
     -- blanks, then a number with no leading zero
-    record { got = cardOf (card seven) ∷ cardOf (card led) ∷ cardOf (card nought) ∷ []; want = row 7 ∷ noCard ∷ row 0 ∷ [] }
+    record { got = cardOf false (card seven) ∷ cardOf false (card led) ∷ cardOf false (card nought) ∷ []; want = row 7 ∷ noCard ∷ row 0 ∷ [] }
     -- blanks before a number, and in a field that is not used
-    ∷ record { got = textOf (row 7) ∷ textOf (row 0) ∷ []; want = card seven ∷ card nought ∷ [] }
+    ∷ record { got = textOf false (row 7) ∷ textOf false (row 0) ∷ []; want = card seven ∷ card nought ∷ [] }
     -- with room for one too few a refusal leaves all as it was; with one to spare that one stays
     ∷ record { got = wrote 293 ∷ []; want = (9 ∷ replicate 293 7) ∷ [] }
     ∷ record { got = read 41; want = (9 ∷ []) ∷ [] ∷ replicate 41 77 ∷ [] }
     ∷ record { got = read 43; want = (0 ∷ []) ∷ bytes ∷ (base ++ (77 ∷ [])) ∷ [] }
+    -- in a flat deck both are blank: any number is 4, a 0 too, and what is neither is 3
+    ∷ record { got = inFlat bytes; want = (9 ∷ 0 ∷ []) ∷ (4 ∷ 2 ∷ []) ∷ (4 ∷ 2 ∷ []) ∷ (3 ∷ 2 ∷ []) ∷ (4 ∷ 5 ∷ []) ∷ (4 ∷ 5 ∷ []) ∷ (3 ∷ 5 ∷ []) ∷ [] }
+    -- in a solid deck both are numbers: a blank is 3
+    ∷ record { got = inSolid solid; want = (9 ∷ 0 ∷ []) ∷ (3 ∷ 2 ∷ []) ∷ (9 ∷ 0 ∷ []) ∷ (3 ∷ 6 ∷ []) ∷ [] }
     ∷ []
 
 run : same (same (same eqb)) (map (λ (x : Line). x .got) lines) (map (λ (x : Line). x .want) lines) ≡ true
-unfolding lines same sumN told about kindOf before columns used zeros inRange digits alone number blank spaced printed fieldOf fieldsFrom cardOf textField textFrom textOf stands clean rises ordered full formed ranged judgeOne judgeFrom trailer judgeRows judged joined writes written readsFrom reads readPart readTable
+unfolding lines same sumN told about kindOf before columns used mayBlank zeros inRange field digits alone number blank spaced printed fieldOf fieldsFrom cardOf textField textFrom textOf stands clean rises ordered full formed ranged judgeOne asks judgeCard judgeFrom trailer judgeRows judged joined writes written readsFrom reads readPart readTable
 run = refl
 
 pub as-text : map (λ (x : Line). x .got) lines ≡ map (λ (x : Line). x .want) lines

@@ -1,5 +1,5 @@
 -- What each public call answers and leaves, of any bytes, any table and any lent slices. Whatever is not named is only read.
-use mathlib.Core.Bool.{Bool, true, cond, _&&_, _||_}
+use mathlib.Core.Bool.{Bool, true, false, cond, _&&_, _||_}
 use mathlib.Core.List.{List, [], _++_}
 use Prim.Native.Nat.{ℕ, zero, suc, _+_, _-_, _*_}
 use lib.Dec.{ltb, leb, eqb}
@@ -34,7 +34,7 @@ joined piece zero i = []
 joined piece (suc n) i = piece i ++ joined piece n (suc i)
 
 abbrev pub textAt : List ℕ → ℕ → List ℕ
-textAt t i = textOf (rowAt t i)
+textAt t i = textOf (countsAt t .solid) (rowAt t i)
 
 -- the deck's own refusals, then 9 where the bytes are too few
 unfoldable pub writes : List ℕ → ℕ → Answer
@@ -56,25 +56,29 @@ writeCall t b = wrote (writes t (length b)) (written t b)
 -- ---- the reader: the last 42 bytes are Z, whose bytes back lead to D
 
 abbrev pub lastCard : List ℕ → List ℕ
-lastCard b = cardOf (take 42 (drop (length b - 42) b))
+lastCard b = cardOf false (take 42 (drop (length b - 42) b))
 
 abbrev pub startOf : List ℕ → List ℕ → ℕ
 startOf b z = length b - 42 - getD z 1 0
 
-abbrev pub cardAt : List ℕ → ℕ → ℕ → List ℕ
-cardAt b start i = cardOf (take 42 (drop (start + i * 42) b))
+abbrev pub cardAt : Bool → List ℕ → ℕ → ℕ → List ℕ
+cardAt solid b start i = cardOf solid (take 42 (drop (start + i * 42) b))
+
+-- what its Z counts, by the letters of the part from start on
+abbrev pub countsIn : List ℕ → Counts
+countsIn b = let z = lastCard b in countsOf z (λ i. getD b (startOf b z + i * 42) 0)
 
 -- a part whose Z, the last card, counts z, with n cards before it from start on
 unfoldable pub readsFrom : List ℕ → ℕ → Counts → ℕ → ℕ → Answer
 readsFrom b room z start n =
-    andThen (judgeFrom z (cardAt b start) n 0 0 0) (cond (ltb room ((n + 1) * 6)) (Refused Short) Done)
+    andThen (judgeFrom z (cardAt (z .solid) b start) n 0 0 0) (cond (ltb room ((n + 1) * 6)) (Refused Short) Done)
 
 unfoldable pub reads : List ℕ → ℕ → Answer
 reads b room =
     let z = lastCard b in
     cond (ltb (length b) 42 || ltb 65536 (length b)) (Refused Length)
     (cond (trailer z && leb (getD z 1 0) (length b - 42))
-    (readsFrom b room (countsOf z) (startOf b z) (cards (countsOf z)))
+    (readsFrom b room (countsIn b) (startOf b z) (cards (countsIn b)))
     (Refused Trailer))
 
 unfoldable pub readPart : List ℕ → ℕ → List ℕ
@@ -83,8 +87,8 @@ readPart b room = whenDone (reads b room) (drop (startOf b (lastCard b)) b) []
 unfoldable pub readTable : List ℕ → List ℕ → List ℕ
 readTable b t =
     let z = lastCard b in
-    let n = cards (countsOf z) + 1 in
-    whenDone (reads b (length t)) (joined (cardAt b (startOf b z)) n 0 ++ drop (n * 6) t) t
+    let n = cards (countsIn b) + 1 in
+    whenDone (reads b (length t)) (joined (cardAt (countsIn b .solid) b (startOf b z)) n 0 ++ drop (n * 6) t) t
 
 pub record Read : Type 0 where
   pub answer : Answer

@@ -1,6 +1,6 @@
 -- "The deck": a card's six numbers (the letter's code, five fields), the columns of each kind, and a table of cards.
 -- Rows of a table from 0: D is row 0, so node k's row is k; the last row is Z.
-use mathlib.Core.Bool.{Bool, true, cond, _&&_}
+use mathlib.Core.Bool.{Bool, true, false, cond, _&&_}
 use mathlib.Core.List.{List, [], _∷_, _++_}
 use Prim.Native.Nat.{ℕ, zero, suc, _+_, _-_, _*_, _/_}
 use lib.Dec.{leb, eqb}
@@ -10,7 +10,7 @@ use Rattle.paper.specs.Ticks.{top}
 use Rattle.paper.specs.Kinds.{about, letterOf, kindAt, edge, ends}
 use Rattle.paper.specs.declared.About.{About}
 use Rattle.paper.specs.declared.Kind.{Kind}
-use Rattle.paper.specs.declared.Kind.the-variants.{D, N, M, E, H, F, G, T, Z, Other}
+use Rattle.paper.specs.declared.Kind.the-variants.{D, N, M, E, «V», H, F, G, T, Z, Other}
 use Rattle.paper.specs.declared.Counts.{Counts}
 
 -- the cards of each section, those before a section, and those before Z
@@ -27,15 +27,20 @@ cards z = before z ends
 abbrev pub back : Counts → ℕ
 back z = 42 * cards z
 
--- ---- columns: the values that a field may have
+-- ---- columns: the values that a field may have, and whether it may be blank, which is 0
 
 pub record Column : Type 0 where
   pub least : ℕ
   pub most : ℕ
+  pub blank : Bool
 
 infixl 20 _⋯_
 abbrev pub _⋯_ : ℕ → ℕ → Column
-_⋯_ a b = record { least = a; most = b }
+_⋯_ a b = record { least = a; most = b; blank = false }
+
+-- blank, or a number up to b
+abbrev pub blankOr : ℕ → Column
+blankOr b = record { least = 0; most = b; blank = true }
 
 abbrev pub within : Column → ℕ → Bool
 within c v = leb (c .least) v && leb v (c .most)
@@ -43,9 +48,10 @@ within c v = leb (c .least) v && leb v (c .most)
 -- the used fields of each kind
 unfoldable pub columns : Counts → Kind → List Column
 columns z D = (1 ⋯ 60000) ∷ (0 ⋯ top) ∷ (1 ⋯ 100000) ∷ []
-columns z N = (0 ⋯ 4095) ∷ (0 ⋯ 4095) ∷ []
-columns z M = (1 ⋯ 500000) ∷ (1 ⋯ 500000) ∷ (1 ⋯ 5000) ∷ []
+columns z N = let reach : Column = cond (z .solid) (0 ⋯ 1023) (0 ⋯ 4095) in reach ∷ reach ∷ cond (z .solid) reach (blankOr 0) ∷ []
+columns z M = (1 ⋯ 500000) ∷ (1 ⋯ 500000) ∷ (1 ⋯ 5000) ∷ cond (z .solid) (1 ⋯ 500000) (blankOr 0) ∷ []
 columns z E = (1 ⋯ z .nodes) ∷ (1 ⋯ z .nodes) ∷ (1 ⋯ z .nodes) ∷ (1 ⋯ z .materials) ∷ (1 ⋯ 4000) ∷ []
+columns z «V» = (1 ⋯ z .nodes) ∷ (1 ⋯ z .nodes) ∷ (1 ⋯ z .nodes) ∷ (1 ⋯ z .nodes) ∷ (1 ⋯ z .materials) ∷ []
 columns z H = (1 ⋯ z .elements) ∷ (1 ⋯ 5000000) ∷ []
 columns z F = (1 ⋯ z .elements) ∷ (1 ⋯ 100000) ∷ (0 ⋯ top) ∷ []
 columns z G = (1 ⋯ z .nodes) ∷ (1 ⋯ z .nodes) ∷ (1 ⋯ 100000) ∷ (0 ⋯ top) ∷ (1 ⋯ 4000) ∷ []
@@ -61,9 +67,20 @@ columnsOf z card = columns z (kindAt card)
 abbrev pub mostRows : ℕ
 mostRows = 842
 
--- the fields that a kind uses
+-- no cards, of a solid deck or a flat one: the counts do not tell which fields a kind uses, nor which may be blank
+abbrev pub none : Bool → Counts
+none solid = record { nodes = 0; materials = 0; elements = 0; loads = 0; solid = solid }
+
+-- the fields that a kind uses, and whether field k may be blank
 unfoldable pub used : Kind → ℕ
-used kind = length (columns (record { nodes = 0; materials = 0; elements = 0; loads = 0 }) kind)
+used kind = length (columns (none false) kind)
+
+unfoldable pub mayBlank : Bool → Kind → ℕ → Bool
+mayBlank solid kind k = getD (columns (none solid) kind) k (0 ⋯ 0) .blank
+
+-- one more than 8 columns hold, so no column has it within
+abbrev pub outside : ℕ
+outside = 100000000
 
 -- of a card's numbers from place k on, the next n are 0
 unfoldable pub zeros : List ℕ → ℕ → ℕ → Bool
@@ -90,9 +107,16 @@ ranked a card = cond (edge a) (128 * getD card 1 0 + getD card 2 0) (getD card 1
 abbrev pub rank : List ℕ → ℕ
 rank card = ranked (about (kindAt card)) card
 
--- what Z counts
-abbrev pub countsOf : List ℕ → Counts
-countsOf card = record { nodes = getD card 2 0; materials = getD card 3 0; elements = getD card 4 0; loads = getD card 5 0 }
+-- what Z counts, and whether the deck is solid: its last element is a V. letterAt: the letter of each row
+abbrev pub countsOf : List ℕ → (ℕ → ℕ) → Counts
+countsOf card letterAt =
+    record {
+      nodes = getD card 2 0;
+      materials = getD card 3 0;
+      elements = getD card 4 0;
+      loads = getD card 5 0;
+      solid = eqb (letterAt (getD card 2 0 + getD card 3 0 + getD card 4 0)) (letterOf «V»);
+    }
 
 -- ---- a table of cards
 
@@ -113,7 +137,7 @@ abbrev pub rows : List ℕ → ℕ
 rows t = length t / 6
 
 abbrev pub countsAt : List ℕ → Counts
-countsAt t = countsOf (rowAt t (rows t - 1))
+countsAt t = countsOf (rowAt t (rows t - 1)) (letter t)
 
 unfoldable pub nodes : List ℕ → ℕ
 nodes t = field t (rows t - 1) 2

@@ -6,11 +6,13 @@ use lib.Dec.{leb}
 use lib.IntN.{ℤ, natAbs}
 use lib.ListN.{length, getD}
 use Rattle.whole.specs.Sums.{any}
+use Rattle.paper.specs.Kinds.{isA}
 use Rattle.paper.specs.Cards.{rowAt, field, materialRow, elementRow, stepOf}
 use Rattle.paper.specs.Corners.{Shape, Body, shapeOf}
 use Rattle.paper.specs.Triangle.{S, pair, u}
-use Rattle.paper.specs.Tetrahedron.{Tetrahedron}
+use Rattle.paper.specs.Tetrahedron.{Tetrahedron, spaceOf}
 use Rattle.paper.specs.Tetrahedron as solid
+use Rattle.paper.specs.declared.Kind.the-variants.{«V»}
 use Rattle.paper.specs.declared.Answer.{Answer}
 use Rattle.paper.specs.declared.Answer.the-variants.{Done, Refused}
 use Rattle.paper.specs.declared.Refusal.the-variants.{Flat, Stiff}
@@ -34,15 +36,30 @@ bodyOf t card =
       thickness = getD card 5 0;
     }
 
-unfoldable pub elementOf : List ℕ → List ℕ → Element
-elementOf t card =
+unfoldable pub flatOf : List ℕ → List ℕ → Element
+flatOf t card =
     let e = bodyOf t card in
     record { shape = e .shape; size = S (e .shape); between = pair e; stored = u (stepOf t) e }
+
+-- of a V: a corner more, the material after them, and its kz
+unfoldable pub tetrahedronOf : List ℕ → List ℕ → Tetrahedron
+tetrahedronOf t card =
+    let m = materialRow t (getD card 5 0) in
+    record {
+      space = spaceOf t (getD card 1 0 ∷ getD card 2 0 ∷ getD card 3 0 ∷ getD card 4 0 ∷ []);
+      kx = field t m 1;
+      ky = field t m 2;
+      kz = field t m 4;
+      capacity = field t m 3;
+    }
 
 -- of a tetrahedron, over a step of so many ms
 abbrev pub solidOf : ℕ → Tetrahedron → Element
 solidOf ms e =
     record { shape = e .space .shape; size = solid.S (e .space); between = solid.pair e; stored = solid.u ms e }
+
+unfoldable pub elementOf : List ℕ → List ℕ → Element
+elementOf t card = cond (isA «V» card) (solidOf (stepOf t) (tetrahedronOf t card)) (flatOf t card)
 
 -- the card in a row
 abbrev pub elementAt : List ℕ → ℕ → Element

@@ -1,5 +1,5 @@
 -- Refusals 1 to 4 of a deck, and 3, 13 and 4 of a new card.
-use mathlib.Core.Bool.{Bool, not, cond, _&&_, _||_}
+use mathlib.Core.Bool.{Bool, true, not, cond, _&&_, _||_}
 use mathlib.Core.List.{List}
 use Prim.Native.Nat.{ℕ, zero, suc, _+_, _-_, _*_, _%_}
 use lib.Dec.{ltb, leb, eqb}
@@ -10,7 +10,8 @@ use Rattle.paper.specs.Cards.{before, columnsOf, used, zeros, inRange, a
 use Rattle.paper.specs.declared.Answer.{Answer}
 use Rattle.paper.specs.declared.Answer.the-variants.{Done, Refused}
 use Rattle.paper.specs.declared.Refusal.the-variants.{Length, Trailer, Form, Range, Replacement}
-use Rattle.paper.specs.declared.Kind.the-variants.{Z, Other}
+use Rattle.paper.specs.declared.Kind.the-variants.{D, N, M, E, «V», H, F, G, T, Z, Other}
+use Rattle.paper.specs.declared.Kind.{Kind}
 use Rattle.paper.specs.declared.About.{About}
 use Rattle.paper.specs.declared.Counts.{Counts}
 
@@ -51,9 +52,24 @@ unfoldable pub judgeOne : Counts → ℕ → ℕ → ℕ → Bool → List ℕ �
 judgeOne z i p key crowded card =
     cond (formed z i p crowded card) (cond (ranged z p key card) Done (Refused (Range (suc i)))) (Refused (Form (suc i)))
 
--- the card in row i
-abbrev pub judgeCard : Counts → (ℕ → List ℕ) → ℕ → ℕ → ℕ → Answer
-judgeCard z row i p key = judgeOne z i p key (full row i (aboutOf (row i))) (row i)
+-- what a card asks of those before it: E nodes of one height, F a triangle
+unfoldable pub asks : Counts → (ℕ → List ℕ) → List ℕ → Kind → Bool
+asks z row card D = true
+asks z row card N = true
+asks z row card M = true
+asks z row card E = let height : ℕ → ℕ = λ k. getD (row (getD card k 0)) 3 0 in eqb (height 1) (height 2) && eqb (height 1) (height 3)
+asks z row card «V» = true
+asks z row card H = true
+asks z row card F = isA E (row (before z bodies + getD card 1 0 - 1))
+asks z row card G = true
+asks z row card T = true
+asks z row card Z = true
+asks z row card Other = true
+
+-- the card in row i, its own tests first: they all give one number and one place
+unfoldable pub judgeCard : Counts → (ℕ → List ℕ) → ℕ → ℕ → ℕ → Answer
+judgeCard z row i p key =
+    andThen (judgeOne z i p key (full row i (aboutOf (row i))) (row i)) (cond (asks z row (row i) (kindAt (row i))) Done (Refused (Range (suc i))))
 
 -- cards in turn, n of them from the i-th on: row gives each one's six numbers
 unfoldable pub judgeFrom : Counts → (ℕ → List ℕ) → ℕ → ℕ → ℕ → ℕ → Answer
@@ -63,7 +79,7 @@ judgeFrom z row (suc n) i p key =
 
 -- a Z card: its counts in bounds, and bytes back as they say
 unfoldable pub trailer : List ℕ → Bool
-trailer card = isA Z card && inRange (columnsOf (countsOf card) card) card 5 0
+trailer card = isA Z card && inRange (columnsOf (countsOf card (λ i. 0)) card) card 5 0
 
 -- a table of n cards and then Z, of which bytes back are 42 times the rows before it
 unfoldable pub judgeRows : List ℕ → ℕ → Answer
@@ -83,7 +99,7 @@ answers t card new =
     let keeps = aboutOf new .keeps in
     leb 1 card && leb card (rows t) && leb 1 keeps && agree new (rowAt t (card - 1)) (1 + keeps)
 
--- 3: a letter that is none of the nine, or an unused field not 0; 13; 4
+-- 3: a letter that is none of the ten, or an unused field not 0; 13; 4
 unfoldable pub newJudged : List ℕ → ℕ → List ℕ → Answer
 newJudged t card new =
     cond (ltb (orderOf new) (about Other .order) && clean new)

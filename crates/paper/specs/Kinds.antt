@@ -6,7 +6,7 @@ use lib.Dec.{eqb}
 use lib.ListN.{getD}
 use Rattle.paper.specs.declared.About.{About}
 use Rattle.paper.specs.declared.Kind.{Kind}
-use Rattle.paper.specs.declared.Kind.the-variants.{D, N, M, E, H, F, G, T, Z, Other}
+use Rattle.paper.specs.declared.Kind.the-variants.{D, N, M, E, «V», H, F, G, T, Z, Other}
 
 -- letter: its ASCII code
 -- order: the kind's place among the kinds of a deck
@@ -27,12 +27,13 @@ about D = line 68 0 0 0 0 many
 about N = line 78 1 1 0 0 many
 about M = line 77 2 2 0 0 many
 about E = line 69 3 3 3 0 many
-about H = line 72 4 4 1 1 many
-about F = line 70 5 4 1 1 many
-about G = line 71 6 4 2 2 160
-about T = line 84 7 4 1 1 many
-about Z = line 90 8 5 0 0 many
-about Other = line 0 9 6 0 0 many
+about «V» = line 86 4 3 4 0 many
+about H = line 72 5 4 1 1 many
+about F = line 70 6 4 1 1 many
+about G = line 71 7 4 2 2 160
+about T = line 84 8 4 1 1 many
+about Z = line 90 9 5 0 0 many
+about Other = line 0 10 6 0 0 many
 
 abbrev pub letterOf : Kind → ℕ
 letterOf kind = about kind .letter
@@ -50,7 +51,7 @@ ends = 5
 
 unfoldable pub kindOf : ℕ → Kind
 kindOf letter =
-    is D (is N (is M (is E (is H (is F (is G (is T (is Z Other))))))))
+    is D (is N (is M (is E (is «V» (is H (is F (is G (is T (is Z Other)))))))))
   where
     is : Kind → Kind → Kind
     is kind rest = cond (eqb letter (letterOf kind)) kind rest

@@ -8,12 +8,13 @@ use lib.ListN.{length, getD}
 use Rattle.paper.specs.Ticks.{kelvin}
 use Rattle.paper.specs.Kinds.{kindOf, kindAt}
 use Rattle.paper.specs.Cards.{rowAt, letter, elementRow}
-use Rattle.paper.specs.Corners.{Shape, shapeOf, square}
+use Rattle.paper.specs.Corners.{Shape, square}
+use Rattle.paper.specs.Tetrahedron.{Space, spaceOf}
 use Rattle.paper.specs.Triangle.{faceFilm}
 use Rattle.paper.specs.Edge.{edgeFilm}
 use Rattle.paper.specs.Elements.{Element, elementOf, elementAt}
 use Rattle.paper.specs.declared.Kind.{Kind}
-use Rattle.paper.specs.declared.Kind.the-variants.{D, N, M, E, H, F, G, T, Z, Other}
+use Rattle.paper.specs.declared.Kind.the-variants.{D, N, M, E, «V», H, F, G, T, Z, Other}
 
 -- stirs: whether it has a square in the matrices; load: of each corner
 pub record Part : Type 0 where
@@ -30,7 +31,7 @@ nowhere i j = pos 0
 abbrev pub nothing : Part
 nothing = record { corners = []; stirs = false; conductance = nowhere; capacity = 0; film = 0; load = λ a. pos 0 }
 
--- E
+-- E and V
 abbrev pub bulk : Element → Part
 bulk e = record {
   corners = e .shape .corners;
@@ -71,8 +72,8 @@ abbrev pub namedShape : List ℕ → List ℕ → Shape
 namedShape t card = elementAt t (namedRow t card) .shape
 
 -- the two nodes of an edge
-abbrev pub edgeShape : List ℕ → List ℕ → Shape
-edgeShape t card = shapeOf t (getD card 1 0 ∷ getD card 2 0 ∷ [])
+abbrev pub edgeSpace : List ℕ → List ℕ → Space
+edgeSpace t card = spaceOf t (getD card 1 0 ∷ getD card 2 0 ∷ [])
 
 -- of a card's six numbers, in a deck that has what they name
 unfoldable pub partOf : List ℕ → List ℕ → Kind → Part
@@ -80,9 +81,10 @@ partOf t card D = nothing
 partOf t card N = nothing
 partOf t card M = nothing
 partOf t card E = bulk (elementOf t card)
+partOf t card «V» = bulk (elementOf t card)
 partOf t card H = let s = namedShape t card in loaded (s .corners) (heatShare (length (s .corners)) (getD card 2 0))
 partOf t card F = let s = namedShape t card in filmed (s .corners) (faceFilm (getD card 2 0) s) (getD card 3 0)
-partOf t card G = let s = edgeShape t card in filmed (s .corners) (edgeFilm (getD card 3 0) (getD card 5 0) s) (getD card 4 0)
+partOf t card G = let s = edgeSpace t card in filmed (s .shape .corners) (edgeFilm (getD card 3 0) (getD card 5 0) s) (getD card 4 0)
 partOf t card T = nothing
 partOf t card Z = nothing
 partOf t card Other = nothing

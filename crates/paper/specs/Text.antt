@@ -1,11 +1,12 @@
 -- "The deck": a card's 42 bytes (a letter, five fields of 8 columns, a newline), read and written.
-use mathlib.Core.Bool.{not, cond, _&&_, _||_}
+use mathlib.Core.Bool.{Bool, not, cond, _&&_, _||_}
 use mathlib.Core.List.{List, [], _∷_, _++_}
 use Prim.Native.Nat.{ℕ, zero, suc, _+_, _-_, _*_, _/_, _%_}
 use lib.Dec.{ltb, leb, eqb}
 use lib.ListN.{getD, take, drop, set, replicate}
 use Rattle.paper.specs.Kinds.{kindOf, letterOf}
-use Rattle.paper.specs.Cards.{used}
+use Rattle.paper.specs.Cards.{used, mayBlank, outside}
+use Rattle.paper.specs.declared.Kind.{Kind}
 use Rattle.paper.specs.declared.Field.{Field}
 use Rattle.paper.specs.declared.Field.the-variants.{Number, Malformed}
 
@@ -42,9 +43,20 @@ spaced (suc w) n s = spaced w (n / 10) (digit n ∷ s)
 unfoldable pub printed : ℕ → List ℕ
 printed n = spaced 7 (n / 10) ((48 + n % 10) ∷ [])
 
--- field k of a card's bytes, counted from 0; u fields are used
-unfoldable pub fieldOf : ℕ → List ℕ → ℕ → Field
-fieldOf u b k = cond (ltb k u) (number (take 8 (drop (1 + k * 8) b))) (blank (take 8 (drop (1 + k * 8) b)))
+-- a field that may be blank: where it is filled, a 0 is no blank and reads as a number that no column has within
+abbrev pub filled : Field → Field
+filled (Number v) = Number (cond (eqb v 0) outside v)
+filled Malformed = Malformed
+
+abbrev pub blankElse : Field → Field → Field
+blankElse (Number v) f = Number v
+blankElse Malformed f = f
+
+-- field k of a card's bytes, counted from 0, of a kind in a solid deck or a flat one
+unfoldable pub fieldOf : Bool → Kind → List ℕ → ℕ → Field
+fieldOf solid kind b k =
+    let s = take 8 (drop (1 + k * 8) b) in
+    cond (ltb k (used kind)) (cond (mayBlank solid kind k) (blankElse (blank s) (filled (number s))) (number s)) (blank s)
 
 -- what a malformed card reads as: its letter is none
 abbrev pub noCard : List ℕ
@@ -55,25 +67,25 @@ abbrev pub putField : List ℕ → ℕ → Field → (List ℕ → List ℕ) →
 putField card k (Number v) rest = rest (set card (suc k) v)
 putField card k Malformed rest = noCard
 
-unfoldable pub fieldsFrom : ℕ → List ℕ → ℕ → ℕ → List ℕ → List ℕ
-fieldsFrom u b zero k card = card
-fieldsFrom u b (suc n) k card = putField card k (fieldOf u b k) (fieldsFrom u b n (suc k))
+unfoldable pub fieldsFrom : Bool → Kind → List ℕ → ℕ → ℕ → List ℕ → List ℕ
+fieldsFrom solid kind b zero k card = card
+fieldsFrom solid kind b (suc n) k card = putField card k (fieldOf solid kind b k) (fieldsFrom solid kind b n (suc k))
 
 -- a card's bytes as its six numbers
-unfoldable pub cardOf : List ℕ → List ℕ
-cardOf b =
+unfoldable pub cardOf : Bool → List ℕ → List ℕ
+cardOf solid b =
     cond (eqb (used (kindOf (getD b 0 0))) 0 || not (eqb (getD b 41 0) 10)) noCard
-    (fieldsFrom (used (kindOf (getD b 0 0))) b 5 0 (getD b 0 0 ∷ 0 ∷ 0 ∷ 0 ∷ 0 ∷ 0 ∷ []))
+    (fieldsFrom solid (kindOf (getD b 0 0)) b 5 0 (getD b 0 0 ∷ 0 ∷ 0 ∷ 0 ∷ 0 ∷ 0 ∷ []))
 
 -- field k with the number n, as bytes
-unfoldable pub textField : ℕ → ℕ → ℕ → List ℕ
-textField u k n = cond (ltb k u) (printed n) (replicate 8 32)
+unfoldable pub textField : Bool → Kind → ℕ → ℕ → List ℕ
+textField solid kind k n = cond (ltb k (used kind) && not (mayBlank solid kind k && eqb n 0)) (printed n) (replicate 8 32)
 
 -- n fields from field k on, as bytes
-unfoldable pub textFrom : ℕ → List ℕ → ℕ → ℕ → List ℕ
-textFrom u card zero k = []
-textFrom u card (suc n) k = textField u k (getD card (suc k) 0) ++ textFrom u card n (suc k)
+unfoldable pub textFrom : Bool → Kind → List ℕ → ℕ → ℕ → List ℕ
+textFrom solid kind card zero k = []
+textFrom solid kind card (suc n) k = textField solid kind k (getD card (suc k) 0) ++ textFrom solid kind card n (suc k)
 
 -- a card's six numbers as its bytes
-unfoldable pub textOf : List ℕ → List ℕ
-textOf card = letterOf (kindOf (getD card 0 0)) ∷ textFrom (used (kindOf (getD card 0 0))) card 5 0 ++ (10 ∷ [])
+unfoldable pub textOf : Bool → List ℕ → List ℕ
+textOf solid card = letterOf (kindOf (getD card 0 0)) ∷ textFrom solid (kindOf (getD card 0 0)) card 5 0 ++ (10 ∷ [])

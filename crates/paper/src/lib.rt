@@ -39,6 +39,7 @@ pub enum Kind {
     N,
     M,
     E,
+    V,
     H,
     F,
     G,
@@ -63,6 +64,7 @@ pub struct Counts {
     pub materials: u32,
     pub elements: u32,
     pub loads: u32,
+    pub solid: bool,
 }
 
 // What a field of 8 columns reads as.

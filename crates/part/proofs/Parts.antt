@@ -8,62 +8,66 @@ use lib.Dec.{eqb}
 use lib.IntN.{ℤ, pos, natAbs, _+ℤ_}
 use lib.ListN.{length, getD, drop}
 use lib.Seq.{length-take-le, getD-take}
-use Rattle.whole.specs.Sums.{sum, table}
-use Rattle.whole.proofs.Signs.{natAbs-plus}
+use Rattle.whole.specs.Squares.{squareOf, Holds}
 use Rattle.whole.proofs.Tests.{never}
-use Rattle.paper.specs.Kinds.{kindAt, kindOf}
-use Rattle.paper.specs.Cards.{Column, _⋯_, within, columns, countsAt, field, rowAt, rows, letter, nodes, materials, elements, stepOf}
-use Rattle.paper.specs.Corners.{Shape, square, mass, shapeOf}
-use Rattle.paper.specs.Triangle.{S, pair, u, faceFilm}
+use Rattle.whole.proofs.Squares.{holds-square}
+use Rattle.paper.specs.Kinds.{kindAt, kindOf, isA}
+use Rattle.paper.specs.Cards.{Column, _⋯_, within, columns, countsAt, rowAt, rows, nodes, materials, elements, elementRow, stepOf}
+use Rattle.paper.specs.Corners.{Shape, square, shapeOf}
+use Rattle.paper.specs.Triangle.{faceFilm}
+use Rattle.paper.specs.Tetrahedron.{spaceOf}
 use Rattle.paper.specs.Edge.{edgeFilm}
-use Rattle.paper.specs.Elements.{Element, bodyOf, elementOf}
-use Rattle.paper.specs.Parts.{Part, nowhere, nothing, bulk, filmed, loaded, namedRow, edgeShape, heatShare, partOf, partFor, least}
+use Rattle.paper.specs.Elements.{Element, bodyOf, flatOf, elementOf}
+use Rattle.paper.specs.Parts.{Part, nothing, namedRow, edgeSpace, heatShare, partOf, partFor}
 use Rattle.paper.specs.declared.Kind.{Kind}
-use Rattle.paper.specs.declared.Kind.the-variants.{D, N, M, E, H, F, G, T, Z, Other}
+use Rattle.paper.specs.declared.Kind.the-variants.{D, N, M, E, «V», H, F, G, T, Z, Other}
+use Rattle.laws.proofs.Letters.{Body, flat, solid}
 use Rattle.laws.proofs.Decks.{In, Deck, kindIn}
 use Rattle.laws.proofs.Tables.{row-field}
 use Rattle.laws.proofs.Edge.{Ranges, g-most}
-use Rattle.laws.proofs.Spans.{Inside, inside-each, nodes-are, materials-are, elements-are, in-told}
-use Rattle.laws.proofs.Places.{squareA}
-use Rattle.triangle.specs.Forms.{madeOf}
-use Rattle.triangle.specs.Asks.{Sized, Placed, Step}
-use Rattle.triangle.proofs.Sizes.{S-small, u-size, film-small, mass-size, conductance-size}
-use Rattle.element.specs.Asks.{ElementCard, EdgeCard}
-use Rattle.element.proofs.Ranges.{card-of, placed-of, on-grid-of, sized-of, step-of, made-is}
+use Rattle.laws.proofs.Spans.{Inside, inside-each, row-kind, is-solid, is-flat, nodes-are, materials-are, elements-are, in-told, is-body, solid-deck, film-flat, cornersBy, element-corners, few-corners}
+use Rattle.laws.proofs.Places.{squareP}
+use Rattle.triangle.specs.Asks.{Placed}
+use Rattle.square.proofs.Held.{mass-size}
+use Rattle.triangle.proofs.Sizes.{film-small}
+use Rattle.element.specs.Asks.{isSolid, FlatCard, SolidCard, ElementBy, ElementCard, EdgeCard}
+use Rattle.element.proofs.Ranges.{card-of, placed-of, on-grid-of, as-flat}
+use Rattle.element.proofs.Ranges as ranges
 use Rattle.part.specs.Forms.{firstNodes, doesBy, does, baseBy, baseOf, none}
-use Rattle.part.specs.Asks.{Card, Solid}
+use Rattle.part.specs.Asks.{Card}
 use Rattle.part.specs.declared.Does.{Does}
 
 -- ---- a part as what its kind does
 
 -- a film along an edge, or over a face
 abbrev pub filmOver : List ℕ → List ℕ → Does → Bool → ℕ
-filmOver t card it true = edgeFilm (getD card (it .value) 0) (getD card (it .value + 2) 0) (edgeShape t card)
+filmOver t card it true = edgeFilm (getD card (it .value) 0) (getD card (it .value + 2) 0) (edgeSpace t card)
 filmOver t card it false = faceFilm (getD card (it .value) 0) (elementOf t (baseBy t card it) .shape)
 
 pub record As (t card : List ℕ) (it : Does) (x : Part) : Type 0 where
-  pub corners : x .corners ≡ firstNodes (it .corners) (baseBy t card it)
+  pub own : it .conducts ≡ true → x .corners ≡ elementOf t card .shape .corners
   pub stirs : x .stirs ≡ it .conducts || it .films
-  pub conductance : (a b : ℕ) → x .conductance a b ≡ cond (it .conducts) (square 3 (elementOf t card .between) a b) (pos 0)
+  pub conductance : (a b : ℕ) → x .conductance a b ≡ cond (it .conducts) (square (length (elementOf t card .shape .corners)) (elementOf t card .between) a b) (pos 0)
   pub capacity : x .capacity ≡ cond (it .conducts) (elementOf t card .stored) 0
   pub film : x .film ≡ cond (it .films) (filmOver t card it (eqb (it .corners) 2)) 0
-  pub load : (a : ℕ) → x .load a ≡ cond (it .heats) (heatShare 3 (getD card (it .value) 0) a) (pos ((1 + it .corners) * x .film * getD card (it .value + 1) 0))
+  pub load : (a : ℕ) → x .load a ≡ cond (it .heats) (heatShare (length (x .corners)) (getD card (it .value) 0) a) (pos ((1 + length (x .corners)) * x .film * getD card (it .value + 1) 0))
 
 no-load : (n v : ℕ) → pos 0 ≡ pos ((1 + n) * 0 * v)
 no-load n v = ap pos (omega arith)
 
 idle : (t card : List ℕ) → As t card none nothing
-idle t card = record { corners = refl; stirs = refl; conductance = λ a b. refl; capacity = refl; film = refl; load = λ a. no-load 0 (getD card 1 0) }
+idle t card = record { own = λ q. never q; stirs = refl; conductance = λ a b. refl; capacity = refl; film = refl; load = λ a. no-load 0 (getD card 1 0) }
 
 pub as-kind : (t card : List ℕ) (kind : Kind) → As t card (doesBy kind) (partOf t card kind)
-unfolding partOf doesBy elementOf bodyOf shapeOf
+unfolding partOf doesBy
 as-kind t card D = idle t card
 as-kind t card N = idle t card
 as-kind t card M = idle t card
-as-kind t card E = record { corners = refl; stirs = refl; conductance = λ a b. refl; capacity = refl; film = refl; load = λ a. no-load 3 (getD card 1 0) }
-as-kind t card H = record { corners = refl; stirs = refl; conductance = λ a b. refl; capacity = refl; film = refl; load = λ a. refl }
-as-kind t card F = record { corners = refl; stirs = refl; conductance = λ a b. refl; capacity = refl; film = refl; load = λ a. refl }
-as-kind t card G = record { corners = refl; stirs = refl; conductance = λ a b. refl; capacity = refl; film = refl; load = λ a. refl }
+as-kind t card E = record { own = λ q. refl; stirs = refl; conductance = λ a b. refl; capacity = refl; film = refl; load = λ a. no-load (length (elementOf t card .shape .corners)) (getD card 1 0) }
+as-kind t card «V» = record { own = λ q. refl; stirs = refl; conductance = λ a b. refl; capacity = refl; film = refl; load = λ a. no-load (length (elementOf t card .shape .corners)) (getD card 1 0) }
+as-kind t card H = record { own = λ q. never q; stirs = refl; conductance = λ a b. refl; capacity = refl; film = refl; load = λ a. refl }
+as-kind t card F = record { own = λ q. never q; stirs = refl; conductance = λ a b. refl; capacity = refl; film = refl; load = λ a. refl }
+as-kind t card G = record { own = λ q. never q; stirs = refl; conductance = λ a b. refl; capacity = refl; film = refl; load = λ a. refl }
 as-kind t card T = idle t card
 as-kind t card Z = idle t card
 as-kind t card Other = idle t card
@@ -72,13 +76,14 @@ as-kind t card Other = idle t card
 pub as-part : (t card : List ℕ) → As t card (does card) (partFor t card)
 as-part t card = as-kind t card (kindAt card)
 
--- at most three corners, and a value with two fields after it
-pub few-by : (kind : Kind) → (doesBy kind .corners ≤ 3) × (doesBy kind .value ≤ 3)
+-- at most four corners, and a value with two fields after it
+pub few-by : (kind : Kind) → (doesBy kind .corners ≤ 4) × (doesBy kind .value ≤ 3)
 unfolding doesBy
 few-by D = (omega arith, omega arith)
 few-by N = (omega arith, omega arith)
 few-by M = (omega arith, omega arith)
 few-by E = (omega arith, omega arith)
+few-by «V» = (omega arith, omega arith)
 few-by H = (omega arith, omega arith)
 few-by F = (omega arith, omega arith)
 few-by G = (omega arith, omega arith)
@@ -86,17 +91,29 @@ few-by T = (omega arith, omega arith)
 few-by Z = (omega arith, omega arith)
 few-by Other = (omega arith, omega arith)
 
-pub length-first : (n : ℕ) (card : List ℕ) → n ≤ 3 → length (firstNodes n card) ≡ n
-length-first n card h = length-take-le n (getD card 1 0 ∷ getD card 2 0 ∷ getD card 3 0 ∷ []) h
+pub length-first : (n : ℕ) (card : List ℕ) → n ≤ 4 → length (firstNodes n card) ≡ n
+length-first n card h = length-take-le n (getD card 1 0 ∷ getD card 2 0 ∷ getD card 3 0 ∷ getD card 4 0 ∷ []) h
 
-first-field : (n : ℕ) (card : List ℕ) (k : ℕ) → n ≤ 3 → k < n → getD (firstNodes n card) k 0 ≡ getD card (k + 1) 0
-first-field n card k h l = getD-take n (getD card 1 0 ∷ getD card 2 0 ∷ getD card 3 0 ∷ []) k 0 l ∙ each k (omega arith)
+first-field : (n : ℕ) (card : List ℕ) (k : ℕ) → n ≤ 4 → k < n → getD (firstNodes n card) k 0 ≡ getD card (k + 1) 0
+first-field n card k h l = getD-take n (getD card 1 0 ∷ getD card 2 0 ∷ getD card 3 0 ∷ getD card 4 0 ∷ []) k 0 l ∙ each k (omega arith)
   where
-    each : (k : ℕ) → k < 3 → getD (getD card 1 0 ∷ getD card 2 0 ∷ getD card 3 0 ∷ []) k 0 ≡ getD card (k + 1) 0
+    each : (k : ℕ) → k < 4 → getD (getD card 1 0 ∷ getD card 2 0 ∷ getD card 3 0 ∷ getD card 4 0 ∷ []) k 0 ≡ getD card (k + 1) 0
     each zero l = refl
     each (suc zero) l = refl
     each (suc (suc zero)) l = refl
-    each (suc (suc (suc k))) l = absurd (omega arith)
+    each (suc (suc (suc zero))) l = refl
+    each (suc (suc (suc (suc k)))) l = absurd (omega arith)
+
+-- an element's corners are the first nodes of its card
+body-first : (x : List ℕ) → Body (kindAt x) → cornersBy (isA «V» x) x ≡ firstNodes (does x .corners) x
+unfolding doesBy
+body-first x (flat e) = ap (λ (b : Bool). cornersBy b x) (is-flat x e) ∙ sym (ap (λ (k : Kind). firstNodes (doesBy k .corners) x) e)
+body-first x (solid e) = ap (λ (b : Bool). cornersBy b x) (is-solid x e) ∙ sym (ap (λ (k : Kind). firstNodes (doesBy k .corners) x) e)
+
+-- a triangle's shape is its body's
+pub face-shape : (t x : List ℕ) → isSolid x ≡ false → elementOf t x .shape ≡ bodyOf t x .shape
+unfolding flatOf
+face-shape t x e = ap (λ (it : Element). it .shape) (as-flat t x e)
 
 -- ---- ranges, by kind
 
@@ -108,12 +125,33 @@ module _ (t card : List ℕ) (h : Card t card) where
 
   own-E : kindAt card ≡ E → ElementCard t card
   unfolding columns
-  own-E e = record {
-    deck = h .deck;
-    corners = rw (← nodes-are t) (at-kind 0 E e (omega arith), (at-kind 1 E e (omega arith), (at-kind 2 E e (omega arith), tt)));
-    material = rw (← materials-are t) (at-kind 3 E e (omega arith));
-    thickness = at-kind 4 E e (omega arith) .1;
-  }
+  own-E e =
+      let f = is-flat card e in
+      record {
+        deck = h .deck;
+        by = subst (ElementBy t card) (sym f) (record {
+          deck = h .deck;
+          kind = f;
+          corners = rw (← nodes-are t) (at-kind 0 E e (omega arith), (at-kind 1 E e (omega arith), (at-kind 2 E e (omega arith), tt)));
+          material = rw (← materials-are t) (at-kind 3 E e (omega arith));
+          thickness = at-kind 4 E e (omega arith) .1;
+        });
+      }
+
+  own-V : kindAt card ≡ «V» → ElementCard t card
+  unfolding columns
+  own-V e =
+      let f = is-solid card e in
+      record {
+        deck = h .deck;
+        by = subst (ElementBy t card) (sym f) (record {
+          deck = h .deck;
+          kind = f;
+          deep = h .deep e;
+          corners = rw (← nodes-are t) (at-kind 0 «V» e (omega arith), (at-kind 1 «V» e (omega arith), (at-kind 2 «V» e (omega arith), (at-kind 3 «V» e (omega arith), tt))));
+          material = rw (← materials-are t) (at-kind 4 «V» e (omega arith));
+        });
+      }
 
   own-G : kindAt card ≡ G → EdgeCard t card
   unfolding columns
@@ -126,6 +164,7 @@ module _ (t card : List ℕ) (h : Card t card) where
   conducts-by N e q = never q
   conducts-by M e q = never q
   conducts-by E e q = own-E e
+  conducts-by «V» e q = own-V e
   conducts-by H e q = never q
   conducts-by F e q = never q
   conducts-by G e q = never q
@@ -143,6 +182,7 @@ module _ (t card : List ℕ) (h : Card t card) where
   names-by N e q = never q
   names-by M e q = never q
   names-by E e q = never q
+  names-by «V» e q = never q
   names-by H e q = rw (← elements-are t) (at-kind 0 H e (omega arith))
   names-by F e q = rw (← elements-are t) (at-kind 0 F e (omega arith))
   names-by G e q = never q
@@ -153,43 +193,103 @@ module _ (t card : List ℕ) (h : Card t card) where
   pub naming : does card .named ≡ true → In 1 (elements t) (getD card 1 0)
   naming = names-by (kindAt card) refl
 
-  named-H : kindAt card ≡ H → ElementCard t (rowAt t (namedRow t card))
-  unfolding doesBy
-  named-H e = card-of t (getD card 1 0) (h .deck) (names-by H e refl)
+  -- the card of the element that it names
+  named-card : In 1 (elements t) (getD card 1 0) → ElementCard t (rowAt t (namedRow t card))
+  named-card i = card-of t (getD card 1 0) (h .deck) i
 
-  named-F : kindAt card ≡ F → ElementCard t (rowAt t (namedRow t card))
-  unfolding doesBy
-  named-F e = card-of t (getD card 1 0) (h .deck) (names-by F e refl)
+  named-body : In 1 (elements t) (getD card 1 0) → Body (kindAt (rowAt t (namedRow t card)))
+  named-body i = subst Body (sym (row-kind t (namedRow t card))) (is-body t (h .deck) (getD card 1 0) i)
 
-  -- corners are nodes of the deck
-  corners-by : (kind : Kind) → kindAt card ≡ kind → Inside (nodes t) (firstNodes (doesBy kind .corners) (baseBy t card (doesBy kind)))
+  named-face : kindAt card ≡ F → FlatCard t (rowAt t (namedRow t card))
   unfolding doesBy
-  corners-by D e = tt
-  corners-by N e = tt
-  corners-by M e = tt
-  corners-by E e = own-E e .corners
-  corners-by H e = named-H e .corners
-  corners-by F e = named-F e .corners
-  corners-by G e = own-G e .ends
-  corners-by T e = tt
-  corners-by Z e = tt
-  corners-by Other e = tt
+  named-face e =
+      let x = rowAt t (namedRow t card) in
+      subst (ElementBy t x) (is-flat x (row-kind t (namedRow t card) ∙ h .face e)) (named-card (names-by F e refl) .by)
 
-  pub few-corners : (k : ℕ) → k < does card .corners → getD (baseOf t card) (k + 1) 0 < 256
-  few-corners k l =
-      let n = does card .corners in
-      let few = few-by (kindAt card) .0 in
+  -- ---- corners: the first nodes of the base card, all of them nodes of the deck
+  element-inside : (x : List ℕ) → Body (kindAt x) → ElementCard t x → Inside (nodes t) (firstNodes (does x .corners) x)
+  unfolding doesBy
+  element-inside x (flat e) c =
+      subst (λ (k : Kind). Inside (nodes t) (firstNodes (doesBy k .corners) x)) (sym e) (subst (ElementBy t x) (is-flat x e) (c .by) .corners)
+  element-inside x (solid e) c =
+      subst (λ (k : Kind). Inside (nodes t) (firstNodes (doesBy k .corners) x)) (sym e) (subst (ElementBy t x) (is-solid x e) (c .by) .corners)
+
+  -- the corners that a base card gives
+  pub record First (ns x : List ℕ) : Type 0 where
+    pub is : ns ≡ firstNodes (does x .corners) x
+    pub inside : Inside (nodes t) (firstNodes (does x .corners) x)
+
+  own-first : (kind : Kind) (ns : List ℕ) → kindAt card ≡ kind → ns ≡ firstNodes (doesBy kind .corners) card → Inside (nodes t) (firstNodes (doesBy kind .corners) card) → First ns card
+  own-first kind ns e p i = record {
+    is = p ∙ ap (λ (k : Kind). firstNodes (doesBy k .corners) card) (sym e);
+    inside = subst (λ (k : Kind). Inside (nodes t) (firstNodes (doesBy k .corners) card)) (sym e) i;
+  }
+
+  element-first : (x : List ℕ) → Body (kindAt x) → ElementCard t x → First (elementOf t x .shape .corners) x
+  element-first x b c = record { is = element-corners t x ∙ body-first x b; inside = element-inside x b c }
+
+  named-first : In 1 (elements t) (getD card 1 0) → First (elementOf t (rowAt t (namedRow t card)) .shape .corners) (rowAt t (namedRow t card))
+  named-first i = element-first (rowAt t (namedRow t card)) (named-body i) (named-card i)
+
+  first-by : (kind : Kind) → kindAt card ≡ kind → First (partOf t card kind .corners) (baseBy t card (doesBy kind))
+  unfolding partOf doesBy spaceOf shapeOf
+  first-by D e = own-first D [] e refl tt
+  first-by N e = own-first N [] e refl tt
+  first-by M e = own-first M [] e refl tt
+  first-by E e = element-first card (flat e) (own-E e)
+  first-by «V» e = element-first card (solid e) (own-V e)
+  first-by H e = named-first (names-by H e refl)
+  first-by F e = named-first (names-by F e refl)
+  first-by G e = own-first G (getD card 1 0 ∷ getD card 2 0 ∷ []) e refl (own-G e .ends)
+  first-by T e = own-first T [] e refl tt
+  first-by Z e = own-first Z [] e refl tt
+  first-by Other e = own-first Other [] e refl tt
+
+  -- THEOREM. A card's corners are the first nodes of its base card.
+  pub first : First (partFor t card .corners) (baseOf t card)
+  first = first-by (kindAt card) refl
+
+  few-base : does (baseOf t card) .corners ≤ 4
+  few-base = few-by (kindAt (baseOf t card)) .0
+
+  pub corner-count : length (partFor t card .corners) ≡ does (baseOf t card) .corners
+  corner-count = ap length (first .is) ∙ length-first (does (baseOf t card) .corners) (baseOf t card) few-base
+
+  pub four-at-most : length (partFor t card .corners) ≤ 4
+  four-at-most = omega (arith, corner-count, few-base)
+
+  pub small-corners : (k : ℕ) → k < does (baseOf t card) .corners → getD (baseOf t card) (k + 1) 0 < 256
+  small-corners k l =
+      let n = does (baseOf t card) .corners in
       omega (
         arith,
-        first-field n (baseOf t card) k few l,
-        inside-each (nodes t) (firstNodes n (baseOf t card)) (corners-by (kindAt card) refl) k (omega (arith, length-first n (baseOf t card) few)),
+        first-field n (baseOf t card) k few-base l,
+        inside-each (nodes t) (firstNodes n (baseOf t card)) (first .inside) k (omega (arith, length-first n (baseOf t card) few-base)),
         h .deck .someN,
       )
 
+  -- what heats has an element's corners
+  heats-by : (kind : Kind) → doesBy kind .heats ≡ true → 1 ≤ length (partOf t card kind .corners)
+  unfolding partOf doesBy
+  heats-by D q = never q
+  heats-by N q = never q
+  heats-by M q = never q
+  heats-by E q = never q
+  heats-by «V» q = never q
+  heats-by H q = omega (arith, few-corners t (rowAt t (namedRow t card)))
+  heats-by F q = never q
+  heats-by G q = never q
+  heats-by T q = never q
+  heats-by Z q = never q
+  heats-by Other q = never q
+
+  pub heating : does card .heats ≡ true → 1 ≤ length (partFor t card .corners)
+  heating = heats-by (kindAt card)
+
   -- what films is along an edge, or over an element's face
   abbrev pub Over : Does → Bool → Type 0
-  Over it true = EdgeCard t card × Ranges (getD card (it .value) 0) (getD card (it .value + 2) 0) (edgeShape t card)
-  Over it false = ElementCard t (baseBy t card it) × (getD card (it .value) 0 ≤ 100000)
+  Over it true = EdgeCard t card × Ranges (getD card (it .value) 0) (getD card (it .value + 2) 0) (edgeSpace t card)
+  Over it false = FlatCard t (baseBy t card it) × (getD card (it .value) 0 ≤ 100000)
 
   films-by : (kind : Kind) → kindAt card ≡ kind → doesBy kind .films ≡ true → Over (doesBy kind) (eqb (doesBy kind .corners) 2)
   unfolding doesBy columns
@@ -197,8 +297,9 @@ module _ (t card : List ℕ) (h : Card t card) where
   films-by N e q = never q
   films-by M e q = never q
   films-by E e q = never q
+  films-by «V» e q = never q
   films-by H e q = never q
-  films-by F e q = (named-F e, at-kind 1 F e (omega arith) .1)
+  films-by F e q = (named-face e, at-kind 1 F e (omega arith) .1)
   films-by G e q = (own-G e, record { film-most = at-kind 2 G e (omega arith) .1; t-most = at-kind 4 G e (omega arith) .1; on-grid = on-grid-of t card (own-G e) })
   films-by T e q = never q
   films-by Z e q = never q
@@ -214,21 +315,29 @@ card-at t row d h = record {
   deck = d;
   fits = λ k l. subst (λ (v : ℕ). within (getD (columns (countsAt t) (kindOf v)) k (0 ⋯ 0)) (getD (rowAt t row) (suc k) 0) ≡ true) (sym (row-field t row 0 (omega arith)))
       (subst (λ (v : ℕ). within (getD (columns (countsAt t) (kindIn t row)) k (0 ⋯ 0)) v ≡ true) (sym (row-field t row (suc k) (omega arith))) (d .span row k h l));
+  deep = λ e. solid-deck t d row (omega arith) (sym (row-kind t row) ∙ e);
+  face = λ e. film-flat t d row (omega arith) (sym (row-kind t row) ∙ e);
 }
 
--- ---- sizes of squares
+-- ---- squares in P, and how large a film is
 
 module _ (t card : List ℕ) (h : Card t card) where
   pub stored-size : partFor t card .capacity ≤ 2 ^ 37
   stored-size = rw (as-part t card .capacity) (go (does card .conducts) refl)
     where
       go : (b : Bool) → does card .conducts ≡ b → cond b (elementOf t card .stored) 0 ≤ 2 ^ 37
-      go true e = let c = conducting t card h e in unfold elementOf in u-size (stepOf t) (bodyOf t card) (sized-of t card c) (step-of t (h .deck))
+      go true e = ranges.stored-size t card (conducting t card h e)
       go false e = omega arith
+
+  pub held-P : {m : List (List ℤ)} → m ≡ squareOf 4 (squareP (partFor t card)) → Holds (length (partFor t card .corners)) (2 ^ 38) (squareP (partFor t card)) m
+  held-P e =
+      holds-square (length (partFor t card .corners)) 4 (2 ^ 38) (squareP (partFor t card)) (four-at-most t card h) e (λ i j _ _. omega (arith, mass-size (partFor t card .capacity) i j, stored-size))
 
   over-size : (it : Does) (b : Bool) → Over t card h it b → filmOver t card it b ≤ 349500
   over-size it true (c, r) = omega (arith, g-most r)
-  over-size it false (c, l) = unfold elementOf in film-small (getD card (it .value) 0) (bodyOf t (baseBy t card it) .shape) l (placed-of t (baseBy t card it) c)
+  over-size it false (c, l) =
+      let x = baseBy t card it in
+      subst (λ (s : Shape). faceFilm (getD card (it .value) 0) s ≤ 349500) (sym (face-shape t x (c .kind))) (film-small (getD card (it .value) 0) (bodyOf t x .shape) l (placed-of t x c))
 
   pub film-size : partFor t card .film ≤ 349500
   film-size = rw (as-part t card .film) (go (does card .films) refl)
@@ -236,25 +345,3 @@ module _ (t card : List ℕ) (h : Card t card) where
       go : (b : Bool) → does card .films ≡ b → cond b (filmOver t card (does card) (eqb (does card .corners) 2)) 0 ≤ 349500
       go true e = over-size (does card) (eqb (does card .corners) 2) (filming t card h e)
       go false e = omega arith
-
-  pub conductance-small : Solid t card → (a b : ℕ) → a < 3 → b < 3 → natAbs (partFor t card .conductance a b) ≤ 2 ^ 47
-  conductance-small s a b la lb = rw (as-part t card .conductance a b) (go (does card .conducts) refl)
-    where
-      go : (q : Bool) → does card .conducts ≡ q → natAbs (cond q (square 3 (elementOf t card .between) a b) (pos 0)) ≤ 2 ^ 47
-      go true e = unfold elementOf in conductance-size (bodyOf t card) a b (sized-of t card (conducting t card h e)) (s .some e) la lb
-      go false e = omega arith
-
-  -- THEOREM. A card's square in A is small.
-  pub square-small : Solid t card → (a b : ℕ) → a < 3 → b < 3 → natAbs (squareA (partFor t card) a b) ≤ 2 ^ 48
-  square-small s a b la lb =
-      let x = partFor t card in
-      omega (
-        arith,
-        natAbs-plus (x .conductance a b +ℤ mass (x .capacity) a b) (mass (x .film) a b),
-        natAbs-plus (x .conductance a b) (mass (x .capacity) a b),
-        conductance-small s a b la lb,
-        mass-size (x .capacity) a b,
-        mass-size (x .film) a b,
-        stored-size,
-        film-size,
-      )

@@ -2,46 +2,43 @@
 use mathlib.Core.Path.{_≡_, refl, sym, ap, subst, _∙_}
 use mathlib.Core.Bool.{Bool, true, false, cond, _||_}
 use mathlib.Core.List.{List, [], _∷_}
-use Prim.Native.Nat.{ℕ, zero, suc, _+_, _*_, _-_, _/_, _^_, _≤_, _<_}
+use Prim.Native.Nat.{ℕ, zero, suc, _+_, _*_, _^_, _≤_, _<_}
 use native.Mathlib.Omega.{arith}
 use borrow.Author.Tests.{eq-eqb, ne-eqb}
 use lib.Dec.{eqb}
-use lib.IntN.{ℤ, pos, natAbs, _+ℤ_}
+use lib.IntN.{ℤ, pos, _+ℤ_}
 use lib.ListN.{length, getD, take}
-use Rattle.whole.specs.Sums.{table}
-use Rattle.whole.specs.Squares.{at, squareOf, rowsOf, Small}
-use Rattle.whole.proofs.Signs.{natAbs-plus}
-use Rattle.whole.proofs.Squares.{small-square, square-at, square-ext}
-use Rattle.paper.specs.Ticks.{kelvin}
-use Rattle.paper.specs.Kinds.{kindAt, kindOf}
-use Rattle.paper.specs.Cards.{rowAt, elements, elementRow, stepOf}
-use Rattle.paper.specs.Corners.{Shape, Body, square, mass}
-use Rattle.paper.specs.Triangle.{S, pair, u, faceFilm}
+use Rattle.whole.specs.Squares.{at, squareOf, Small, Holds}
+use Rattle.whole.proofs.Squares.{holds-square, holds-same, holds-plus}
+use Rattle.paper.specs.Kinds.{kindAt}
+use Rattle.paper.specs.Cards.{rowAt, elements}
+use Rattle.paper.specs.Corners.{Shape, square, mass}
+use Rattle.paper.specs.Tetrahedron.{Space}
+use Rattle.paper.specs.Triangle.{faceFilm}
 use Rattle.paper.specs.Edge.{edgeFilm}
 use Rattle.paper.specs.Elements.{bodyOf, elementOf}
-use Rattle.paper.specs.Parts.{Part, heatShare, namedRow, edgeShape, partOf, partFor}
+use Rattle.paper.specs.Parts.{Part, heatShare, namedRow, edgeSpace, partOf, partFor}
 use Rattle.paper.specs.declared.Kind.{Kind}
 use Rattle.paper.specs.declared.Node.{Node}
 use Rattle.laws.proofs.Decks.{In}
 use Rattle.laws.proofs.Edge.{Ranges}
-use Rattle.laws.proofs.Places.{squareA}
-use Rattle.triangle.specs.Forms.{asShape, asBody}
-use Rattle.triangle.specs.Asks.{Sized, Placed, Solid}
-use Rattle.triangle.proofs.Sizes.{mass-size}
-use Rattle.element.specs.Asks.{ElementCard, EdgeCard}
-use Rattle.element.proofs.Ranges.{placed-of, sized-of, step-of}
+use Rattle.laws.proofs.Places.{squareP, squareA}
+use Rattle.triangle.specs.Asks.{Placed}
+use Rattle.square.proofs.Held.{holds-mass}
+use Rattle.element.specs.Asks.{FlatCard, ElementCard, conducted, Conducts, EdgeCard}
+use Rattle.element.proofs.Ranges.{placed-of}
 use Rattle.part.specs.Forms.{cornersOf, firstNodes, doesBy, does, baseBy, baseOf}
-use Rattle.part.specs.Asks as asks
 use Rattle.part.specs.Asks.{Card, Full}
 use Rattle.part.specs.declared.Does.{Does}
 use Rattle.part.specs.declared.Corners.{Corners}
-use Rattle.part.proofs.Parts.{As, filmOver, Over, as-kind, as-part, few-by, length-first, few-corners, conducting, naming, filming, stored-size, film-size, conductance-small, square-small}
+use Rattle.part.proofs.Parts.{As, filmOver, Over, as-kind, as-part, few-by, length-first, face-shape, first, corner-count, four-at-most, small-corners, heating, conducting, naming, filming, held-P, film-size}
 
-same-first : (n : ℕ) {a b c a′ b′ c′ : ℕ} → (0 < n → a ≡ a′) → (1 < n → b ≡ b′) → (2 < n → c ≡ c′) → take n (a ∷ b ∷ c ∷ []) ≡ take n (a′ ∷ b′ ∷ c′ ∷ [])
-same-first zero p q r = refl
-same-first (suc zero) p q r = λ i. p (omega arith) i ∷ []
-same-first (suc (suc zero)) p q r = λ i. p (omega arith) i ∷ q (omega arith) i ∷ []
-same-first (suc (suc (suc n))) p q r = λ i. p (omega arith) i ∷ q (omega arith) i ∷ r (omega arith) i ∷ take n []
+same-first : (n : ℕ) {a b c d a′ b′ c′ d′ : ℕ} → (0 < n → a ≡ a′) → (1 < n → b ≡ b′) → (2 < n → c ≡ c′) → (3 < n → d ≡ d′) → take n (a ∷ b ∷ c ∷ d ∷ []) ≡ take n (a′ ∷ b′ ∷ c′ ∷ d′ ∷ [])
+same-first zero p q r s = refl
+same-first (suc zero) p q r s = λ i. p (omega arith) i ∷ []
+same-first (suc (suc zero)) p q r s = λ i. p (omega arith) i ∷ q (omega arith) i ∷ []
+same-first (suc (suc (suc zero))) p q r s = λ i. p (omega arith) i ∷ q (omega arith) i ∷ r (omega arith) i ∷ []
+same-first (suc (suc (suc (suc n)))) p q r s = λ i. p (omega arith) i ∷ q (omega arith) i ∷ r (omega arith) i ∷ s (omega arith) i ∷ take n []
 
 -- ---- stirs
 
@@ -62,23 +59,11 @@ module _ (t card : List ℕ) (it : Does) (e : it ≡ does card) where
   pub base-is : {b : Bool} → it .named ≡ b → cond b (rowAt t (namedRow t card)) card ≡ baseOf t card
   base-is q = ap (λ (b : Bool). cond b (rowAt t (namedRow t card)) card) (sym (told (λ d. d .named) q))
 
-  few : (it .corners ≤ 3) × (it .value ≤ 3)
-  few = subst (λ (d : Does). (d .corners ≤ 3) × (d .value ≤ 3)) (sym e) (few-by (kindAt card))
-
-  pub few-corners-here : it .corners ≤ 3
-  few-corners-here = few .0
+  few : (it .corners ≤ 4) × (it .value ≤ 3)
+  few = subst (λ (d : Does). (d .corners ≤ 4) × (d .value ≤ 3)) (sym e) (few-by (kindAt card))
 
   pub in-card : (k : ℕ) → k ≤ 2 → it .value + k < 6
   in-card k l = omega (arith, few .1)
-
-  -- read one by one
-  pub corners-read : {x : List ℕ} {a b c : Node} → x ≡ baseOf t card
-      → (0 < it .corners → a .0 ≡ getD x 1 0) → (1 < it .corners → b .0 ≡ getD x 2 0) → (2 < it .corners → c .0 ≡ getD x 3 0)
-      → let r : Corners = record { count = it .corners; nodes = a ∷ b ∷ c ∷ [] } in Full r × (cornersOf r ≡ partFor t card .corners)
-  corners-read {x} b p q r =
-      let is = same-first (it .corners) p q r in
-      let base : x ≡ baseBy t card it = b ∙ ap (baseBy t card) (sym e) in
-      (record { few = few .0; full = ap length is ∙ length-first (it .corners) x (few .0) }, is ∙ ap (firstNodes (it .corners)) base ∙ sym (part-is .corners))
 
   module _ (h : Card t card) where
     pub is-named : it .named ≡ true → In 1 (elements t) (getD card 1 0)
@@ -87,32 +72,14 @@ module _ (t card : List ℕ) (it : Does) (e : it ≡ does card) where
     pub few-named : it .named ≡ true → getD card 1 0 < 256
     few-named q = omega (arith, is-named q, h .deck .someE)
 
-    pub corner-asks : {x : List ℕ} (k : ℕ) → k < 3 → x ≡ baseOf t card → (k < 3) × (k < it .corners → getD x (k + 1) 0 < 256)
-    corner-asks {x} k l b = (l, λ m. subst (λ (z : List ℕ). getD z (k + 1) 0 < 256) (sym b) (few-corners t card h k (subst (λ (d : Does). k < d .corners) e m)))
-
     pub is-element : it .conducts ≡ true → ElementCard t card
     is-element q = conducting t card h (told (λ d. d .conducts) q)
-
-    pub placed-here : {b : Body} → it .conducts ≡ true → b ≡ bodyOf t card → Placed (b .shape)
-    placed-here q p = subst (λ (z : Body). Placed (z .shape)) (sym p) (placed-of t card (is-element q))
-
-    pub sized-here : {b : Body} → it .conducts ≡ true → b ≡ bodyOf t card → Sized b
-    sized-here q p = subst Sized (sym p) (sized-of t card (is-element q))
-
-    pub solid-here : {b : Body} {s : ℕ} → it .conducts ≡ true → b ≡ bodyOf t card → s ≡ S (b .shape) → asks.Solid t card → Solid b s
-    solid-here {b} q p z k = record { sized = sized-here q p; is = z; some = rw z (area p) }
-      where
-        area : {b : Body} → b ≡ bodyOf t card → 1 ≤ S (b .shape)
-        area p = subst (λ (z : Body). 1 ≤ S (z .shape)) (sym p) (unfold elementOf in k .some (told (λ d. d .conducts) q))
 
     pub stores-none : it .conducts ≡ false → (0 ≡ partFor t card .capacity) × (0 ≤ 2 ^ 37)
     stores-none q = (sym (as-part t card .capacity ∙ ap (λ (b : Bool). cond b (elementOf t card .stored) 0) (told (λ d. d .conducts) q)), omega arith)
 
-    pub stores : {r ms : ℕ} {b : Body} → it .conducts ≡ true → b ≡ bodyOf t card → ms ≡ stepOf t → r ≡ u ms b → (r ≡ partFor t card .capacity) × (r ≤ 2 ^ 37)
-    stores {r} q p m z = (is, rw is (stored-size t card h))
-      where
-        is : r ≡ partFor t card .capacity
-        is = unfold elementOf in (z ∙ (λ d. u (m d) (p d)) ∙ sym (as-part t card .capacity ∙ ap (λ (b : Bool). cond b (elementOf t card .stored) 0) (told (λ d. d .conducts) q)))
+    pub stores : {r : ℕ} → it .conducts ≡ true → r ≡ elementOf t card .stored → r ≡ partFor t card .capacity
+    stores q z = z ∙ sym (as-part t card .capacity ∙ ap (λ (b : Bool). cond b (elementOf t card .stored) 0) (told (λ d. d .conducts) q))
 
     film-by : {b : Bool} → it .films ≡ b → partFor t card .film ≡ cond b (filmOver t card it (eqb (it .corners) 2)) 0
     film-by q = part-is .film ∙ ap (λ (b : Bool). cond b (filmOver t card it (eqb (it .corners) 2)) 0) q
@@ -138,10 +105,10 @@ module _ (t card : List ℕ) (it : Does) (e : it ≡ does card) where
         pub edge-here : EdgeCard t card
         edge-here = over along .0
 
-        pub edge-asks : {s : Shape} → s ≡ edgeShape t card → Ranges (getD card (it .value) 0) (getD card (it .value + 2) 0) s
+        pub edge-asks : {s : Space} → s ≡ edgeSpace t card → Ranges (getD card (it .value) 0) (getD card (it .value + 2) 0) s
         edge-asks p = subst (Ranges (getD card (it .value) 0) (getD card (it .value + 2) 0)) (sym p) (over along .1)
 
-        pub edge-films : {r : ℕ} {s : Shape} → s ≡ edgeShape t card → r ≡ edgeFilm (getD card (it .value) 0) (getD card (it .value + 2) 0) s → (r ≡ partFor t card .film) × (r ≤ 349500)
+        pub edge-films : {r : ℕ} {s : Space} → s ≡ edgeSpace t card → r ≡ edgeFilm (getD card (it .value) 0) (getD card (it .value + 2) 0) s → (r ≡ partFor t card .film) × (r ≤ 349500)
         edge-films p z = film-is along (z ∙ ap (edgeFilm (getD card (it .value) 0) (getD card (it .value + 2) 0)) p)
 
       -- over a face
@@ -152,66 +119,91 @@ module _ (t card : List ℕ) (it : Does) (e : it ≡ does card) where
         base-here : x ≡ baseBy t card it
         base-here = b ∙ ap (baseBy t card) (sym e)
 
-        pub face-here : ElementCard t x
-        face-here = subst (ElementCard t) (sym base-here) (over face .0)
+        pub face-here : FlatCard t x
+        face-here = subst (FlatCard t) (sym base-here) (over face .0)
 
-        pub face-asks : {s : Shape} → s ≡ elementOf t x .shape → Placed s × (getD card (it .value) 0 ≤ 100000)
-        unfolding elementOf
+        pub face-asks : {s : Shape} → s ≡ bodyOf t x .shape → Placed s × (getD card (it .value) 0 ≤ 100000)
         face-asks p = (subst Placed (sym p) (placed-of t x face-here), over face .1)
 
-        pub face-films : {r : ℕ} {s : Shape} → s ≡ elementOf t x .shape → r ≡ faceFilm (getD card (it .value) 0) s → (r ≡ partFor t card .film) × (r ≤ 349500)
-        face-films p z = film-is face (z ∙ ap (faceFilm (getD card (it .value) 0)) (p ∙ ap (λ (z : List ℕ). elementOf t z .shape) base-here))
+        pub face-films : {r : ℕ} {s : Shape} → s ≡ bodyOf t x .shape → r ≡ faceFilm (getD card (it .value) 0) s → (r ≡ partFor t card .film) × (r ≤ 349500)
+        face-films p z = film-is face (z ∙ ap (faceFilm (getD card (it .value) 0)) (p ∙ sym (face-shape t x (face-here .kind)) ∙ ap (λ (z : List ℕ). elementOf t z .shape) base-here))
 
-    conducts-by : {b : Bool} → it .conducts ≡ b → (i j : ℕ) → partFor t card .conductance i j ≡ cond b (square 3 (elementOf t card .between) i j) (pos 0)
-    conducts-by q i j = as-part t card .conductance i j ∙ ap (λ (b : Bool). cond b (square 3 (elementOf t card .between) i j) (pos 0)) (told (λ d. d .conducts) q)
+    -- ---- what it conducts
+    conducts-by : {b : Bool} → it .conducts ≡ b → (i j : ℕ) → partFor t card .conductance i j ≡ cond b (square (length (elementOf t card .shape .corners)) (elementOf t card .between) i j) (pos 0)
+    conducts-by q i j = as-part t card .conductance i j ∙ ap (λ (b : Bool). cond b (square (length (elementOf t card .shape .corners)) (elementOf t card .between) i j) (pos 0)) (told (λ d. d .conducts) q)
 
-    pub conducts-none : it .conducts ≡ false → (pos 0 ∷ pos 0 ∷ pos 0 ∷ []) ∷ (pos 0 ∷ pos 0 ∷ pos 0 ∷ []) ∷ (pos 0 ∷ pos 0 ∷ pos 0 ∷ []) ∷ [] ≡ squareOf 3 (partFor t card .conductance)
-    unfolding rowsOf table
-    conducts-none q = square-ext 3 (λ i j. pos 0) (partFor t card .conductance) (λ i j k l. sym (conducts-by q i j))
+    pub conducts-none : {r : List (List ℤ)} → it .conducts ≡ false → r ≡ squareOf 4 (λ i j. pos 0) → Holds (length (partFor t card .corners)) conducted (partFor t card .conductance) r
+    conducts-none q z =
+        holds-same (holds-square (length (partFor t card .corners)) 4 0 (λ i j. pos 0) (four-at-most t card h) z (λ i j k l. omega arith)) (omega arith) (λ i j k l. sym (conducts-by q i j))
 
-    pub conducts : {r : List (List ℤ)} {b : Body} → it .conducts ≡ true → b ≡ bodyOf t card → r ≡ squareOf 3 (square 3 (pair b)) → r ≡ squareOf 3 (partFor t card .conductance)
-    unfolding elementOf
-    conducts q p z = z ∙ ap (λ (b : Body). squareOf 3 (square 3 (pair b))) p ∙ square-ext 3 _ _ (λ i j k l. sym (conducts-by q i j))
+    pub conducts : {r : List (List ℤ)} → it .conducts ≡ true → Conducts t card r → Holds (length (partFor t card .corners)) conducted (partFor t card .conductance) r
+    conducts {r} q z =
+        subst (λ (n : ℕ). Holds n conducted (partFor t card .conductance) r) (sym (ap length (as-part t card .own (told (λ d. d .conducts) q))))
+        (holds-same z (omega arith) (λ i j k l. sym (conducts-by q i j)))
 
-    load-by : {b : Bool} → it .heats ≡ b → (a : ℕ) → partFor t card .load a ≡ cond b (heatShare 3 (getD card (it .value) 0) a) (pos ((1 + it .corners) * partFor t card .film * getD card (it .value + 1) 0))
-    load-by q a = part-is .load a ∙ ap (λ (b : Bool). cond b (heatShare 3 (getD card (it .value) 0) a) (pos ((1 + it .corners) * partFor t card .film * getD card (it .value + 1) 0))) q
+    -- ---- loads
+    module _ {x : List ℕ} {n : ℕ} (b : x ≡ baseOf t card) (c : n ≡ does x .corners) where
+      counted : n ≡ length (partFor t card .corners)
+      counted = c ∙ ap (λ (z : List ℕ). does z .corners) b ∙ sym (corner-count t card h)
 
-    pub heats : it .heats ≡ true → (a : ℕ) → heatShare 3 (getD card (it .value) 0) a ≡ partFor t card .load a
-    heats q a = sym (load-by q a)
+      pub four-here : n ≤ 4
+      four-here = omega (arith, counted, four-at-most t card h)
 
-    pub loads : {r : ℕ} → it .heats ≡ false → r ≡ partFor t card .film → (a : ℕ) → pos ((1 + it .corners) * r * getD card (it .value + 1) 0) ≡ partFor t card .load a
-    loads q z a = ap (λ (w : ℕ). pos ((1 + it .corners) * w * getD card (it .value + 1) 0)) z ∙ sym (load-by q a)
+      pub some-here : it .heats ≡ true → (1 ≤ n) × (n ≤ 4)
+      some-here q = (omega (arith, counted, heating t card h (told (λ d. d .heats) q)), four-here)
 
--- ---- a square in A
+      load-by : {k : Bool} → it .heats ≡ k → (a : ℕ) → partFor t card .load a ≡ cond k (heatShare n (getD card (it .value) 0) a) (pos ((1 + n) * partFor t card .film * getD card (it .value + 1) 0))
+      load-by q a =
+          part-is .load a
+          ∙ (λ i. cond (q i) (heatShare (sym counted i) (getD card (it .value) 0) a) (pos ((1 + sym counted i) * partFor t card .film * getD card (it .value + 1) 0)))
 
-module _ (t card : List ℕ) (h : Card t card) (s : asks.Solid t card) {k m w : List (List ℤ)} {c f : ℕ}
-    (ek : k ≡ squareOf 3 (partFor t card .conductance)) (ec : c ≡ partFor t card .capacity) (em : m ≡ squareOf 3 (mass c)) (ef : f ≡ partFor t card .film) (ew : w ≡ squareOf 3 (mass f)) where
-  mass-small : (v : ℕ) {q : List (List ℤ)} → v ≤ 2 ^ 37 → q ≡ squareOf 3 (mass v) → Small (2 ^ 60) q
-  mass-small v l e = subst (Small (2 ^ 60)) (sym e) (small-square 3 (2 ^ 60) (mass v) (λ i j a b. omega (arith, mass-size v i j)))
+      pub heats : it .heats ≡ true → (a : ℕ) → heatShare n (getD card (it .value) 0) a ≡ partFor t card .load a
+      heats q a = sym (load-by q a)
 
-  pub asks-first : Small (2 ^ 60) k × Small (2 ^ 60) m
-  asks-first = (
-    subst (Small (2 ^ 60)) (sym ek) (small-square 3 (2 ^ 60) (partFor t card .conductance) (λ i j a b. omega (arith, conductance-small t card h s i j a b))),
-    mass-small c (omega (arith, ec, stored-size t card h)) em,
-  )
+      pub loads : {r : ℕ} → it .heats ≡ false → r ≡ partFor t card .film → (a : ℕ) → pos ((1 + n) * r * getD card (it .value + 1) 0) ≡ partFor t card .load a
+      loads q z a = ap (λ (w : ℕ). pos ((1 + n) * w * getD card (it .value + 1) 0)) z ∙ sym (load-by q a)
 
-  number : {q : List (List ℤ)} (g : ℕ → ℕ → ℤ) → q ≡ squareOf 3 g → (i j : ℕ) → i < 3 → j < 3 → at q i j ≡ g i j
-  number g e i j a b = ap (λ (z : List (List ℤ)). at z i j) e ∙ square-at 3 g i j a b
+-- ---- corners, read one by one
 
-  both : (i j : ℕ) → i < 3 → j < 3 → at k i j +ℤ at m i j ≡ partFor t card .conductance i j +ℤ mass (partFor t card .capacity) i j
-  both i j a b = λ d. number (partFor t card .conductance) ek i j a b d +ℤ (number (mass c) em i j a b ∙ ap (λ (v : ℕ). mass v i j) ec) d
+module _ (t card : List ℕ) (h : Card t card) {x : List ℕ} {n : ℕ} (b : x ≡ baseOf t card) (c : n ≡ does x .corners) where
+  base-count : n ≡ does (baseOf t card) .corners
+  base-count = c ∙ ap (λ (z : List ℕ). does z .corners) b
 
-  pub asks-second : {q : List (List ℤ)} → q ≡ squareOf 3 (λ i j. at k i j +ℤ at m i j) → Small (2 ^ 60) q × Small (2 ^ 60) w
-  asks-second e = (
-    subst (Small (2 ^ 60)) (sym e) (small-square 3 (2 ^ 60) (λ i j. at k i j +ℤ at m i j) size),
-    mass-small f (omega (arith, ef, film-size t card h)) ew,
-  )
-    where
-      size : (i j : ℕ) → i < 3 → j < 3 → natAbs (at k i j +ℤ at m i j) ≤ 2 ^ 60
-      size i j a b = rw (both i j a b) (omega (arith, two (partFor t card .conductance i j) (mass (partFor t card .capacity) i j), conductance-small t card h s i j a b, mass-size (partFor t card .capacity) i j, stored-size t card h))
-        where
-          two : (x y : ℤ) → natAbs (x +ℤ y) ≤ natAbs x + natAbs y
-          two x y = natAbs-plus x y
+  pub corner-asks : (k : ℕ) → k < 4 → (k < 4) × (k < n → getD x (k + 1) 0 < 256)
+  corner-asks k l = (l, λ m. subst (λ (z : List ℕ). getD z (k + 1) 0 < 256) (sym b) (small-corners t card h k (omega (arith, base-count))))
 
-  pub in-A : {q r : List (List ℤ)} → q ≡ squareOf 3 (λ i j. at k i j +ℤ at m i j) → r ≡ squareOf 3 (λ i j. at q i j +ℤ at w i j) → r ≡ squareOf 3 (squareA (partFor t card))
-  in-A e g = g ∙ square-ext 3 _ _ (λ i j a b. λ d. (number (λ i j. at k i j +ℤ at m i j) e i j a b ∙ both i j a b) d +ℤ (number (mass f) ew i j a b ∙ ap (λ (v : ℕ). mass v i j) ef) d)
+  pub corners-read : {p q r s : Node} → (0 < n → p .0 ≡ getD x 1 0) → (1 < n → q .0 ≡ getD x 2 0) → (2 < n → r .0 ≡ getD x 3 0) → (3 < n → s .0 ≡ getD x 4 0)
+      → let k : Corners = record { count = n; nodes = p ∷ q ∷ r ∷ s ∷ [] } in Full k × (cornersOf k ≡ partFor t card .corners)
+  corners-read e f g k =
+      let is = same-first n e f g k in
+      let few : n ≤ 4 = omega (arith, c, few-by (kindAt x)) in
+      (record { few = few; full = ap length is ∙ length-first n x few }, is ∙ (λ i. firstNodes (base-count i) (b i)) ∙ sym (first t card h .is))
+
+-- ---- squares
+
+module _ (t card : List ℕ) (h : Card t card) where
+  abbrev n : ℕ
+  n = length (partFor t card .corners)
+
+  abbrev InP : List (List ℤ) → Type 0
+  InP m = m ≡ squareOf 4 (squareP (partFor t card))
+
+  pub in-P : {c : ℕ} {m : List (List ℤ)} → c ≡ partFor t card .capacity → m ≡ squareOf 4 (mass c) → InP m
+  in-P ec e = e ∙ ap (λ (v : ℕ). squareOf 4 (mass v)) ec
+
+  module _ {k m w q : List (List ℤ)} {f : ℕ} (hk : Holds n conducted (partFor t card .conductance) k) (hm : InP m)
+      (ef : f ≡ partFor t card .film) (lf : f ≤ 349500) (ew : w ≡ squareOf 4 (mass f)) (eq : q ≡ squareOf 4 (λ i j. at k i j +ℤ at m i j)) where
+    film-held : Holds n (2 ^ 20) (mass (partFor t card .film)) w
+    film-held = subst (λ (v : ℕ). Holds n (2 ^ 20) (mass v) w) ef (holds-mass n f (2 ^ 20) (four-at-most t card h) (omega arith) ew)
+
+    within : Holds n (conducted + 2 ^ 38) (λ i j. partFor t card .conductance i j +ℤ squareP (partFor t card) i j) q
+    within = holds-plus 4 (four-at-most t card h) hk (held-P t card h hm) eq
+
+    pub asks-second : Small (2 ^ 60) q × Small (2 ^ 60) w
+    asks-second = (record { each = λ i j. omega (arith, within .small .each i j) }, record { each = λ i j. omega (arith, film-held .small .each i j) })
+
+    pub in-A : {r : List (List ℤ)} → r ≡ squareOf 4 (λ i j. at q i j +ℤ at w i j) → Holds n (2 ^ 57) (squareA (partFor t card)) r
+    in-A e = holds-same (holds-plus 4 (four-at-most t card h) within film-held e) (omega arith) (λ i j a b. refl)
+
+  pub asks-first : {k m : List (List ℤ)} → Holds n conducted (partFor t card .conductance) k → InP m → Small (2 ^ 60) k × Small (2 ^ 60) m
+  asks-first hk hm = (record { each = λ i j. omega (arith, hk .small .each i j) }, record { each = λ i j. omega (arith, held-P t card h hm .small .each i j) })

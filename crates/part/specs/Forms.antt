@@ -7,7 +7,7 @@ use Rattle.paper.specs.Kinds.{kindAt}
 use Rattle.paper.specs.Cards.{rowAt}
 use Rattle.paper.specs.Parts.{namedRow}
 use Rattle.paper.specs.declared.Kind.{Kind}
-use Rattle.paper.specs.declared.Kind.the-variants.{D, N, M, E, H, F, G, T, Z, Other}
+use Rattle.paper.specs.declared.Kind.the-variants.{D, N, M, E, «V», H, F, G, T, Z, Other}
 use Rattle.triangle.specs.Forms.{numbers}
 use Rattle.part.specs.declared.Corners.{Corners}
 use Rattle.part.specs.declared.Does.{Does}
@@ -17,7 +17,7 @@ cornersOf c = take (c .count) (numbers (c .nodes))
 
 -- the first so many node numbers of a card
 abbrev pub firstNodes : ℕ → List ℕ → List ℕ
-firstNodes n card = take n (getD card 1 0 ∷ getD card 2 0 ∷ getD card 3 0 ∷ [])
+firstNodes n card = take n (getD card 1 0 ∷ getD card 2 0 ∷ getD card 3 0 ∷ getD card 4 0 ∷ [])
 
 abbrev pub line : ℕ → Bool → Bool → Bool → Bool → ℕ → Does
 line corners named conducts films heats value = record { corners = corners; named = named; conducts = conducts; films = films; heats = heats; value = value }
@@ -30,8 +30,9 @@ doesBy D = none
 doesBy N = none
 doesBy M = none
 doesBy E = line 3 false true false false 0
-doesBy H = line 3 true false false true 2
-doesBy F = line 3 true false true false 2
+doesBy «V» = line 4 false true false false 0
+doesBy H = line 0 true false false true 2
+doesBy F = line 0 true false true false 2
 doesBy G = line 2 false false true false 3
 doesBy T = none
 doesBy Z = none

@@ -5,25 +5,25 @@ use paper::Ticks;
 ghost use mathlib.Core.Path.{_≡_};
 ghost use mathlib.Core.Bool.{cond};
 ghost use mathlib.Core.List.{List};
-ghost use Prim.Native.Nat.{ℕ, _+_, _*_, _-_, _/_, _^_, _≤_, _<_, min};
+ghost use Prim.Native.Nat.{ℕ, _+_, _*_, _-_, _^_, _≤_, _<_, min};
 ghost use lib.Dec.{ltb};
 ghost use lib.IntN.{pos};
-ghost use lib.ListN.{getD};
-ghost use Rattle.whole.specs.Squares.{squareOf};
+ghost use lib.ListN.{length, getD};
+ghost use Rattle.whole.specs.Squares.{squareOf, Holds};
 ghost use Rattle.paper.specs.Kinds.{kindOf};
 ghost use Rattle.paper.specs.Parts.{heatShare, partOf, partFor, least, leastRow};
-ghost use Rattle.laws.proofs.Places.{squareA};
-ghost use Rattle.triangle.specs.Forms.{asShape};
-ghost use Rattle.part.specs.Forms.{cornersOf, line, doesBy, baseOf};
+ghost use Rattle.laws.proofs.Places.{squareP, squareA};
+ghost use Rattle.element.specs.Asks.{conducted};
+ghost use Rattle.part.specs.Forms.{cornersOf, line, doesBy, does, baseOf};
 ghost use Rattle.part.specs.Asks.{Card, Solid, Full};
 
 // The corners of a card's part: the first so many of these.
 pub struct Corners {
     pub count: usize,
-    pub nodes: [Node; 3],
+    pub nodes: [Node; 4],
 }
 
-// How many corners a kind has, whether they are those of the element that it names, and what it does over them. Two are an edge.
+// How many corners a kind's fields name, whether it has those of the element that it names, and what it does over them. Two are an edge.
 pub struct Does {
     pub corners: usize,
     pub named: bool,
@@ -58,8 +58,9 @@ fn by_kind(k: Kind) -> Does
         Kind::N => line(0, false, false, false, false, 0),
         Kind::M => line(0, false, false, false, false, 0),
         Kind::E => line(3, false, true, false, false, 0),
-        Kind::H => line(3, true, false, false, true, 2),
-        Kind::F => line(3, true, false, true, false, 2),
+        Kind::V => line(4, false, true, false, false, 0),
+        Kind::H => line(0, true, false, false, true, 2),
+        Kind::F => line(0, true, false, true, false, 2),
         Kind::G => line(2, false, false, true, false, 3),
         Kind::T => line(0, false, false, false, false, 0),
         Kind::Z => line(0, false, false, false, false, 0),
@@ -96,9 +97,17 @@ fn base(table: &[u32], card: [u32; 6]) -> [u32; 6]
     card
 }
 
+// How many.
+fn count(base: [u32; 6]) -> usize
+    ensures { λ r. ⌜ r ≡ does base .corners ⌝ }
+{
+    let it = by_letter(base[0]);
+    it.corners
+}
+
 // Corner k of so many, and no node past the last.
 fn corner(card: [u32; 6], count: usize, k: usize) -> Node
-    requires { ⌜ (k < 3) × (k < count → getD card (k + 1) 0 < 256) ⌝ }
+    requires { ⌜ (k < 4) × (k < count → getD card (k + 1) 0 < 256) ⌝ }
     ensures { λ r. ⌜ (k < count → r .0 ≡ getD card (k + 1) 0) ⌝ }
 {
     if count <= k {
@@ -111,12 +120,16 @@ pub fn corners_of(table: &[u32], card: [u32; 6]) -> Corners
     requires { ⌜ Card (now table) card ⌝ }
     ensures { λ r. ⌜ Full r × (cornersOf r ≡ partFor (now (table .entry)) card .corners) ⌝ }
 {
-    let it = by_letter(card[0]);
-    let n = it.corners;
     let b = base(table, card);
+    let n = count(b);
     Corners {
         count: n,
-        nodes: [corner(b, n, 0), corner(b, n, 1), corner(b, n, 2)],
+        nodes: [
+            corner(b, n, 0),
+            corner(b, n, 1),
+            corner(b, n, 2),
+            corner(b, n, 3),
+        ],
     }
 }
 
@@ -143,8 +156,8 @@ pub fn least_row(c: Corners) -> usize
 
 // ---- what it stores, conducts and films
 
-// Its capacity, which is all of it that P has.
-pub fn stored(table: &[u32], card: [u32; 6]) -> u64
+// Its capacity.
+fn stored(table: &[u32], card: [u32; 6]) -> u64
     requires { ⌜ Card (now table) card ⌝ }
     ensures { λ r. ⌜ (r ≡ partFor (now (table .entry)) card .capacity) × (r ≤ 2 ^ 37) ⌝ }
 {
@@ -152,12 +165,7 @@ pub fn stored(table: &[u32], card: [u32; 6]) -> u64
     if !it.conducts {
         return 0;
     }
-    let e = element::triangle_of(table, card);
-    triangle::capacity(
-        e,
-        triangle::twice_area(e.shape),
-        element::field(table, 0, 1),
-    )
+    element::stored(table, card)
 }
 
 fn film(table: &[u32], card: [u32; 6]) -> u64
@@ -175,28 +183,32 @@ fn film(table: &[u32], card: [u32; 6]) -> u64
     triangle::film(card[at], element::shape_of(table, base(table, card)))
 }
 
-fn conductance(table: &[u32], card: [u32; 6]) -> [[i64; 3]; 3]
+fn conductance(table: &[u32], card: [u32; 6]) -> [[i64; 4]; 4]
     requires { ⌜ Card (now table) card × Solid (now table) card ⌝ }
-    ensures { λ r. ⌜ r ≡ squareOf 3 (partFor (now (table .entry)) card .conductance) ⌝ }
+    ensures { λ r. ⌜ Holds (length (partFor (now (table .entry)) card .corners)) conducted (partFor (now (table .entry)) card .conductance) r ⌝ }
 {
     let it = by_letter(card[0]);
     if !it.conducts {
-        return [[0, 0, 0], [0, 0, 0], [0, 0, 0]];
+        return [[0, 0, 0, 0], [0, 0, 0, 0], [0, 0, 0, 0], [0, 0, 0, 0]];
     }
-    let e = element::triangle_of(table, card);
-    triangle::conductance(e, triangle::twice_area(e.shape))
+    element::conductance(table, card)
+}
+
+// Its square in P: what it stores.
+pub fn square_p(table: &[u32], card: [u32; 6]) -> [[i64; 4]; 4]
+    requires { ⌜ Card (now table) card ⌝ }
+    ensures { λ r. ⌜ r ≡ squareOf 4 (squareP (partFor (now (table .entry)) card)) ⌝ }
+{
+    square::mass(stored(table, card))
 }
 
 // Its square in A: all three.
-pub fn square_a(table: &[u32], card: [u32; 6]) -> [[i64; 3]; 3]
+pub fn square_a(table: &[u32], card: [u32; 6]) -> [[i64; 4]; 4]
     requires { ⌜ Card (now table) card × Solid (now table) card ⌝ }
-    ensures { λ r. ⌜ r ≡ squareOf 3 (squareA (partFor (now (table .entry)) card)) ⌝ }
+    ensures { λ r. ⌜ Holds (length (partFor (now (table .entry)) card .corners)) (2 ^ 57) (squareA (partFor (now (table .entry)) card)) r ⌝ }
 {
-    let within = triangle::plus(
-        conductance(table, card),
-        triangle::mass(stored(table, card)),
-    );
-    triangle::plus(within, triangle::mass(film(table, card)))
+    let within = square::plus(conductance(table, card), square_p(table, card));
+    square::plus(within, square::mass(film(table, card)))
 }
 
 // ---- loads
@@ -212,38 +224,42 @@ fn dealt(part: u64, rest: u64, corner: u64) -> u64
     part
 }
 
-// A heat's shares: thirds, and what is left over to the first corners.
-fn heat_shares(heat: u32) -> [u64; 3]
-    ensures { λ r. ⌜ ((a : ℕ) → a < 3 → pos (getD r a 0) ≡ heatShare 3 heat a) ⌝ }
+// A heat's shares: equal parts, and what is left over to the first corners.
+fn heat_shares(corners: usize, heat: u32) -> [u64; 4]
+    requires { ⌜ (1 ≤ corners) × (corners ≤ 4) ⌝ }
+    ensures { λ r. ⌜ ((a : ℕ) → a < 4 → pos (getD r a 0) ≡ heatShare corners heat a) ⌝ }
 {
     let all = Ticks::KELVIN as u64 * heat as u64;
-    let part = all / 3;
-    let rest = all % 3;
+    let n = corners as u64;
+    let part = all / n;
+    let rest = all % n;
     [
         dealt(part, rest, 0),
         dealt(part, rest, 1),
         dealt(part, rest, 2),
+        dealt(part, rest, 3),
     ]
 }
 
 // A corner's row of the film, which sums to 4 of it over a face and to 3 along an edge, times the ambient.
 fn film_load(corners: usize, film: u64, ambient: Ticks) -> u64
-    requires { ⌜ (corners ≤ 3) × (film ≤ 349500) ⌝ }
+    requires { ⌜ (corners ≤ 4) × (film ≤ 349500) ⌝ }
     ensures { λ r. ⌜ r ≡ (1 + corners) * film * ambient .0 ⌝ }
 {
     (1 + corners as u64) * film * ambient.0 as u64
 }
 
 // The share of each corner.
-pub fn shares(table: &[u32], card: [u32; 6]) -> [u64; 3]
+pub fn shares(table: &[u32], card: [u32; 6]) -> [u64; 4]
     requires { ⌜ Card (now table) card ⌝ }
-    ensures { λ r. ⌜ ((a : ℕ) → a < 3 → pos (getD r a 0) ≡ partFor (now (table .entry)) card .load a) ⌝ }
+    ensures { λ r. ⌜ ((a : ℕ) → a < 4 → pos (getD r a 0) ≡ partFor (now (table .entry)) card .load a) ⌝ }
 {
     let it = by_letter(card[0]);
     let at = it.value;
+    let n = count(base(table, card));
     if it.heats {
-        return heat_shares(card[at]);
+        return heat_shares(n, card[at]);
     }
-    let v = film_load(it.corners, film(table, card), Ticks(card[at + 1]));
-    [v, v, v]
+    let v = film_load(n, film(table, card), Ticks(card[at + 1]));
+    [v, v, v, v]
 }

@@ -3,11 +3,11 @@
 use mathlib.Core.Path.{_≡_}
 use Prim.Native.Nat.{ℕ, _+_, _-_, _*_, _≤_, _<_}
 use Rattle.whole.specs.Largest.{squared}
-use Rattle.paper.specs.Corners.{Shape}
+use Rattle.paper.specs.Tetrahedron.{Space}
 use Rattle.paper.specs.Edge.{length², edgeFilm}
 use Rattle.laws.proofs.Edge.{Ranges, g-nearest, nearest-is}
 
-module _ (film t : ℕ) (s : Shape) (r : Ranges film t s) where
+module _ (film t : ℕ) (s : Space) (r : Ranges film t s) where
   pub no-less : squared ((2 * edgeFilm film t s - 1) * 60000000) ≤ squared (film * t) * length² s
   no-less = g-nearest r .low
 

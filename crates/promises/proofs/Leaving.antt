@@ -5,9 +5,9 @@ use mathlib.Core.List.{List, []}
 use Prim.Native.Nat.{ℕ, _+_, _*_, _-_}
 use lib.IntN.{pos}
 use lib.ListN.{length, take, drop, replicate}
-use Rattle.paper.specs.Cards.{cards, countsOf, rows, stepsOf}
+use Rattle.paper.specs.Cards.{cards, rows, stepsOf}
 use Rattle.paper.specs.Replacing.{stirs}
-use Rattle.paper.specs.Calls.{lastCard, readCall, writeCall, Lent, long, worked, asLent, buildCall, replaceCall, stepCall}
+use Rattle.paper.specs.Calls.{countsIn, readCall, writeCall, Lent, long, worked, asLent, buildCall, replaceCall, stepCall}
 use Rattle.paper.specs.Replacements.{Beyond}
 use Rattle.paper.specs.Running.{runCall, Untouched, Stopped}
 use Rattle.paper.specs.declared.Answer.the-variants.{Refused}
@@ -49,7 +49,7 @@ run-refused = runs.run-stopped
 -- ---- accepted or refused
 
 -- no number past the deck's cards is written, no byte past their text
-pub read-beyond : (bytes table : List ℕ) → let room = (cards (countsOf (lastCard bytes)) + 1) * 6 in drop room (readCall bytes table .table) ≡ drop room table
+pub read-beyond : (bytes table : List ℕ) → let room = (cards (countsIn bytes) + 1) * 6 in drop room (readCall bytes table .table) ≡ drop room table
 read-beyond = leaves.read-beyond
 
 pub write-beyond : (table bytes : List ℕ) → drop (rows table * 42) (writeCall table bytes .bytes) ≡ drop (rows table * 42) bytes

@@ -8,7 +8,6 @@ use lib.IntN.{ℤ, pos, natAbs, _-ℤ_}
 use lib.ListN.{length, getD, take, drop, replicate, length-drop}
 use lib.Seq.{length-take-le, getD-take, drop-drop}
 use Rattle.whole.specs.Packed.{tri, matrix, cell, entry}
-use Rattle.whole.specs.Squares.{at, squareOf}
 use Rattle.whole.proofs.Sums.{any-ext, any-each, any-none}
 use Rattle.whole.proofs.Packed.{tri-below, tri-le}
 use Rattle.paper.specs.Refusals.{Outcome, refused, done, then, after, answerOf}
@@ -24,6 +23,7 @@ use Rattle.paper.specs.declared.Refusal.{Refusal}
 use Rattle.laws.proofs.Outcomes.{done-refused}
 use Rattle.laws.proofs.Refused.{OfFactor, rows-inside}
 use Rattle.laws.proofs.Places.{addSquare, squareA}
+use Rattle.whole.specs.Squares.{at, Holds}
 use Rattle.triangle.specs.Forms.{numbers}
 use Rattle.part.specs.Forms.{cornersOf}
 use Rattle.part.specs.Asks.{Full}
@@ -33,7 +33,7 @@ use Rattle.lent.proofs.Told.{light-entry}
 use Rattle.work.specs.Asks.{made, laid, added, addedFixed, Factored, Refactors}
 use Rattle.work.proofs.Redoing.{put-below, redone-length, fixed-length}
 use Rattle.change.specs.Asks.{Renews}
-use Rattle.change.proofs.Redone.{some-corners, least-is, least-low, takes-A, takes-P, added-A-is, added-P-is, small-added, redone-is}
+use Rattle.change.proofs.Redone.{some-corners, least-is, least-low, takes-moved, takes-P, added-A-is, added-P-is, small-added, redone-is}
 use Rattle.renew.specs.Asks.{storedSquare, Accepts, Open, tableOf, Renewed}
 
 none-left : (n : ℕ) (xs : List ℤ) → length xs ≤ n → drop n xs ≡ []
@@ -81,7 +81,7 @@ module _ (t : List ℕ) (p a f w : List ℤ) (row : ℕ) (new : List ℕ) (h : O
 
   -- the corners and the square, as code has them
   module _ (c : Corners) (full : Full c) (e : cornersOf c ≡ partFor t new .corners) (q : List (List ℤ))
-      (sq : q ≡ squareOf 3 (λ i j. squareA (partFor t new) i j -ℤ squareA (partFor t (rowAt t row)) i j)) where
+      (sq : Holds (length (partFor t new .corners)) (2 ^ 58) (λ i j. squareA (partFor t new) i j -ℤ squareA (partFor t (rowAt t row)) i j) q) where
     pub least-asks : Full c × (1 ≤ c .count) × (1 ≤ least (cornersOf c) (getD (cornersOf c) 0 1))
     least-asks = (full, some-corners t row new (h .renews) c full e .0, some-corners t row new (h .renews) c full e .1)
 
@@ -116,12 +116,12 @@ module _ (t : List ℕ) (p a f w : List ℤ) (row : ℕ) (new : List ℕ) (h : O
           deck = h .renews .changes .deck;
           of-a = h .of-a;
           of-w = h .of-w;
-          takes = takes-A t row new (h .renews) c full e a (h .of-a) (small-entries a (h .a-light)) q sq;
+          takes = takes-moved t row new (h .renews) c full e a (h .of-a) (small-entries a (h .a-light)) squareA q sq;
         };
         of-above = long-above;
         tame = tame-above;
         low = low;
-        small = small-added t row new (h .renews) c full e a (h .of-a) (small-entries a (h .a-light)) q sq;
+        small = small-added t row new (h .renews) c full e a (h .of-a) (small-entries a (h .a-light)) squareA q sq;
       }
 
       abbrev made-of : Outcome (List ℤ)
@@ -133,8 +133,8 @@ module _ (t : List ℕ) (p a f w : List ℤ) (row : ℕ) (new : List ℕ) (h : O
       outcome : replaced t s row new ≡ with-factor made-of
       outcome =
           redone-is t row new (h .renews) s m _ _ first-is above-room
-          (added-P-is t row new (h .renews) c full e p (h .of-p) (small-entries p (h .p-light)) (storedSquare t row new) refl)
-          (added-A-is t row new (h .renews) c full e a (h .of-a) (small-entries a (h .a-light)) q sq)
+          (added-P-is t row new (h .renews) c full e p (h .of-p) (small-entries p (h .p-light)) refl)
+          (added-A-is t row new (h .renews) c full e a (h .of-a) (small-entries a (h .a-light)) sq)
 
       ends : {o : Outcome (List ℤ)} → made-of ≡ o → replaced t s row new ≡ with-factor o
       ends is = outcome ∙ ap with-factor is
@@ -174,8 +174,8 @@ module _ (t : List ℕ) (p a f w : List ℤ) (row : ℕ) (new : List ℕ) (h : O
               changes = h .renews .changes;
               cut = omega (arith, long-x, above-room, h .of-f);
               of-below = length-take-le (length f - at-row) (drop at-row f) (omega (arith, length-drop at-row f)) ∙ omega (arith, long-x, h .of-f);
-              to-P = takes-P t row new (h .renews) c full e p (h .of-p) (small-entries p (h .p-light)) (storedSquare t row new) refl;
-              to-A = takes-A t row new (h .renews) c full e a (h .of-a) (small-entries a (h .a-light)) q sq;
+              to-P = takes-P t row new (h .renews) c full e p (h .of-p) (small-entries p (h .p-light)) refl;
+              to-A = takes-moved t row new (h .renews) c full e a (h .of-a) (small-entries a (h .a-light)) squareA q sq;
             }
 
             pub all-renewed : {t′ : List ℕ} {p′ a′ f′ w′ : List ℤ} → t′ ≡ put t row new → p′ ≡ addSquare (c .count) p (numbers (c .nodes)) (at (storedSquare t row new)) → a′ ≡ addSquare (c .count) a (numbers (c .nodes)) (at q) → f′ ≡ drop at-row x

@@ -6,7 +6,6 @@ use Prim.Native.Nat.{ℕ, _-_, _≤_}
 use lib.IntN.{ℤ, pos, _-ℤ_}
 use lib.ListN.{length, replicate}
 use Rattle.whole.specs.Packed.{matrix}
-use Rattle.whole.specs.Squares.{squareOf}
 use Rattle.paper.specs.Refusals.{Outcome, refused, done, answerOf}
 use Rattle.paper.specs.Cards.{rowAt, nodes, put}
 use Rattle.paper.specs.Parts.{partFor}
@@ -15,6 +14,7 @@ use Rattle.paper.specs.Replacing.{replaced}
 use Rattle.paper.specs.Lent.{noFactor}
 use Rattle.paper.specs.declared.Answer.{Answer}
 use Rattle.laws.proofs.Places.{squareP}
+use Rattle.whole.specs.Squares.{squareOf}
 use Rattle.triangle.specs.Forms.{numbers}
 use Rattle.part.specs.declared.Corners.{Corners}
 use Rattle.packed.specs.Asks.{Takes}
@@ -24,7 +24,7 @@ use Rattle.change.specs.Asks.{Changes, Renews}
 
 -- what a replacement adds to P, new minus old
 abbrev pub storedSquare : List ℕ → ℕ → List ℕ → List (List ℤ)
-storedSquare t row new = squareOf 3 (λ i j. squareP (partFor t new) i j -ℤ squareP (partFor t (rowAt t row)) i j)
+storedSquare t row new = squareOf 4 (λ i j. squareP (partFor t new) i j -ℤ squareP (partFor t (rowAt t row)) i j)
 
 pub record Accepts (t : List ℕ) (p a below w : List ℤ) (start row : ℕ) (new : List ℕ) (c : Corners) (q : List (List ℤ)) : Type 0 where
   pub changes : Changes t row new

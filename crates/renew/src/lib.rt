@@ -4,10 +4,10 @@ use part::Corners;
 ghost use mathlib.Core.Path.{_≡_};
 ghost use lib.IntN.{pos};
 ghost use lib.ListN.{length, replicate, drop};
-ghost use Rattle.whole.specs.Squares.{at};
 ghost use Rattle.paper.specs.Cards.{put};
 ghost use Rattle.paper.specs.Building.{slices};
 ghost use Rattle.laws.proofs.Places.{addSquare};
+ghost use Rattle.whole.specs.Squares.{at};
 ghost use Rattle.triangle.specs.Forms.{numbers};
 ghost use Rattle.renew.specs.Asks.{storedSquare, Accepts, Open, Renewed};
 
@@ -22,7 +22,7 @@ fn accept(
     row: usize,
     new: [u32; 6],
     c: Corners,
-    q: [[i64; 3]; 3],
+    q: [[i64; 4]; 4],
 )
     requires { ⌜ Accepts (now table) (now p) (now a) (now below) (now work) start row new c q ⌝ }
     ensures { λ _. ⌜ now (table .exit) ≡ put (now (table .entry)) row new ⌝ }

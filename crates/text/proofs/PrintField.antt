@@ -1,14 +1,16 @@
 -- A field's columns, printed over blanks from the last to the first.
 use mathlib.Core.Path.{_≡_, refl, sym, ap, _∙_}
+use mathlib.Core.Bool.{Bool, true, false, not, _&&_}
 use mathlib.Core.List.{List, [], _∷_, _++_, append-nil}
 use Prim.Native.Nat.{ℕ, zero, suc, _+_, _-_, _/_, _%_, _≤_, _<_}
 use native.Mathlib.Numerals.{add-one}
 use native.Mathlib.Omega.{arith}
-use borrow.Author.Tests.{lt-ltb, le-ltb, ne-eqb}
+use borrow.Author.Tests.{lt-ltb, le-ltb, eq-eqb, ne-eqb}
+use lib.Dec.{ltb, eqb}
 use lib.ListN.{length, take, drop, set, replicate, take-append-drop, drop-of-length-le}
 use lib.Seq.{take-take, take-set-le, take-suc-set}
 use Rattle.whole.proofs.Lists.{drop-set}
-use Rattle.paper.specs.Text.{digit, spaced, printed, textField}
+use Rattle.paper.specs.Text.{digit, spaced, printed}
 
 -- ---- blanks
 
@@ -60,10 +62,19 @@ printed-is out n h =
 
 -- ---- a field
 
-pub field-print : (u k n : ℕ) → k < u → printed n ≡ textField u k n
-unfolding textField
-field-print u k n h = simp (lt-ltb k u h)
+pub unfilled : (u k : ℕ) (m : Bool) → u ≤ k → false ≡ (ltb k u && m)
+unfilled u k m h = simp (le-ltb k u h)
 
-pub field-blank : (u k n : ℕ) → u ≤ k → replicate 8 32 ≡ textField u k n
-unfolding textField
-field-blank u k n h = simp (le-ltb k u h)
+pub filled-some : (u k n : ℕ) (m : Bool) → k < u → (n ≡ 0 → ⊥) → true ≡ (ltb k u && not (m && eqb n 0))
+filled-some u k n m h z = rw (lt-ltb k u h, ne-eqb n 0 z) (by m)
+  where
+    by : (m : Bool) → true ≡ not (m && false)
+    by true = refl
+    by false = refl
+
+pub filled-none : (u k n : ℕ) (m : Bool) → k < u → n ≡ 0 → not m ≡ (ltb k u && not (m && eqb n 0))
+filled-none u k n m h z = rw (lt-ltb k u h, eq-eqb n 0 z) (by m)
+  where
+    by : (m : Bool) → not m ≡ not (m && true)
+    by true = refl
+    by false = refl

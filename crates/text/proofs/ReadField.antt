@@ -11,7 +11,8 @@ use lib.ListN.{length, getD, drop, drop-of-length-le}
 use lib.Seq.{drop-cons}
 use Rattle.paper.specs.declared.Field.{Field}
 use Rattle.paper.specs.declared.Field.the-variants.{Number, Malformed}
-use Rattle.paper.specs.Text.{digits, alone, number, blank}
+use Rattle.paper.specs.Cards.{outside}
+use Rattle.paper.specs.Text.{digits, alone, number, blank, filled, blankElse}
 
 module _ (s : List ℕ) (i : ℕ) where
   pub digits-on : (v : ℕ) → i < length s → 48 ≤ getD s i 0 → getD s i 0 ≤ 57 → digits v (drop i s) ≡ digits (v * 10 + (getD s i 0 - 48)) (drop (i + 1) s)
@@ -75,6 +76,24 @@ module _ (s : List ℕ) (i : ℕ) where
   pub number-end : length s ≤ i → Malformed ≡ number (drop i s)
   unfolding number
   number-end h = rw (drop-of-length-le s {i = i} h)
+
+-- a field that may be blank
+module _ (s : List ℕ) where
+  abbrev either : Field
+  either = blankElse (blank s) (filled (number s))
+
+  pub open-blank : (v : ℕ) → blank s ≡ Number v → Number v ≡ either
+  open-blank v e = rw e
+
+  module _ (e : blank s ≡ Malformed) where
+    pub open-marred : number s ≡ Malformed → Malformed ≡ either
+    open-marred f = rw (e, f)
+
+    pub open-zero : (v : ℕ) → number s ≡ Number v → v ≡ 0 → Number outside ≡ either
+    open-zero v f z = rw (e, f) (simp (eq-eqb v 0 z))
+
+    pub open-some : (v : ℕ) → number s ≡ Number v → (v ≡ 0 → ⊥) → Number v ≡ either
+    open-some v f z = rw (e, f) (simp (ne-eqb v 0 z))
 
 pub grown : (v i d : ℕ) → v < 10 ^ i → d < 10 → v * 10 + d < 10 ^ (i + 1)
 grown v i d h l = rw (add-one i) (omega (arith, pow-suc 10 i))

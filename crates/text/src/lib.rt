@@ -1,10 +1,17 @@
 // A field's 8 columns and a card's 42 bytes, read and printed.
 use paper::Field;
+use paper::Kind;
 ghost use mathlib.Core.Path.{_≡_};
+ghost use mathlib.Core.Bool.{not, cond, _&&_};
 ghost use mathlib.Core.List.{List, [], _∷_, _++_};
 ghost use Prim.Native.Nat.{ℕ, _+_, _≤_, _<_};
+ghost use lib.Dec.{ltb, eqb};
 ghost use lib.ListN.{length, take, drop, replicate};
-ghost use Rattle.paper.specs.Text.{digits, number, blank, spaced, printed, fieldOf, fieldsFrom, cardOf, textField, textFrom, textOf};
+ghost use Rattle.paper.specs.Cards.{used, mayBlank};
+ghost use Rattle.paper.specs.Text.{digits, number, blank, filled, blankElse, spaced, printed, fieldOf, fieldsFrom, cardOf, textFrom, textOf};
+
+// What a filled 0 is read as where a field may be blank: one more than 8 columns hold, so no column has it within.
+const OUTSIDE: u32 = 100_000_000;
 
 // ---- read
 
@@ -69,27 +76,49 @@ fn blank_of(s: &[u8]) -> Field
     Field::Number(0)
 }
 
-// Field k of a card that uses u.
-fn field_of(u: usize, s: &[u8], k: usize) -> Field
-    requires { ⌜ (length (now s) ≡ 42) × (k < 5) ⌝ }
-    ensures { λ r. ⌜ r ≡ fieldOf u (now (s .entry)) k ⌝ }
+// A field that may be blank.
+fn open_of(s: &[u8]) -> Field
+    requires { ⌜ length (now s) ≤ 8 ⌝ }
+    ensures { λ r. ⌜ r ≡ blankElse (blank (now (s .entry))) (filled (number (now (s .entry)))) ⌝ }
+{
+    let b = blank_of(s);
+    let Field::Malformed = b else {
+        return b;
+    };
+    let f = number_of(s);
+    let Field::Number(v) = f else {
+        return f;
+    };
+    if v == 0 {
+        return Field::Number(OUTSIDE);
+    }
+    f
+}
+
+// Field k of a card of a kind, which uses u.
+fn field_of(solid: bool, kind: Kind, u: usize, s: &[u8], k: usize) -> Field
+    requires { ⌜ (u ≡ used kind) × (length (now s) ≡ 42) × (k < 5) ⌝ }
+    ensures { λ r. ⌜ r ≡ fieldOf solid kind (now (s .entry)) k ⌝ }
 {
     let at = 1 + k * 8;
     let end = at + 8;
-    if k < u {
-        return number_of(&s[at..end]);
+    if u <= k {
+        return blank_of(&s[at..end]);
     }
-    blank_of(&s[at..end])
+    if kinds::may_blank(solid, kind, k) {
+        return open_of(&s[at..end]);
+    }
+    number_of(&s[at..end])
 }
 
 // The five fields, into a row that has the letter; six zeros where one is malformed.
-fn fields_of(u: usize, s: &[u8], row: &mut [u32])
-    requires { ⌜ (length (now s) ≡ 42) × (length (now row) ≡ 6) ⌝ }
-    ensures { λ _. ⌜ now (row .exit) ≡ fieldsFrom u (now (s .entry)) 5 0 (now (row .entry)) ⌝ }
+fn fields_of(solid: bool, kind: Kind, u: usize, s: &[u8], row: &mut [u32])
+    requires { ⌜ (u ≡ used kind) × (length (now s) ≡ 42) × (length (now row) ≡ 6) ⌝ }
+    ensures { λ _. ⌜ now (row .exit) ≡ fieldsFrom solid kind (now (s .entry)) 5 0 (now (row .entry)) ⌝ }
 {
     let mut k = 0;
     while k < 5 {
-        let f = field_of(u, s, k);
+        let f = field_of(solid, kind, u, s, k);
         let Field::Number(v) = f else {
             kinds::row_to([0, 0, 0, 0, 0, 0], row);
             return;
@@ -101,12 +130,13 @@ fn fields_of(u: usize, s: &[u8], row: &mut [u32])
 
 // A card's bytes as its six numbers; six zeros where it is malformed. They are written where they are to stand: a card
 // returned by value is copied by wide reads, which wait for the narrow writes before them.
-pub fn card_of(s: &[u8], row: &mut [u32])
+pub fn card_of(solid: bool, s: &[u8], row: &mut [u32])
     requires { ⌜ (length (now s) ≡ 42) × (length (now row) ≡ 6) ⌝ }
-    ensures { λ _. ⌜ now (row .exit) ≡ cardOf (now (s .entry)) ⌝ }
+    ensures { λ _. ⌜ now (row .exit) ≡ cardOf solid (now (s .entry)) ⌝ }
 {
     let letter = s[0] as u32;
-    let u = kinds::used_of(kinds::kind(letter));
+    let kind = kinds::kind(letter);
+    let u = kinds::used_of(kind);
     if u == 0 {
         kinds::row_to([0, 0, 0, 0, 0, 0], row);
         return;
@@ -116,7 +146,7 @@ pub fn card_of(s: &[u8], row: &mut [u32])
         return;
     }
     kinds::row_to([letter, 0, 0, 0, 0, 0], row);
-    fields_of(u, s, row);
+    fields_of(solid, kind, u, s, row);
 }
 
 // ---- printed
@@ -157,37 +187,52 @@ fn print_to(n: u32, out: &mut [u8])
     digits_to(7, n / 10, out);
 }
 
-fn field_to(u: usize, k: usize, n: u32, out: &mut [u8])
+// Whether field k of a kind, which uses u, is printed where its number is n.
+fn is_filled(solid: bool, kind: Kind, u: usize, k: usize, n: u32) -> bool
+    requires { ⌜ k < 5 ⌝ }
+    ensures { λ r. ⌜ r ≡ (ltb k u && not (mayBlank solid kind k && eqb n 0)) ⌝ }
+{
+    if u <= k {
+        return false;
+    }
+    if n != 0 {
+        return true;
+    }
+    !kinds::may_blank(solid, kind, k)
+}
+
+fn field_to(fills: bool, n: u32, out: &mut [u8])
     requires { ⌜ length (now out) ≡ 8 ⌝ }
-    ensures { λ _. ⌜ now (out .exit) ≡ textField u k n ⌝ }
+    ensures { λ _. ⌜ now (out .exit) ≡ cond fills (printed n) (replicate 8 32) ⌝ }
 {
     blank_to(&mut out[..]);
-    if k < u {
+    if fills {
         print_to(n, &mut out[..]);
     }
 }
 
 // The five fields after the letter.
-fn fields_to(u: usize, card: &[u32], out: &mut [u8])
-    requires { ⌜ (length (now card) ≡ 6) × (length (now out) ≡ 42) ⌝ }
-    ensures { λ r. ⌜ take 41 (now (out .exit)) ≡ take 1 (now (out .entry)) ++ textFrom u (now (card .entry)) 5 0 ⌝ }
+fn fields_to(solid: bool, kind: Kind, u: usize, card: &[u32], out: &mut [u8])
+    requires { ⌜ (u ≡ used kind) × (length (now card) ≡ 6) × (length (now out) ≡ 42) ⌝ }
+    ensures { λ r. ⌜ take 41 (now (out .exit)) ≡ take 1 (now (out .entry)) ++ textFrom solid kind (now (card .entry)) 5 0 ⌝ }
 {
     let mut k = 0;
     while k < 5 {
+        let n = card[k + 1];
         let at = 1 + k * 8;
         let end = at + 8;
-        field_to(u, k, card[k + 1], &mut out[at..end]);
+        field_to(is_filled(solid, kind, u, k, n), n, &mut out[at..end]);
         k += 1;
     }
 }
 
 // A card's 42 bytes.
-pub fn card_to(card: &[u32], out: &mut [u8])
+pub fn card_to(solid: bool, card: &[u32], out: &mut [u8])
     requires { ⌜ (length (now card) ≡ 6) × (length (now out) ≡ 42) ⌝ }
-    ensures { λ r. ⌜ now (out .exit) ≡ textOf (now (card .entry)) ⌝ }
+    ensures { λ r. ⌜ now (out .exit) ≡ textOf solid (now (card .entry)) ⌝ }
 {
-    let k = kinds::kind(card[0]);
-    out[0] = kinds::about(k).letter as u8;
-    fields_to(kinds::used_of(k), card, out);
+    let kind = kinds::kind(card[0]);
+    out[0] = kinds::about(kind).letter as u8;
+    fields_to(solid, kind, kinds::used_of(kind), card, out);
     out[41] = 10;
 }

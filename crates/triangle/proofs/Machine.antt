@@ -2,8 +2,7 @@
 use mathlib.Core.Path.{_≡_, ap, _∙_}
 use mathlib.Core.List.{List}
 use Prim.Native.Nat.{ℕ, _+_, _*_, _^_, _≤_, _<_}
-use native.Mathlib.Nat.{le-refl, mul-le-mul}
-use native.Mathlib.Omega.{arith}
+use native.Mathlib.Nat.{mul-le-mul}
 use lib.Dec.{lit<}
 use lib.IntN.{ℤ, pos, negℤ, natAbs, _+ℤ_, _-ℤ_, _*ℤ_, +ℤ-idl}
 use lib.ListN.{getD}
@@ -14,7 +13,7 @@ use Rattle.whole.specs.Sums.{table}
 use Rattle.whole.specs.Packed.{cell}
 use Rattle.whole.proofs.Sums.{table-at}
 use Rattle.whole.proofs.Signs.{natAbs-neg}
-use Rattle.whole.proofs.Calc.{Is, rd, cast, num, lit, of, is, res, plus, minus, times, again}
+use Rattle.whole.proofs.Calc.{Is, rd, cast, lit, of, is, res, plus, minus, times, again}
 use Rattle.paper.specs.Corners.{Body}
 use Rattle.paper.specs.Triangle.{b, c}
 use Rattle.triangle.specs.Asks.{OnGrid, Sized}
@@ -79,17 +78,3 @@ pub diagonal-is : {x y v w : ℤ} → Is x v (2 ^ 45) → Is y w (2 ^ 45) → Is
 diagonal-is {v} {w} a b =
     let m = minus (lit (pos 0)) (again (plus a b) (lit< tt)) in
     record { eq = m .eq ∙ +ℤ-idl (negℤ (v +ℤ w)); size = rw (natAbs-neg (v +ℤ w)) (plus a b .size) }
-
--- a sum and a difference of two numbers whose sizes together fit
-module _ (x y : ℤ) (h : natAbs x + natAbs y < 2 ^ 63) where
-  x-is : Is (rd x) x (natAbs x)
-  x-is = num x (le-refl (natAbs x)) (omega arith)
-
-  y-is : Is (rd y) y (natAbs y)
-  y-is = num y (le-refl (natAbs y)) (omega arith)
-
-  pub add-is : Is (rd x +ℤ rd y) (x +ℤ y) (natAbs x + natAbs y)
-  add-is = plus x-is y-is
-
-  pub sub-is : Is (rd x -ℤ rd y) (x -ℤ y) (natAbs x + natAbs y)
-  sub-is = minus x-is y-is

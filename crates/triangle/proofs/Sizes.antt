@@ -1,17 +1,15 @@
 -- Sizes of one element's numbers, before the test of 6.
-use mathlib.Core.Bool.{Bool, true, false, cond}
 use mathlib.Core.List.{List}
 use Prim.Native.Nat.{ℕ, zero, suc, _*_, _^_, _≤_, _<_}
 use native.Mathlib.Nat.{mul-le-mul}
 use native.Mathlib.Omega.{arith}
-use lib.Dec.{eqb}
 use lib.IntN.{ℤ, pos, natAbs, _+ℤ_, _-ℤ_, _*ℤ_}
 use lib.ListN.{getD}
 use Rattle.whole.specs.Sums.{sumN}
 use Rattle.whole.proofs.Signs.{natAbs-plus, natAbs-times}
 use Rattle.whole.proofs.Linear.{apart-size}
 use Rattle.whole.proofs.Rounding.{nearest-size, nearestN-by}
-use Rattle.paper.specs.Corners.{Shape, Body, square, mass}
+use Rattle.paper.specs.Corners.{Shape, Body, square}
 use Rattle.paper.specs.Triangle.{b, c, S, pair, u, faceFilm}
 use Rattle.laws.proofs.Sizes.{square-size}
 use Rattle.laws.proofs.Weights.{S-size, face-size}
@@ -69,16 +67,6 @@ u-size ms e z h =
 
 pub film-small : (film : ℕ) (s : Shape) → film ≤ 100000 → Placed s → faceFilm film s ≤ 349500
 film-small film s h p = face-size film s h (S-small s p)
-
--- ---- squares
-
-pub mass-size : (w i j : ℕ) → natAbs (mass w i j) ≤ 2 * w
-unfolding mass
-mass-size w i j = go (eqb i j)
-  where
-    go : (t : Bool) → natAbs (cond t (pos (2 * w)) (pos w)) ≤ 2 * w
-    go true = omega arith
-    go false = omega arith
 
 pub conductance-size : (e : Body) (i j : ℕ) → Sized e → 1 ≤ S (e .shape) → i < 3 → j < 3 → natAbs (square 3 (pair e) i j) ≤ 2 ^ 47
 unfolding sumN

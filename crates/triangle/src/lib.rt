@@ -1,16 +1,15 @@
-// A triangle: S, conductance, capacity, film, squares over its corners, and refusals 5 and 6.
+// A triangle: S, conductance, capacity, film, and refusals 5 and 6.
 use paper::Answer;
 use paper::Element;
 use paper::Node;
 use paper::Refusal;
 ghost use mathlib.Core.Path.{_≡_};
-ghost use Prim.Native.Nat.{ℕ, _+_, _*_, _^_, _<_, _≤_};
-ghost use lib.IntN.{ℤ, pos, natAbs, _+ℤ_, _-ℤ_};
+ghost use Prim.Native.Nat.{_<_, _≤_};
+ghost use lib.IntN.{pos, natAbs, _-ℤ_};
 ghost use lib.ListN.{getD};
 ghost use Rattle.whole.specs.Sums.{table};
-ghost use Rattle.whole.specs.Packed.{cell};
-ghost use Rattle.whole.specs.Squares.{at, squareOf, Small};
-ghost use Rattle.paper.specs.Corners.{square, mass};
+ghost use Rattle.whole.specs.Squares.{squareOf};
+ghost use Rattle.paper.specs.Corners.{square};
 ghost use Rattle.paper.specs.Triangle.{b, c, S, pair, u, faceFilm};
 ghost use Rattle.paper.specs.Elements.{fair, formJudged};
 ghost use Rattle.triangle.specs.Forms.{asShape, asBody, madeOf};
@@ -126,55 +125,6 @@ pub fn film(film: u32, s: Shape) -> u64
     ensures { λ r. ⌜ r ≡ faceFilm film (asShape s) ⌝ }
 {
     whole::rounded(film as u64 * twice_area(s), 9_600_000)
-}
-
-// 2w on the diagonal, w off it.
-pub fn mass(w: u64) -> [[i64; 3]; 3]
-    requires { ⌜ w ≤ 2 ^ 37 ⌝ }
-    ensures { λ r. ⌜ r ≡ squareOf 3 (mass w) ⌝ }
-{
-    let d = (2 * w) as i64;
-    let o = w as i64;
-    [[d, o, o], [o, d, o], [o, o, d]]
-}
-
-// ---- squares
-
-fn plus_row(p: [i64; 3], q: [i64; 3]) -> [i64; 3]
-    requires { ⌜ ((k : ℕ) → natAbs (cell p k) + natAbs (cell q k) < 2 ^ 63) ⌝ }
-    ensures { λ r. ⌜ r ≡ table 3 (λ k. cell p k +ℤ cell q k) ⌝ }
-{
-    [p[0] + q[0], p[1] + q[1], p[2] + q[2]]
-}
-
-fn minus_row(p: [i64; 3], q: [i64; 3]) -> [i64; 3]
-    requires { ⌜ ((k : ℕ) → natAbs (cell p k) + natAbs (cell q k) < 2 ^ 63) ⌝ }
-    ensures { λ r. ⌜ r ≡ table 3 (λ k. cell p k -ℤ cell q k) ⌝ }
-{
-    [p[0] - q[0], p[1] - q[1], p[2] - q[2]]
-}
-
-pub fn plus(p: [[i64; 3]; 3], q: [[i64; 3]; 3]) -> [[i64; 3]; 3]
-    requires { ⌜ Small (2 ^ 60) p × Small (2 ^ 60) q ⌝ }
-    ensures { λ r. ⌜ r ≡ squareOf 3 (λ i j. at p i j +ℤ at q i j) ⌝ }
-{
-    [
-        plus_row(p[0], q[0]),
-        plus_row(p[1], q[1]),
-        plus_row(p[2], q[2]),
-    ]
-}
-
-// As new minus old.
-pub fn minus(p: [[i64; 3]; 3], q: [[i64; 3]; 3]) -> [[i64; 3]; 3]
-    requires { ⌜ Small (2 ^ 60) p × Small (2 ^ 60) q ⌝ }
-    ensures { λ r. ⌜ r ≡ squareOf 3 (λ i j. at p i j -ℤ at q i j) ⌝ }
-{
-    [
-        minus_row(p[0], q[0]),
-        minus_row(p[1], q[1]),
-        minus_row(p[2], q[2]),
-    ]
 }
 
 // ---- refusals 5 and 6

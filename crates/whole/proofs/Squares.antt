@@ -1,17 +1,18 @@
 -- The square of a function over n corners, number by number, and the pairs of n corners in a row.
-use mathlib.Core.Path.{_≡_, refl, sym, ap, _∙_}
+use mathlib.Core.Path.{_≡_, refl, sym, ap, subst, _∙_}
 use mathlib.Core.List.{List, [], _∷_, _++_}
 use mathlib.Core.Logic.{⊎-elim}
 use Prim.Native.Nat.{ℕ, zero, suc, _+_, _-_, _≤_, _<_, min, max}
 use native.Mathlib.Decide.{ℕ-discrete, decLt}
 use native.Mathlib.Omega.{arith}
-use lib.IntN.{ℤ, pos, natAbs}
+use lib.IntN.{ℤ, pos, natAbs, _+ℤ_, _-ℤ_}
 use lib.ListN.{getD, length, length-append, List·getD-append, List·getD-eq-default}
 use lib.Seq.{getD-at}
 use Rattle.whole.specs.Sums.{table}
 use Rattle.whole.specs.Packed.{tri, cell, Bounded}
-use Rattle.whole.specs.Squares.{at, rowsOf, squareOf, Small, pairsOf, among}
+use Rattle.whole.specs.Squares.{at, rowsOf, squareOf, Small, Holds, pairsOf, among}
 use Rattle.whole.proofs.Sums.{table-length, table-at, table-ext}
+use Rattle.whole.proofs.Signs.{natAbs-plus, natAbs-minus}
 use Rattle.whole.proofs.Packed.{sides, lower-cell, lower-within}
 
 -- ---- the square of a function
@@ -63,6 +64,30 @@ small-square n b f h = record { each = λ i j. by i j (decLt i n) (decLt j n) }
     by i j (no l) m =
         let l′ : i < n → ⊥ = l in
         none i j (ap (λ (r : List ℤ). cell r j) (List·getD-eq-default (squareOf n f) [] (omega (arith, rows-length n n f))))
+
+-- ---- the numbers of a function over the first corners
+
+-- of a square that is a function's over m corners
+pub holds-square : (n m b : ℕ) (f : ℕ → ℕ → ℤ) {q : List (List ℤ)} → n ≤ m → q ≡ squareOf m f → ((i j : ℕ) → i < m → j < m → natAbs (f i j) ≤ b) → Holds n b f q
+holds-square n m b f h e s = record {
+  each = λ i j k l. ap (λ (z : List (List ℤ)). at z i j) e ∙ square-at m f i j (omega arith) (omega arith);
+  small = subst (Small b) (sym e) (small-square m b f s);
+}
+
+-- of other functions with the same numbers there, and of a larger bound
+pub holds-same : {n b c : ℕ} {f g : ℕ → ℕ → ℤ} {q : List (List ℤ)} → Holds n b f q → b ≤ c → ((i j : ℕ) → i < n → j < n → f i j ≡ g i j) → Holds n c g q
+holds-same h l e = record { each = λ i j k m. h .each i j k m ∙ e i j k m; small = record { each = λ i j. omega (arith, h .small .each i j) } }
+
+-- THEOREMS. Of the sum and of the difference of two.
+pub holds-plus : (m : ℕ) {n b c : ℕ} {f g : ℕ → ℕ → ℤ} {p q r : List (List ℤ)} → n ≤ m → Holds n b f p → Holds n c g q → r ≡ squareOf m (λ i j. at p i j +ℤ at q i j) → Holds n (b + c) (λ i j. f i j +ℤ g i j) r
+holds-plus m {n} {b} {c} {p = p} {q = q} l h k e =
+    let both = holds-square n m (b + c) (λ i j. at p i j +ℤ at q i j) l e (λ i j _ _. omega (arith, natAbs-plus (at p i j) (at q i j), h .small .each i j, k .small .each i j)) in
+    holds-same both (omega arith) (λ i j x y. λ d. h .each i j x y d +ℤ k .each i j x y d)
+
+pub holds-minus : (m : ℕ) {n b c : ℕ} {f g : ℕ → ℕ → ℤ} {p q r : List (List ℤ)} → n ≤ m → Holds n b f p → Holds n c g q → r ≡ squareOf m (λ i j. at p i j -ℤ at q i j) → Holds n (b + c) (λ i j. f i j -ℤ g i j) r
+holds-minus m {n} {b} {c} {p = p} {q = q} l h k e =
+    let both = holds-square n m (b + c) (λ i j. at p i j -ℤ at q i j) l e (λ i j _ _. omega (arith, natAbs-minus (at p i j) (at q i j), h .small .each i j, k .small .each i j)) in
+    holds-same both (omega arith) (λ i j x y. λ d. h .each i j x y d -ℤ k .each i j x y d)
 
 -- ---- pairs in a row
 

@@ -1,6 +1,7 @@
 -- Squares over any number of corners as lists of rows, and the pairs of corners in a row.
+use mathlib.Core.Path.{_≡_}
 use mathlib.Core.List.{List, [], _∷_, _++_}
-use Prim.Native.Nat.{ℕ, zero, suc, _+_, _-_, _≤_, min, max}
+use Prim.Native.Nat.{ℕ, zero, suc, _+_, _-_, _≤_, _<_, min, max}
 use lib.IntN.{ℤ, natAbs}
 use lib.ListN.{getD}
 use Rattle.whole.specs.Sums.{table}
@@ -21,6 +22,11 @@ squareOf n f = rowsOf n n f
 -- a square of numbers of size at most b
 pub record Small (b : ℕ) (q : List (List ℤ)) : Type 0 where
   pub each : (i j : ℕ) → natAbs (at q i j) ≤ b
+
+-- a square whose numbers over the first n corners are f's, and none of which is larger than b
+pub record Holds (n b : ℕ) (f : ℕ → ℕ → ℤ) (q : List (List ℤ)) : Type 0 where
+  pub each : (i j : ℕ) → i < n → j < n → at q i j ≡ f i j
+  pub small : Small b q
 
 -- the pairs of n corners below the diagonal by rows: 21, 31, 32, 41, 42, 43, ..
 unfoldable pub pairsOf : ℕ → (ℕ → ℕ → ℤ) → List ℤ

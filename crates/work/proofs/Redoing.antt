@@ -45,13 +45,13 @@ module _ (m n : ℕ) (above xs : List ℤ) (low : m ≤ n) (longF : length above
   above-kept e = any-none m _ (λ i h. row-kept i h ∙ any-each m (badRow above) e i h)
 
   -- what the factor asks
-  pub ready : n ≤ 96 → noFactor m above ≡ false → ((k : ℕ) → natAbs (cell xs k) ≤ 2 ^ 50) → Ready (laid above xs) m n
+  pub ready : n ≤ 96 → noFactor m above ≡ false → ((k : ℕ) → natAbs (cell xs k) ≤ 2 ^ 62) → Ready (laid above xs) m n
   ready few e h = record {
     upto = low;
     few = few;
     room = omega (arith, laid-length);
     above = above-kept e;
-    fresh = λ q l. subst (λ (z : ℤ). natAbs z ≤ 2 ^ 50) (sym (below-at q l)) (h q);
+    fresh = λ q l. subst (λ (z : ℤ). natAbs z ≤ 2 ^ 62) (sym (below-at q l)) (h q);
   }
 
 -- the redone rows, put below those that stay, are the whole factor
@@ -78,8 +78,8 @@ module _ (t : List ℕ) (a above w : List ℤ) (c : Corners) (q : List (List ℤ
   pub added-ready : (k : ℕ) (x : List ℤ) → k ≡ nodes t → x ≡ laid above (addedFixed t (added a c q)) → Ready x m k × (length x ≡ matrix k)
   added-ready k x e eX =
       let xs = addedFixed t (added a c q) in
-      let size : (i j : ℕ) → natAbs (cleared (fixed t) (entry (added a c q)) i j) ≤ 2 ^ 50 = cleared-size (2 ^ 50) (fixed t) (entry (added a c q)) (omega arith) (λ i j. h .small .each (place i j)) in
+      let size : (i j : ℕ) → natAbs (cleared (fixed t) (entry (added a c q)) i j) ≤ 2 ^ 62 = cleared-size (2 ^ 62) (fixed t) (entry (added a c q)) (omega arith) (λ i j. h .small .each (place i j)) in
       let r : Ready (laid above xs) m (nodes t) =
-      ready m (nodes t) above xs (h .low) (h .of-above) fixed-length (h .edits .deck .someN .1) (h .tame) (lower-size (nodes t) (2 ^ 50) (cleared (fixed t) (entry (added a c q))) size) in
+      ready m (nodes t) above xs (h .low) (h .of-above) fixed-length (h .edits .deck .someN .1) (h .tame) (lower-size (nodes t) (2 ^ 62) (cleared (fixed t) (entry (added a c q))) size) in
       let l : length (laid above xs) ≡ tri (nodes t) = laid-length m (nodes t) above xs (h .low) (h .of-above) fixed-length in
       subst (λ (z : List ℤ). Ready z m k × (length z ≡ tri k)) (sym eX) (subst (λ (z : ℕ). Ready (laid above xs) m z × (length (laid above xs) ≡ tri z)) (sym e) (r, l))

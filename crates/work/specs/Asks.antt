@@ -52,4 +52,4 @@ pub record Refactors (t : List ℕ) (a above w : List ℤ) (c : Corners) (q : Li
   pub of-above : length above ≡ start m
   pub tame : noFactor m above ≡ false
   pub low : m ≤ nodes t
-  pub small : Bounded (2 ^ 50) (added a c q)
+  pub small : Bounded (2 ^ 62) (added a c q)

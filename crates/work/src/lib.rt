@@ -49,7 +49,7 @@ pub fn hand_over(rows: &mut [i64], work: &mut [i64], start: usize)
 // ---- a replacement
 
 // A' with a square added to A.
-fn change(table: &[u32], a: &[i64], work: &mut [i64], c: Corners, q: [[i64; 3]; 3])
+fn change(table: &[u32], a: &[i64], work: &mut [i64], c: Corners, q: [[i64; 4]; 4])
     requires { ⌜ Edits (now table) (now a) (now work) c q ⌝ }
     ensures { λ _. ⌜ now (work .exit) ≡ addedFixed (now (table .entry)) (added (now (a .entry)) c q) ⌝ }
 {
@@ -59,7 +59,7 @@ fn change(table: &[u32], a: &[i64], work: &mut [i64], c: Corners, q: [[i64; 3]; 
 }
 
 // The same below the rows of the factor that stay.
-fn lay(table: &[u32], a: &[i64], above: &[i64], work: &mut [i64], c: Corners, q: [[i64; 3]; 3])
+fn lay(table: &[u32], a: &[i64], above: &[i64], work: &mut [i64], c: Corners, q: [[i64; 4]; 4])
     requires { ⌜ Edits (now table) (now a) (now work) c q × (length (now above) ≤ length (now work)) ⌝ }
     ensures { λ _. ⌜ now (work .exit) ≡ laid (now (above .entry)) (addedFixed (now (table .entry)) (added (now (a .entry)) c q)) ⌝ }
 {
@@ -75,7 +75,7 @@ pub fn refactored(
     above: &[i64],
     work: &mut [i64],
     c: Corners,
-    q: [[i64; 3]; 3],
+    q: [[i64; 4]; 4],
     m: usize,
 ) -> Answer
     requires { ⌜ Refactors (now table) (now a) (now above) (now work) c q m ⌝ }

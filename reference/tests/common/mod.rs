@@ -1,12 +1,16 @@
 //! Decks, buffers and chance for the tests.
-#![allow(dead_code)]
+#![allow(dead_code, unused_imports)]
+
+mod refusing;
 
 use reference::{Answer, Card, Ran, Refusal, Stepped};
+pub use refusing::*;
 
 pub const D: u32 = b'D' as u32;
 pub const N: u32 = b'N' as u32;
 pub const M: u32 = b'M' as u32;
 pub const E: u32 = b'E' as u32;
+pub const V: u32 = b'V' as u32;
 pub const H: u32 = b'H' as u32;
 pub const F: u32 = b'F' as u32;
 pub const G: u32 = b'G' as u32;
@@ -72,8 +76,13 @@ impl Chance {
 pub struct Groups {
     pub d: [u32; 3],
     pub nodes: Vec<[u32; 2]>,
+    /// z of each node; 0 of those past its end.
+    pub levels: Vec<u32>,
     pub materials: Vec<[u32; 3]>,
+    /// kz of each material; 0 of those past its end.
+    pub upward: Vec<u32>,
     pub elements: Vec<[u32; 5]>,
+    pub solids: Vec<[u32; 5]>,
     pub heats: Vec<[u32; 2]>,
     pub films: Vec<[u32; 3]>,
     pub edges: Vec<[u32; 5]>,
@@ -86,8 +95,11 @@ impl Groups {
         Groups {
             d: [1_000, 19_660_800, 1],
             nodes: vec![[0, 0], [100, 0], [0, 100]],
+            levels: vec![],
             materials: vec![[1_000, 1_000, 2_400]],
+            upward: vec![],
             elements: vec![[1, 2, 3, 1, 1_000]],
+            solids: vec![],
             heats: vec![],
             films: vec![],
             edges: vec![],
@@ -105,17 +117,88 @@ impl Groups {
         groups
     }
 
+    /// The request's tetrahedron: D, four N, M, V, Z.
+    pub fn corner() -> Groups {
+        Groups {
+            nodes: vec![[0, 0], [100, 0], [0, 100], [0, 0]],
+            levels: vec![0, 0, 0, 100],
+            upward: vec![1_000],
+            elements: vec![],
+            solids: vec![[1, 2, 3, 4, 1]],
+            ..Groups::base()
+        }
+    }
+
+    /// That with a card of every kind: D, four N, M, E, V, H on the V, F on the E, an upright G, T, Z.
+    pub fn one_of_each_solid() -> Groups {
+        Groups {
+            elements: vec![[1, 2, 3, 1, 1_000]],
+            heats: vec![[2, 3]],
+            films: vec![[1, 480, 19_660_800]],
+            edges: vec![[1, 4, 1_800, 19_660_800, 1_000]],
+            fixed: vec![[3, 19_000_000]],
+            ..Groups::corner()
+        }
+    }
+
+    /// That with a second V, of a fifth node, and a second material.
+    pub fn two_solids() -> Groups {
+        let mut groups = Groups::one_of_each_solid();
+        groups.nodes.push([100, 100]);
+        groups.levels.push(100);
+        groups.materials.push([2_000, 3_000, 1_200]);
+        groups.upward.push(4_000);
+        groups.solids.push([5, 3, 2, 4, 1]);
+        groups
+    }
+
+    /// One of each, its elements E, V and E: the V's fields are right, and the E after it stands where it may not.
+    pub fn solid_among_triangles() -> Vec<u32> {
+        let mut groups = Groups::one_of_each_solid();
+        groups.elements = vec![[1, 2, 3, 1, 9], [1, 2, 3, 1, 1], [3, 2, 1, 1, 9]];
+        with(&groups.table(), row::TRIANGLE + 1, 0, V)
+    }
+
+    /// One of each with V before E, and no z or kz: flat by its last element.
+    pub fn turned_flat() -> Vec<u32> {
+        let mut groups = Groups::one_of_each_solid();
+        (groups.levels, groups.upward) = (vec![], vec![]);
+        swapped(&groups.table(), row::TRIANGLE, row::SOLID)
+    }
+
+    /// A V whose edges are (200, 0, 0), (0, 200, 0) and (0, 0, height), over a step of 1 ms: u is 125/3 capacity·height. With ones
+    /// its S is one more: (200, 1, 0), (0, 200, 1) and (1, 0, height).
+    pub fn full(capacity: u32, height: u32, ones: u32) -> Groups {
+        let mut groups = Groups::corner();
+        groups.d[0] = 1;
+        groups.materials[0][2] = capacity;
+        groups.nodes = vec![[0, 0], [200, ones], [0, 200], [ones, 0]];
+        groups.levels = vec![0, 0, ones, height];
+        groups
+    }
+
+    /// As P8, of a V: capacity 1, a step of a minute.
+    pub fn slow() -> Groups {
+        let mut groups = Groups::corner();
+        (groups.d[0], groups.materials[0][2]) = (60_000, 1);
+        groups
+    }
+
     pub fn table(&self) -> Vec<u32> {
         let mut table = card(D, &self.d).to_vec();
-        self.nodes
-            .iter()
-            .for_each(|fields| table.extend(card(N, fields)));
-        self.materials
-            .iter()
-            .for_each(|fields| table.extend(card(M, fields)));
+        let past = |list: &[u32], at: usize| list.get(at).copied().unwrap_or(0);
+        for (at, &[x, y]) in self.nodes.iter().enumerate() {
+            table.extend(card(N, &[x, y, past(&self.levels, at)]));
+        }
+        for (at, &[kx, ky, capacity]) in self.materials.iter().enumerate() {
+            table.extend(card(M, &[kx, ky, capacity, past(&self.upward, at)]));
+        }
         self.elements
             .iter()
             .for_each(|fields| table.extend(card(E, fields)));
+        self.solids
+            .iter()
+            .for_each(|fields| table.extend(card(V, fields)));
         self.heats
             .iter()
             .for_each(|fields| table.extend(card(H, fields)));
@@ -132,7 +215,7 @@ impl Groups {
         let counts = [
             self.nodes.len(),
             self.materials.len(),
-            self.elements.len(),
+            self.elements.len() + self.solids.len(),
             loads,
         ];
         let back = 42 * (table.len() / 6);
@@ -184,23 +267,137 @@ impl Groups {
             nodes,
             materials,
             elements,
-            heats: vec![],
-            films: vec![],
-            edges: vec![],
-            fixed: vec![],
+            ..Groups::base()
         };
         groups.load(chance);
         groups.rim(chance, columns, rows);
         groups
     }
 
+    /// A block of columns by rows by floors nodes, each cell cut in five, with triangles over some of its top; it builds.
+    pub fn block(chance: &mut Chance, columns: u32, rows: u32, floors: u32) -> Groups {
+        let sides = [0; 3].map(|_| chance.within(30, 60));
+        let mut groups = Groups {
+            d: [
+                chance.within(100, 1_000),
+                chance.within(15_000_000, 25_000_000),
+                chance.within(1, 20),
+            ],
+            nodes: vec![],
+            materials: vec![],
+            elements: vec![],
+            ..Groups::base()
+        };
+        let aslant = chance.one_in(2);
+        for floor in 0..floors {
+            for row in 0..rows {
+                for column in 0..columns {
+                    let [x, y, z] = [(column, 0), (row, 1), (floor, 2)]
+                        .map(|(at, axis)| at * sides[axis] + chance.within(0, 8));
+                    groups.nodes.push([x, y]);
+                    // The triangles lie level, on top.
+                    let level = floor * sides[2] + if floor + 1 < floors { 0 } else { 8 };
+                    let bent = aslant && floor + 1 < floors;
+                    groups.levels.push(if bent { z } else { level });
+                }
+            }
+        }
+        for _ in 0..chance.within(1, 8) {
+            let [kx, ky, kz] = [0; 3].map(|_| chance.within(300, 20_000));
+            groups.materials.push([kx, ky, chance.within(1_000, 5_000)]);
+            groups.upward.push(kz);
+        }
+        groups.cells(chance, columns, rows, floors);
+        groups.load(chance);
+        groups.beams(chance, columns, rows, floors);
+        groups
+    }
+
+    /// The cells of a block, each with four tetrahedra about a fifth, turned so that neighbours meet face to face; and the
+    /// triangles of the top, as far as there is room for them.
+    fn cells(&mut self, chance: &mut Chance, columns: u32, rows: u32, floors: u32) {
+        let lid = chance.one_in(2);
+        for (floor, row, column) in grid(floors - 1, rows - 1, columns - 1) {
+            let [a, b, c, d, e, f, g, h] = [
+                (0, 0, 0),
+                (1, 0, 0),
+                (1, 1, 0),
+                (0, 1, 0),
+                (0, 0, 1),
+                (1, 0, 1),
+                (1, 1, 1),
+                (0, 1, 1),
+            ]
+            .map(|(x, y, z)| ((floor + z) * rows + row + y) * columns + column + x + 1);
+            let even = (floor + row + column) % 2 == 0;
+            let cut = if even {
+                [
+                    [b, d, e, g],
+                    [a, b, d, e],
+                    [c, b, d, g],
+                    [f, b, e, g],
+                    [h, d, e, g],
+                ]
+            } else {
+                [
+                    [a, c, f, h],
+                    [b, a, c, f],
+                    [d, a, c, h],
+                    [e, a, f, h],
+                    [g, c, f, h],
+                ]
+            };
+            for corners in cut {
+                let [i, j, k, l] = shuffled(chance, corners);
+                let material = chance.within(1, self.materials.len() as u32);
+                self.solids.push([i, j, k, l, material]);
+            }
+            let top = if even {
+                [[e, f, g], [e, g, h]]
+            } else {
+                [[f, g, h], [f, h, e]]
+            };
+            for corners in top.into_iter().filter(|_| lid && floor + 2 == floors) {
+                let [i, j, k] = shuffled(chance, corners);
+                let material = chance.within(1, self.materials.len() as u32);
+                let thickness = chance.within(20, 2_000);
+                self.elements.push([i, j, k, material, thickness]);
+            }
+        }
+        self.solids.truncate(160);
+        self.elements.truncate(160 - self.solids.len());
+    }
+
+    /// Edge films by chance, along the block's lines, upright ones too.
+    fn beams(&mut self, chance: &mut Chance, columns: u32, rows: u32, floors: u32) {
+        let often = chance.pick(&[1, 3, 10, 1_000]);
+        for (floor, row, column) in grid(floors, rows, columns) {
+            let low = (floor * rows + row) * columns + column + 1;
+            let lines = [
+                (column + 1 < columns, 1),
+                (row + 1 < rows, columns),
+                (floor + 1 < floors, columns * rows),
+            ];
+            for (_, on) in lines.into_iter().filter(|&(inside, _)| inside) {
+                if chance.one_in(often) {
+                    let ambient = chance.within(15_000_000, 25_000_000);
+                    let [film, thickness] =
+                        [(1, 100_000), (1, 4_000)].map(|(least, most)| chance.within(least, most));
+                    self.edges.push([low, low + on, film, ambient, thickness]);
+                }
+            }
+        }
+        self.edges.truncate(160);
+    }
+
     /// Loads by chance.
     fn load(&mut self, chance: &mut Chance) {
-        for element in 1..=self.elements.len() as u32 {
+        let triangles = self.elements.len() as u32;
+        for element in 1..=triangles + self.solids.len() as u32 {
             if chance.one_in(4) {
                 self.heats.push([element, chance.within(1, 500_000)]);
             }
-            if chance.one_in(3) {
+            if element <= triangles && chance.one_in(3) {
                 self.films.push([
                     element,
                     chance.within(1, 100_000),
@@ -246,24 +443,43 @@ impl Groups {
         let mut groups = Groups::sheet(chance, 12, 8);
         let again: Vec<[u32; 5]> = groups.elements[..6].to_vec();
         groups.elements.extend(again);
-        while groups.materials.len() < 8 {
-            groups.materials.push(groups.materials[0]);
+        groups.fill(chance, 160, &[1, 12]);
+        groups
+    }
+
+    /// As many cards of every kind as a solid deck may have of 96 nodes: 160 elements with heat on each, ten of them triangles with
+    /// a film, 160 edges, and every node held. It builds.
+    pub fn largest_block(chance: &mut Chance) -> Groups {
+        let mut groups = Groups::block(chance, 16, 3, 2);
+        while groups.elements.len() < 10 {
+            let at = 49 + groups.elements.len() as u32;
+            groups.elements.push([at, at + 1, at + 16, 1, 1_000]);
+        }
+        groups.elements.truncate(10);
+        groups.fill(chance, 10, &[1, 16, 48]);
+        groups
+    }
+
+    /// The materials and loads of a largest deck: films on the first elements, edges from each node to those so far on.
+    fn fill(&mut self, chance: &mut Chance, films: u32, far: &[u32]) {
+        self.materials.resize(8, self.materials[0]);
+        if !self.solids.is_empty() {
+            self.upward.resize(8, 1_000);
         }
         let ambient = 19_660_800;
-        groups.heats = (1..=160)
+        self.heats = (1..=160)
             .map(|element| [element, 1_000 + element])
             .collect();
-        groups.films = (1..=160)
+        self.films = (1..=films)
             .map(|element| [element, 5_000 + element, ambient])
             .collect();
-        groups.fixed = (1..=96).map(|node| [node, ambient + node]).collect();
-        let pairs = (1..96).flat_map(|low| [(low, low + 1), (low, low + 12)]);
-        groups.edges = pairs
+        self.fixed = (1..=96).map(|node| [node, ambient + node]).collect();
+        let pairs = (1..96).flat_map(|low| far.iter().map(move |on| (low, low + on)));
+        self.edges = pairs
             .filter(|&(_, high)| high <= 96)
             .take(160)
             .map(|(low, high)| [low, high, chance.within(1, 100_000), ambient, 1_000])
             .collect();
-        groups
     }
 
     /// Like the paper's P9: two long thin elements of little capacity, hard to factor.
@@ -279,18 +495,52 @@ impl Groups {
         ];
         groups.materials = vec![[k, k, chance.within(1, 200)]];
         groups.elements = vec![[1, 2, 3, 1, 1_000], [4, 2, 1, 1, chance.within(1, 1_000)]];
-        if chance.one_in(2) {
-            let (high, film) = (chance.within(2, 4), chance.within(1, 1_000));
-            groups.edges.push([1, high, film, 20_000_000, 1_000]);
-        }
-        if chance.one_in(3) {
-            groups.fixed.push([chance.within(1, 4), 20_000_000]);
-        }
+        groups.tie(chance);
         groups
     }
 
-    /// Any accepted cards: elements may be flat, stiff or far apart, and every field at its ends.
+    /// Two long thin tetrahedra of little capacity, hard to factor.
+    pub fn needles(chance: &mut Chance) -> Groups {
+        let long = chance.within(20, 200);
+        let k = chance.within(1_000, 20_000);
+        let mut groups = Groups::corner();
+        groups.nodes = vec![
+            [0, 2],
+            [long, 2],
+            [long + chance.within(0, 3), 3],
+            [long, chance.within(0, 2)],
+            [long, 4],
+        ];
+        groups.levels = vec![1, 1, 1, chance.within(2, 3), 1];
+        groups.materials = vec![[k, k, chance.within(1, 5_000)]];
+        groups.upward = vec![k];
+        groups.solids = vec![[1, 2, 3, 4, 1], [5, 4, 2, 1, 1]];
+        if chance.one_in(2) {
+            groups.elements = vec![[1, 2, 3, 1, chance.within(1, 1_000)]];
+        }
+        groups.tie(chance);
+        groups
+    }
+
+    /// An edge from the first node one time in two, a node held one time in three.
+    fn tie(&mut self, chance: &mut Chance) {
+        let nodes = self.nodes.len() as u32;
+        if chance.one_in(2) {
+            let (high, film) = (chance.within(2, nodes), chance.within(1, 1_000));
+            self.edges.push([1, high, film, 20_000_000, 1_000]);
+        }
+        if chance.one_in(3) {
+            self.fixed.push([chance.within(1, nodes), 20_000_000]);
+        }
+    }
+
+    /// Any accepted cards: elements may be flat, stiff or far apart, and every field at its ends. One deck in three is solid.
     pub fn wild(chance: &mut Chance) -> Groups {
+        let solid = chance.one_in(3);
+        Groups::wild_of(chance, solid)
+    }
+
+    pub fn wild_of(chance: &mut Chance, solid: bool) -> Groups {
         let end = |chance: &mut Chance, least: u32, most: u32| match chance.within(0, 4) {
             0 => least,
             1 => most,
@@ -299,6 +549,7 @@ impl Groups {
                 chance.within(least, most)
             }
         };
+        let far = if solid { 1_023 } else { 4_095 };
         let nodes = chance.within(3, 9);
         let materials = chance.within(1, 3);
         let elements = chance.within(1, 12);
@@ -309,7 +560,7 @@ impl Groups {
                 chance.within(1, 3),
             ],
             nodes: (0..nodes)
-                .map(|_| [end(chance, 0, 4_095), end(chance, 0, 4_095)])
+                .map(|_| [end(chance, 0, far), end(chance, 0, far)])
                 .collect(),
             materials: (0..materials)
                 .map(|_| {
@@ -333,16 +584,37 @@ impl Groups {
                     ]
                 })
                 .collect(),
-            heats: vec![],
-            films: vec![],
-            edges: vec![],
-            fixed: vec![],
+            ..Groups::base()
         };
-        for element in 1..=elements {
+        if solid {
+            let levels = [0; 2].map(|_| end(chance, 0, far));
+            groups.levels = (0..nodes)
+                .map(|_| match chance.one_in(3) {
+                    true => end(chance, 0, far),
+                    false => chance.pick(&levels),
+                })
+                .collect();
+            groups.upward = (0..materials).map(|_| end(chance, 1, 500_000)).collect();
+            let corners = |chance: &mut Chance| [0; 4].map(|_| chance.within(1, nodes));
+            groups.solids = (0..chance.within(1, 8))
+                .map(|_| {
+                    let [i, j, k, l] = corners(chance);
+                    [i, j, k, l, chance.within(1, materials)]
+                })
+                .collect();
+            // Only those that lie level, and often none.
+            let level = |node: u32| groups.levels[node as usize - 1];
+            let some = chance.one_in(2);
+            groups
+                .elements
+                .retain(|e| some && level(e[0]) == level(e[1]) && level(e[0]) == level(e[2]));
+        }
+        let triangles = groups.elements.len() as u32;
+        for element in 1..=triangles + groups.solids.len() as u32 {
             if chance.one_in(3) {
                 groups.heats.push([element, end(chance, 1, 5_000_000)]);
             }
-            if chance.one_in(3) {
+            if element <= triangles && chance.one_in(3) {
                 groups
                     .films
                     .push([element, end(chance, 1, 100_000), end(chance, 0, TOP)]);
@@ -351,6 +623,9 @@ impl Groups {
         // Two nodes at one point, one time in some: an edge of no length.
         if chance.one_in(8) {
             groups.nodes[1] = groups.nodes[0];
+            if solid && groups.elements.is_empty() {
+                groups.levels[1] = groups.levels[0];
+            }
         }
         for low in 1..nodes {
             for high in low + 1..=nodes {
@@ -372,11 +647,107 @@ impl Groups {
     }
 }
 
+/// All places of so many floors, rows and columns, as nodes are numbered.
+fn grid(floors: u32, rows: u32, columns: u32) -> impl Iterator<Item = (u32, u32, u32)> {
+    (0..floors * rows * columns)
+        .map(move |at| (at / (rows * columns), at / columns % rows, at % columns))
+}
+
+/// Any order of corners.
+fn shuffled<const K: usize>(chance: &mut Chance, mut corners: [u32; K]) -> [u32; K] {
+    for at in 1..K {
+        corners.swap(at, chance.index(at + 1));
+    }
+    corners
+}
+
+/// Rows of `one_of_each_solid`.
+pub mod row {
+    pub const NODE: usize = 1;
+    pub const MATERIAL: usize = 5;
+    pub const TRIANGLE: usize = 6;
+    pub const SOLID: usize = 7;
+    pub const HEAT: usize = 8;
+    pub const FILM: usize = 9;
+    pub const EDGE: usize = 10;
+    pub const HELD: usize = 11;
+}
+
+/// Of fields of `one_of_each_solid`: row, field, least and most.
+pub const SOLID_RANGES: [(usize, usize, u32, u32); 21] = {
+    use row::*;
+    [
+        (NODE, 1, 0, 1_023),
+        (NODE, 2, 0, 1_023),
+        (NODE + 3, 1, 0, 1_023),
+        (NODE + 3, 2, 0, 1_023),
+        (NODE + 3, 3, 0, 1_023),
+        (MATERIAL, 1, 1, 500_000),
+        (MATERIAL, 2, 1, 500_000),
+        (MATERIAL, 3, 1, 5_000),
+        (MATERIAL, 4, 1, 500_000),
+        (TRIANGLE, 4, 1, 1),
+        (TRIANGLE, 5, 1, 4_000),
+        (SOLID, 1, 1, 4),
+        (SOLID, 2, 1, 4),
+        (SOLID, 3, 1, 4),
+        (SOLID, 4, 1, 4),
+        (SOLID, 5, 1, 1),
+        (HEAT, 1, 1, 2),
+        (HEAT, 2, 1, 5_000_000),
+        (FILM, 1, 1, 1),
+        (EDGE, 2, 2, 4),
+        (HELD, 1, 1, 4),
+    ]
+};
+
+/// Eight columns that are neither blank nor a number.
+pub const NO_NUMBERS: [&[u8; 8]; 9] = [
+    b"      07",
+    b"7       ",
+    b"     7 7",
+    b"      -7",
+    b"      +7",
+    b"       x",
+    b"00000000",
+    b"     7\t ",
+    b"     \n 7",
+];
+
+/// A table with one number changed.
+pub fn with(table: &[u32], row: usize, field: usize, value: u32) -> Vec<u32> {
+    let mut table = table.to_vec();
+    table[6 * row + field] = value;
+    table
+}
+
+/// A table with two rows in each other's place.
+pub fn swapped(table: &[u32], i: usize, j: usize) -> Vec<u32> {
+    let mut table = table.to_vec();
+    (0..6).for_each(|field| table.swap(6 * i + field, 6 * j + field));
+    table
+}
+
+/// The columns of a card's field, put into a deck's bytes.
+pub fn put(bytes: &[u8], row: usize, field: usize, columns: &[u8]) -> Vec<u8> {
+    let mut bytes = bytes.to_vec();
+    bytes[42 * row + 8 * field - 7..=42 * row + 8 * field].copy_from_slice(columns);
+    bytes
+}
+
 pub fn card(letter: u32, fields: &[u32]) -> Card {
     let mut card = [0; 6];
     card[0] = letter;
     card[1..1 + fields.len()].copy_from_slice(fields);
     card
+}
+
+/// Is the letter in the row of the last element, by the trailer's counts, a V?
+pub fn is_solid(table: &[u32]) -> bool {
+    let trailer = &table[table.len().saturating_sub(6)..];
+    let row: u64 = trailer.iter().skip(2).take(3).map(|&n| u64::from(n)).sum();
+    let mut cards = table.chunks_exact(6);
+    cards.nth(row as usize).is_some_and(|card| card[0] == V)
 }
 
 pub fn nodes_of(table: &[u32]) -> usize {
@@ -419,6 +790,27 @@ impl Scales {
             factor: vec![16, 0, 16, 0, 0, 16, 0, 0, 0, 1 << 20],
             temperatures: vec![Scales::WARM, Scales::WARM, Scales::WARM, 1],
         }
+    }
+
+    /// The same of a tetrahedron whose corners are of the first three nodes.
+    pub fn new_solid(corners: [u32; 4], microwatts: u32, loads: [i64; 3]) -> Scales {
+        let [i, j, k, l] = corners;
+        let mut groups = Groups::corner();
+        groups.solids = vec![[i, j, k, l, 1]];
+        groups.heats.push([1, microwatts]);
+        groups.fixed.push([4, 1]);
+        Scales {
+            table: groups.table(),
+            ..Scales::new([1, 2, 3], microwatts, loads)
+        }
+    }
+
+    /// What the first three nodes get where each corner gets so much.
+    pub fn loads(corners: &[u32], each: i64) -> [i64; 3] {
+        [1, 2, 3].map(|node| {
+            let times = corners.iter().filter(|&&corner| corner == node).count();
+            times as i64 * each
+        })
     }
 
     /// Every three of three nodes, in every order, some of them the same.
@@ -513,7 +905,7 @@ impl Lent {
         )
     }
 
-    /// The work slice as a build or an E, F or G replacement must leave it on 0, 7 and 8.
+    /// The work slice as a build or an E, V, F or G replacement must leave it on 0, 7 and 8.
     pub fn with_zeroed_work(mut self) -> Lent {
         let length = triangle(nodes_of(&self.table));
         self.work[..length].fill(0);
@@ -529,13 +921,16 @@ pub fn step_refused(number: u8, place: u32) -> Stepped {
     Stepped::Refused(Refusal { number, place })
 }
 
-/// A table as bytes, whether it is a deck or not; each field has at most eight digits.
+/// A table as bytes, whether it is a deck or not; each field has at most eight digits. A z or kz of 0 is blank in a flat deck.
 pub fn text_of(table: &[u32]) -> Vec<u8> {
     let mut text = String::new();
+    let solid = is_solid(table);
     for card in table.chunks_exact(6) {
         let used = match card[0] {
-            E | G | Z => 5,
-            D | M | F => 3,
+            E | V | G | Z => 5,
+            N => 2 + usize::from(solid || card[3] != 0),
+            M => 3 + usize::from(solid || card[4] != 0),
+            D | F => 3,
             _ => 2,
         };
         let fields: String = card[1..=used]

@@ -17,7 +17,7 @@ fn edged(x: u32, y: u32, film: u32, thickness: u32) -> Groups {
 }
 
 /// The squares of g - 1/2, times 120,000,000, and of film·t·L.
-fn reaches(g: u128, film: u32, thickness: u32, square: u32) -> bool {
+pub fn reaches(g: u128, film: u32, thickness: u32, square: u32) -> bool {
     let (half_less, top) = (
         (2 * g - 1) * 60_000_000,
         u128::from(film) * u128::from(thickness),
@@ -26,7 +26,7 @@ fn reaches(g: u128, film: u32, thickness: u32, square: u32) -> bool {
 }
 
 /// The least film with which an edge has a g.
-fn film_of(g: u128, thickness: u32, square: u32) -> u32 {
+pub fn film_of(g: u128, thickness: u32, square: u32) -> u32 {
     let (mut low, mut high) = (1, 100_000);
     while low < high {
         let middle = (low + high) / 2;
@@ -68,7 +68,7 @@ pub fn halves(trial: &mut Trial) {
                 let new = [G, 1, 4, other.max(1), FRAME + 9, thickness];
                 trial.call(&mut lent, Call::Replace { card: 8, new });
                 trial.call(&mut lent, Call::Step);
-                trial.as_built(&lent, 1);
+                trial.as_built(&lent, [1, 0]);
             }
         }
     }
@@ -158,7 +158,7 @@ pub fn of_no_length(trial: &mut Trial) {
         let mut lent = built(trial, groups.table());
         let new = [G, 1, 4, 1, FRAME, 1];
         trial.call(&mut lent, Call::Replace { card: 8, new });
-        trial.as_built(&lent, 1);
+        trial.as_built(&lent, [1, 0]);
     }
 }
 
@@ -175,7 +175,7 @@ pub fn alone(trial: &mut Trial) {
         let mut lent = built(trial, carried(60_000));
         let new = [G, 1, 4, film, FRAME, 1_000];
         trial.call(&mut lent, Call::Replace { card: 8, new });
-        trial.as_built(&lent, 1);
+        trial.as_built(&lent, [1, 0]);
     }
     let mut groups = Groups::base();
     groups.nodes[2] = [101, 1];

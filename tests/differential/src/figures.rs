@@ -1,20 +1,23 @@
-//! The checked numbers, P1 to P12 and those of the edge film, out of the archive alone.
+//! The checked numbers, P1 to P12, those of the edge film and those of the tetrahedron, out of the archive alone.
 
 use crate::archive;
 use crate::case::{Call, Lent};
-use crate::decks::{Groups, E, G};
+use crate::decks::{triangle, Groups, E, G, V};
 
 const START: i64 = 19_660_800;
 
 /// What a number past the end must stay.
 const PAST: i64 = 77;
 
-/// A deck of three nodes, with slices one longer than it asks.
+/// A deck with slices one longer than it asks.
 fn lend(groups: &Groups) -> Lent {
+    let nodes = groups.nodes.len();
+    let mut temperatures = vec![START; nodes];
+    temperatures.push(PAST);
     Lent {
         table: groups.table(),
-        matrices: [0; 4].map(|_| vec![PAST; 7]),
-        temperatures: vec![START, START, START, PAST],
+        matrices: [0; 4].map(|_| vec![PAST; triangle(nodes) + 1]),
+        temperatures,
         ..Lent::default()
     }
 }
@@ -173,7 +176,75 @@ fn edges() {
     assert_eq!(more, [0, 0, 942, 0, 471, 942], "G replaced");
 }
 
+/// The corner of a cube of 100 built: the packed answer, P and A without it.
+fn cornered(change: fn(&mut Groups)) -> (u64, [Vec<i64>; 2]) {
+    let mut groups = Groups::corner();
+    change(&mut groups);
+    let mut lent = lend(&groups);
+    let answer = archive::call(Call::Build, &mut lent);
+    let [p, a, ..] = lent.matrices;
+    let conductance = a[..10].iter().zip(&p).map(|(a, p)| a - p).collect();
+    (answer, [p[..10].to_vec(), conductance])
+}
+
+fn tetrahedra() {
+    let u = 2_500;
+    let stored = vec![2 * u, u, 2 * u, u, u, 2 * u, u, u, u, 2 * u];
+    let conducted = vec![2_499, -833, 833, -833, 0, 833, -833, 0, 0, 833];
+    let right = (0, [stored.clone(), conducted.clone()]);
+    assert_eq!(cornered(|_| {}), right, "V");
+    // Turned the other way round, S is the same.
+    let turned = cornered(|groups| groups.solids[0] = [2, 1, 3, 4, 1]);
+    assert_eq!(turned, right, "V turned");
+    // Only kz is large: only the pair along z is.
+    let (_, [_, along_z]) = cornered(|groups| groups.upward[0] = 12_000);
+    assert_eq!(
+        [1, 3, 6].map(|at| along_z[at]),
+        [-833, -833, -10_000],
+        "V's kz"
+    );
+    let flat = |groups: &mut Groups| groups.levels[3] = 0;
+    assert_eq!(cornered(flat).0, 5 + 65_536, "V of no volume");
+    // S is 4,000,000, and u 960·S/960 at a step of 1 ms.
+    let thick = |groups: &mut Groups| {
+        groups.nodes = vec![[0, 0], [200, 0], [0, 200], [0, 0]];
+        (groups.d[0], groups.materials[0][2]) = (1, 960);
+    };
+    assert_eq!(cornered(thick).1[0][1], 4_000_000, "V's u");
+    let thicker = |groups: &mut Groups| {
+        groups.nodes = vec![[0, 0], [200, 0], [0, 200], [0, 0]];
+        (groups.d[0], groups.materials[0][2]) = (1, 961);
+    };
+    assert_eq!(cornered(thicker).0, 6 + 65_536, "V's u");
+    // 40 µW in quarters, over 5u at each corner.
+    let mut groups = Groups::corner();
+    groups.heats.push([1, 40]);
+    let mut lent = lend(&groups);
+    archive::call(Call::Build, &mut lent);
+    let answer = archive::call(Call::Step, &mut lent);
+    let warmer = START + 52;
+    let after = vec![warmer, warmer, warmer, warmer, PAST];
+    assert_eq!((answer, lent.temperatures), (256, after), "V's heat");
+    // A replacement leaves what the new card would have given.
+    let mut groups = Groups::corner();
+    groups.materials.insert(0, [9, 9, 9]);
+    groups.upward.insert(0, 9);
+    let mut lent = lend(&groups);
+    archive::call(Call::Build, &mut lent);
+    let new = [V, 1, 2, 3, 4, 2];
+    let answer = archive::call(Call::Replace { card: 8, new }, &mut lent);
+    assert_eq!((answer, &lent.table[42..48]), (0, &new[..]), "V replaced");
+    let both = stored.iter().zip(&conducted).map(|(p, k)| p + k);
+    assert_eq!(lent.matrices[0][..10], stored, "V replaced");
+    assert_eq!(
+        lent.matrices[1][..10],
+        both.collect::<Vec<i64>>(),
+        "V replaced"
+    );
+}
+
 pub fn all() {
+    tetrahedra();
     matrices();
     steps();
     refusals();

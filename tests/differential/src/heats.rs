@@ -10,21 +10,38 @@ pub fn shares(trial: &mut Trial) {
     for corners in Scales::corners() {
         for microwatts in Scales::HEATS {
             let third = 65_536 * i64::from(microwatts) / 3;
-            let thirds = [1, 2, 3].map(|node| {
-                let times = corners.iter().filter(|&&corner| corner == node).count();
-                times as i64 * third
-            });
+            let thirds = Scales::loads(&corners, third);
             for more in 0..4 {
-                let it = Scales::new(corners, microwatts, thirds.map(|load| load + more));
-                let work = vec![7; it.p.len()];
-                let mut lent = Lent {
-                    table: it.table,
-                    matrices: [it.p, it.a, it.factor, work],
-                    temperatures: it.temperatures,
-                    ..Lent::default()
-                };
-                trial.call(&mut lent, Call::Step);
+                let loads = thirds.map(|load| load + more);
+                weigh(trial, Scales::new(corners, microwatts, loads));
             }
         }
     }
+}
+
+/// The same of tetrahedra: a quarter is always whole.
+pub fn quarters(trial: &mut Trial) {
+    for [i, j, k] in Scales::corners().step_by(5) {
+        for microwatts in Scales::HEATS {
+            let quarter = 16_384 * i64::from(microwatts);
+            for corners in [[i, j, k, i], [k, i, j, j]] {
+                let loads = Scales::loads(&corners, quarter);
+                for more in 0..2 {
+                    let loads = loads.map(|load| load + more);
+                    weigh(trial, Scales::new_solid(corners, microwatts, loads));
+                }
+            }
+        }
+    }
+}
+
+fn weigh(trial: &mut Trial, it: Scales) {
+    let work = vec![7; it.p.len()];
+    let mut lent = Lent {
+        table: it.table,
+        matrices: [it.p, it.a, it.factor, work],
+        temperatures: it.temperatures,
+        ..Lent::default()
+    };
+    trial.call(&mut lent, Call::Step);
 }

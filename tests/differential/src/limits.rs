@@ -31,37 +31,47 @@ pub fn same(table: &[u32], row: usize) -> Call {
 }
 
 pub fn short_buffers(trial: &mut Trial) {
-    let whole = built(trial, Groups::one_of_each().table());
-    let [element, heat, edge] = [5, 6, 8].map(|row| same(&whole.table, row));
-    for which in 0..4 {
-        for call in [Call::Build, element, heat, edge, Call::Step] {
-            let mut lent = whole.clone();
-            lent.matrices[which].pop();
-            trial.call(&mut lent, call);
+    for groups in [Groups::one_of_each(), Groups::one_of_each_solid()] {
+        let whole = built(trial, groups.table());
+        let replacements = replaceable(&whole.table);
+        for which in 0..4 {
+            for &call in replacements.iter().chain(&[Call::Build, Call::Step]) {
+                let mut lent = whole.clone();
+                lent.matrices[which].pop();
+                trial.call(&mut lent, call);
+            }
         }
+        let mut lent = whole.clone();
+        lent.temperatures.pop();
+        trial.call(&mut lent, Call::Step);
+        let mut lent = whole.clone();
+        lent.bytes.pop();
+        trial.call(&mut lent, Call::Write);
+        let mut lent = whole;
+        trial.call(&mut lent, Call::Write);
+        lent.table.pop();
+        trial.call(&mut lent, Call::Read);
     }
-    let mut lent = whole.clone();
-    lent.temperatures.pop();
-    trial.call(&mut lent, Call::Step);
-    let mut lent = whole.clone();
-    lent.bytes.pop();
-    trial.call(&mut lent, Call::Write);
-    let mut lent = whole;
-    trial.call(&mut lent, Call::Write);
-    lent.table.pop();
-    trial.call(&mut lent, Call::Read);
+}
+
+/// Each card from the first element on, put in its own place.
+fn replaceable(table: &[u32]) -> Vec<Call> {
+    let trailer = table.len() / 6 - 1;
+    let first = 1 + (table[6 * trailer + 2] + table[6 * trailer + 3]) as usize;
+    (first..trailer).map(|row| same(table, row)).collect()
 }
 
 /// Pivots of some times their size: each correction then does less.
 pub fn unsettled(trial: &mut Trial) {
-    let mut groups = Groups::base();
-    groups.heats.push([1, 5_000]);
-    for times in [1, 2, 4, 8, 16, 1_000] {
-        let mut lent = built(trial, groups.table());
-        for i in 0..3 {
-            lent.matrices[FACTOR][triangle(i) + i] *= times;
+    for mut groups in [Groups::base(), Groups::corner()] {
+        groups.heats.push([1, 5_000]);
+        for times in [1, 2, 4, 8, 16, 1_000] {
+            let mut lent = built(trial, groups.table());
+            for i in 0..groups.nodes.len() {
+                lent.matrices[FACTOR][triangle(i) + i] *= times;
+            }
+            trial.call(&mut lent, Call::Step);
         }
-        trial.call(&mut lent, Call::Step);
     }
 }
 
@@ -79,18 +89,20 @@ pub fn off_the_card(trial: &mut Trial) {
 
 /// Refusal 10, and 7 and 8 of a replacement's factor.
 pub fn lent_numbers(trial: &mut Trial) {
-    let whole = built(trial, Groups::one_of_each().table());
-    for at in 0..6 {
-        let diagonal = [0, 2, 5].contains(&at);
-        let most = if diagonal { 1 << 38 } else { 1 << 24 };
-        for value in [15, 16, most, most + 1, -most, -most - 1] {
-            with(trial, &whole, FACTOR, at, value);
-        }
-        for matrix in [P, A] {
-            let mut empty = whole.clone();
-            empty.matrices[matrix].fill(0);
-            for value in [1 << 33, (1 << 33) + 1, -1 << 33, (-1 << 33) - 1] {
-                with(trial, &empty, matrix, at, value);
+    for groups in [Groups::one_of_each(), Groups::one_of_each_solid()] {
+        let whole = built(trial, groups.table());
+        for at in 0..triangle(groups.nodes.len()) {
+            let diagonal = [0, 2, 5, 9].contains(&at);
+            let most = if diagonal { 1 << 38 } else { 1 << 24 };
+            for value in [15, 16, most, most + 1, -most, -most - 1] {
+                with(trial, &whole, FACTOR, at, value);
+            }
+            for matrix in [P, A] {
+                let mut empty = whole.clone();
+                empty.matrices[matrix].fill(0);
+                for value in [1 << 33, (1 << 33) + 1, -1 << 33, (-1 << 33) - 1] {
+                    with(trial, &empty, matrix, at, value);
+                }
             }
         }
     }
@@ -108,24 +120,25 @@ pub fn lent_numbers(trial: &mut Trial) {
 
 /// One number of what is lent to a step and to a replacement of each kind.
 fn with(trial: &mut Trial, whole: &Lent, matrix: usize, at: usize, value: i64) {
-    let replacements = (5..10).map(|row| same(&whole.table, row));
-    for call in replacements.chain([Call::Step]) {
+    for call in replaceable(&whole.table).into_iter().chain([Call::Step]) {
         let mut lent = whole.clone();
         lent.matrices[matrix][at] = value;
         trial.call(&mut lent, call);
     }
 }
 
-/// A deck without T, so that no row of A is cleared, and its E, F and G put in their own places over such an A.
+/// Decks without T, so that no row of A is cleared, and their E, V, F and G put in their own places over such an A.
 fn first_row(trial: &mut Trial, d: i64, w: i64) {
-    let mut groups = Groups::base();
-    groups.films.push([1, 480, 19_660_800]);
-    groups.edges.push([1, 2, 1_800, 19_660_800, 1_000]);
-    let whole = built(trial, groups.table());
-    for row in [5, 6, 7] {
-        let mut lent = whole.clone();
-        lent.matrices[A] = vec![d, w, 1 << 31, 0, 0, 1 << 31];
-        trial.call(&mut lent, same(&whole.table, row));
+    for mut groups in [Groups::one_of_each(), Groups::one_of_each_solid()] {
+        (groups.heats, groups.fixed) = (vec![], vec![]);
+        let whole = built(trial, groups.table());
+        let mut a = vec![d, w, 1 << 31, 0, 0, 1 << 31, 0, 0, 0, 1 << 31];
+        a.truncate(whole.matrices[A].len());
+        for call in replaceable(&whole.table) {
+            let mut lent = whole.clone();
+            lent.matrices[A] = a.clone();
+            trial.call(&mut lent, call);
+        }
     }
 }
 
@@ -161,6 +174,17 @@ pub fn each_call(trial: &mut Trial, table: &[u32]) {
 
 /// Refusals 1 and 2 at their limits and just past them, from the largest deck that there is.
 pub fn lengths(trial: &mut Trial) {
+    // The first and the last V of the largest solid deck, of other materials; and the card in its place again.
+    let solid = Groups::largest_block(&mut trial.chance).table();
+    let mut lent = built(trial, solid.clone());
+    for row in [115, 264] {
+        let mut new: [u32; 6] = solid[6 * row..6 * row + 6].try_into().unwrap();
+        new[5] = 9 - new[5];
+        let card = row as u32 + 1;
+        trial.call(&mut lent, Call::Replace { card, new });
+        trial.call(&mut lent, same(&solid, row));
+    }
+    trial.as_built(&lent, [0, 2]);
     let table = Groups::largest(&mut trial.chance).table();
     each_call(trial, &table);
     let mut lent = built(trial, table.clone());

@@ -15,9 +15,11 @@ mod figures;
 mod heats;
 mod limits;
 mod met;
+mod met_solids;
 mod plan;
 mod show;
 mod shrink;
+mod solids;
 mod trial;
 
 use std::process::ExitCode;
@@ -36,7 +38,7 @@ fn main() -> ExitCode {
         }
     };
     figures::all();
-    println!("P1 to P12 and the edge film's figures out of the archive: as the papers have them");
+    println!("P1 to P12, the edge film's figures and the tetrahedron's out of the archive: as the papers have them");
     println!("seed {seed}");
     let mut trial = trial::Trial::new(seed, MOST);
     for (name, part) in plan::LENT.into_iter().chain(plan::DAMAGED) {

@@ -1,7 +1,8 @@
-//! What was met of G cards and of heats: counts that must not stay at zero. `tests/kernel` takes this file too.
+//! What was met of G cards, of heats and of solid decks: counts that must not stay at zero. `tests/kernel` takes this file too.
 
 use crate::case::{Call, Lent};
 use crate::decks::{E, G, H, N};
+use crate::met_solids::{Seen, Solids};
 
 /// Acceptance, and the refusals that a G card can be the cause of, or stand in the way of.
 const ANSWERS: [u64; 6] = [0, 3, 4, 7, 8, 13];
@@ -44,6 +45,7 @@ pub struct Met {
     things: [u64; 15],
     /// Heats in accepted steps, by the remainder of their units by three and by the order of the corners.
     heats: [[u64; 7]; 3],
+    solids: Solids,
 }
 
 impl Met {
@@ -61,6 +63,13 @@ impl Met {
             }
             _ => &before.table[..],
         };
+        self.solids.see(&Seen {
+            call,
+            bytes: &before.bytes,
+            table,
+            number,
+            place,
+        });
         let card = |number: usize| table.chunks_exact(6).nth(number.wrapping_sub(1));
         let letter = |number: usize| card(number).map_or(0, |card| card[0]);
         let concerned = match (call, number) {
@@ -85,14 +94,15 @@ impl Met {
         }
     }
 
-    /// Of a deck that stepped.
+    /// Of a deck that stepped; a tetrahedron leaves nothing.
     fn heated(&mut self, table: &[u32]) {
         let cards = || table.chunks_exact(6);
-        let elements: Vec<&[u32]> = cards().filter(|card| card[0] == E).collect();
+        let triangles: Vec<&[u32]> = cards().filter(|card| card[0] == E).collect();
         for card in cards().filter(|card| card[0] == H) {
-            let order = order_of(&elements[card[1] as usize - 1][1..4]);
-            // 65,536 leaves 1.
-            self.heats[card[2] as usize % 3][order] += 1;
+            if let Some(triangle) = triangles.get(card[1] as usize - 1) {
+                // 65,536 leaves 1.
+                self.heats[card[2] as usize % 3][order_of(&triangle[1..4])] += 1;
+            }
         }
     }
 
@@ -138,9 +148,10 @@ impl Met {
         self.things[thing] += u64::from(met);
     }
 
-    /// A deck as a fresh build makes it, after so many replacements of G cards.
-    pub fn as_built(&mut self, edges: u32) {
+    /// A deck as a fresh build makes it, after so many replacements of G and of V cards.
+    pub fn as_built(&mut self, [edges, solids]: [u32; 2]) {
         self.count(AS_BUILT, edges > 0);
+        self.solids.as_built(solids);
     }
 
     /// What was met, a line each.
@@ -163,6 +174,7 @@ impl Met {
         }
         let things = self.things.iter().zip(THINGS);
         lines.extend(things.map(|(count, thing)| format!("{count:>8} {thing}")));
+        lines.extend(self.solids.lines());
         lines
     }
 
@@ -187,6 +199,7 @@ impl Met {
                 .filter(|(count, _)| **count == 0)
                 .map(|(_, thing)| thing.to_string()),
         );
+        unmet.extend(self.solids.unmet());
         unmet
     }
 }
@@ -195,18 +208,23 @@ fn edges(table: &[u32]) -> impl Iterator<Item = &[u32]> {
     table.chunks_exact(6).filter(|card| card[0] == G)
 }
 
-/// The cards that the trailer of some bytes goes back over: of a number that isn't one, 0.
-fn cards_of(bytes: &[u8]) -> Vec<u32> {
-    let number = |columns: &[u8]| std::str::from_utf8(columns).ok()?.trim_start().parse().ok();
+/// The cards that the trailer of some bytes goes back over, as bytes; none where it can't be followed.
+pub fn cards_in(bytes: &[u8]) -> &[u8] {
     let back = bytes
         .len()
         .checked_sub(42)
         .and_then(|at| number(&bytes[at + 1..at + 9]));
-    let Some(start) = back.and_then(|back: u32| (bytes.len() - 42).checked_sub(back as usize))
-    else {
-        return vec![];
-    };
-    let cards = bytes[start..].chunks_exact(42);
+    let start = back.and_then(|back| (bytes.len() - 42).checked_sub(back as usize));
+    start.map_or(&[], |start| &bytes[start..])
+}
+
+fn number(columns: &[u8]) -> Option<u32> {
+    std::str::from_utf8(columns).ok()?.trim_start().parse().ok()
+}
+
+/// Those cards as a table: of a number that isn't one, 0.
+fn cards_of(bytes: &[u8]) -> Vec<u32> {
+    let cards = cards_in(bytes).chunks_exact(42);
     cards
         .flat_map(|card| {
             let fields = card[1..41].chunks_exact(8);
@@ -228,7 +246,7 @@ fn square_of(table: &[u32], card: &[u32]) -> u64 {
     let nodes: Vec<&[u32]> = table.chunks_exact(6).filter(|card| card[0] == N).collect();
     let [from, to] = [card[1], card[2]].map(|node| nodes[node as usize - 1]);
     let side = |field: usize| u64::from(from[field].abs_diff(to[field]));
-    side(1) * side(1) + side(2) * side(2)
+    (1..4).map(|field| side(field) * side(field)).sum()
 }
 
 /// g, by the squares.

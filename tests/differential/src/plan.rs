@@ -1,15 +1,17 @@
 //! What is tried: each function is one kind of case. `tests/kernel` takes this file too, for LENT.
 
 use crate::case::{Call, Lent};
-use crate::decks::{bytes_of, nodes_of, triangle, Chance, Groups, D, E, F, G, H, M, N, T, TOP, Z};
+use crate::decks::{
+    bytes_of, nodes_of, triangle, Chance, Groups, D, E, F, G, H, M, N, T, TOP, V, Z,
+};
 use crate::trial::Trial;
-use crate::{edges, heats, limits};
+use crate::{edges, heats, limits, solids};
 use reference::Card;
 
 pub type Part = (&'static str, fn(&mut Trial));
 
 /// Decks, own buffers and foreign ones.
-pub const LENT: [Part; 18] = [
+pub const LENT: [Part; 25] = [
     ("decks read and written back", valid_decks),
     ("builds over slices short, exact and long", builds),
     ("the paper's checked decks", checked_decks),
@@ -31,6 +33,22 @@ pub const LENT: [Part; 18] = [
     ("as many edges as there may be, and one more", edges::most),
     ("tables at the limits of length and count", limits::lengths),
     ("heats weighed at each corner", heats::shares),
+    ("heats weighed in quarters", heats::quarters),
+    ("solid decks of each kind", solids::decks),
+    (
+        "the groups of a solid deck in and out of order",
+        solids::orders,
+    ),
+    (
+        "z and kz where they may stand and where not",
+        solids::fields,
+    ),
+    (
+        "tetrahedra at the limits of u and of a pair",
+        solids::limits,
+    ),
+    ("every tetrahedron of a block replaced", solids::replaced),
+    ("edges that rise", solids::edges),
 ];
 
 /// Damages come last, so that a fault in the plain work is met as such.
@@ -46,11 +64,17 @@ pub const DAMAGED: [Part; 5] = [
 
 /// A deck of any kind: most of them build.
 fn deck(chance: &mut Chance) -> Vec<u32> {
-    match chance.within(0, 9) {
+    match chance.within(0, 13) {
         0 => Groups::slivers(chance).table(),
         1..=3 => Groups::wild(chance).table(),
         4 => Groups::base().table(),
         5 => sheet(chance, 12, 8),
+        6 => Groups::needles(chance).table(),
+        7 => match chance.one_in(4) {
+            true => Groups::block(chance, 16, 3, 2).table(),
+            false => Groups::one_of_each_solid().table(),
+        },
+        8 | 9 => block(chance),
         _ => {
             let (columns, rows) = (chance.within(2, 8), chance.within(2, 6));
             sheet(chance, columns, rows)
@@ -61,6 +85,12 @@ fn deck(chance: &mut Chance) -> Vec<u32> {
 /// A sheet of nodes as on a board, with its nodes numbered along the rows.
 fn sheet(chance: &mut Chance, columns: u32, rows: u32) -> Vec<u32> {
     Groups::sheet(chance, columns, rows).table()
+}
+
+/// A small block of tetrahedra.
+fn block(chance: &mut Chance) -> Vec<u32> {
+    let [columns, rows, floors] = [0; 3].map(|_| chance.within(2, 3));
+    Groups::block(chance, columns, rows, floors).table()
 }
 
 /// The paper's P6.
@@ -172,25 +202,27 @@ fn read(trial: &mut Trial, bytes: &[u8], room: usize) {
 }
 
 fn each_byte(trial: &mut Trial) {
-    let table = Groups::one_of_each().table();
-    let mut bytes = bytes_of(&table);
-    for at in 0..bytes.len() {
-        let right = bytes[at];
-        for value in 0..=255 {
-            bytes[at] = value;
-            read(trial, &bytes, table.len());
+    for groups in [Groups::one_of_each(), Groups::one_of_each_solid()] {
+        let table = groups.table();
+        let mut bytes = bytes_of(&table);
+        for at in 0..bytes.len() {
+            let right = bytes[at];
+            for value in 0..=255 {
+                bytes[at] = value;
+                read(trial, &bytes, table.len());
+            }
+            bytes[at] = right;
         }
-        bytes[at] = right;
     }
 }
 
 fn damaged_bytes(trial: &mut Trial) {
     for _ in trial.times(20_000) {
         let chance = &mut trial.chance;
-        let table = if chance.one_in(2) {
-            Groups::wild(chance).table()
-        } else {
-            sheet(chance, 4, 3)
+        let table = match chance.within(0, 5) {
+            0 => Groups::block(chance, 2, 2, 2).table(),
+            1 | 2 => sheet(chance, 4, 3),
+            _ => Groups::wild(chance).table(),
         };
         let mut bytes = bytes_of(&table);
         for _ in 0..chance.within(1, 3) {
@@ -204,13 +236,13 @@ fn damaged_bytes(trial: &mut Trial) {
 fn any_byte(chance: &mut Chance) -> u8 {
     match chance.within(0, 2) {
         0 => chance.bits() as u8,
-        _ => chance.pick(b"0123456789 \nDNMEHFGTZ-+"),
+        _ => chance.pick(b"0123456789 \nDNMEVHFGTZ-+"),
     }
 }
 
 fn cuts(trial: &mut Trial) {
     let sheet = sheet(&mut trial.chance, 3, 3);
-    for table in [small(), sheet] {
+    for table in [small(), sheet, Groups::one_of_each_solid().table()] {
         let mut bytes = b"notes\nnotes".to_vec();
         bytes.extend(bytes_of(&table));
         for at in 0..=bytes.len() {
@@ -322,7 +354,7 @@ fn builds(trial: &mut Trial) {
 fn replacement(chance: &mut Chance, table: &[u32]) -> Call {
     let rows = table.len() / 6;
     let changeable: Vec<usize> = (0..rows)
-        .filter(|&index| [E, H, F, G, T].contains(&table[6 * index]))
+        .filter(|&index| [E, V, H, F, G, T].contains(&table[6 * index]))
         .collect();
     let index = if chance.one_in(12) {
         chance.index(rows)
@@ -332,6 +364,7 @@ fn replacement(chance: &mut Chance, table: &[u32]) -> Call {
     let mut new = card_of(table, index);
     let ranges: &[(usize, u32, u32)] = match new[0] {
         E => &[(4, 1, 8), (5, 1, 4_000)],
+        V => &[(5, 1, 8)],
         H => &[(2, 1, 5_000_000)],
         F => &[(2, 1, 100_000), (3, 0, TOP)],
         G => &[(3, 1, 100_000), (4, 0, TOP), (5, 1, 4_000)],
@@ -354,9 +387,12 @@ fn replacement(chance: &mut Chance, table: &[u32]) -> Call {
         new[4] = chance.within(1, table[table.len() - 3]);
         new[5] = new[5].clamp(1, 4_000);
     }
+    if new[0] == V && !chance.one_in(8) {
+        new[5] = chance.within(1, table[table.len() - 3]);
+    }
     let mut card = index as u32 + 1;
     match chance.within(0, 40) {
-        0 => new[0] = chance.pick(&[D, N, M, E, H, F, G, T, Z, 0, 65]),
+        0 => new[0] = chance.pick(&[D, N, M, E, V, H, F, G, T, Z, 0, 65]),
         1 => new[chance.within(1, 5) as usize] = chance.unsigned(),
         2 => card = chance.unsigned(),
         3 => card = chance.pick(&[0, 1, rows as u32, rows as u32 + 1, u32::MAX]),
@@ -372,7 +408,7 @@ fn replacements(trial: &mut Trial) {
         let length = triangle(nodes_of(&table));
         let mut lent = lend(chance, table);
         trial.call(&mut lent, Call::Build);
-        let mut edges = 0;
+        let mut replaced = [0; 2];
         for _ in 0..60 {
             let chance = &mut trial.chance;
             let call = replacement(chance, &lent.table);
@@ -384,16 +420,19 @@ fn replacements(trial: &mut Trial) {
             let answer = trial.call(&mut now, call);
             if answer == 0 {
                 lent = now;
-                edges += u32::from(matches!(call, Call::Replace { new: [G, ..], .. }));
+                for (count, letter) in replaced.iter_mut().zip([G, V]) {
+                    *count +=
+                        u32::from(matches!(call, Call::Replace { new, .. } if new[0] == letter));
+                }
             }
             if trial.chance.one_in(8) {
                 trial.call(&mut lent, Call::Step);
             }
             if trial.chance.one_in(10) {
-                trial.as_built(&lent, edges);
+                trial.as_built(&lent, replaced);
             }
         }
-        trial.as_built(&lent, edges);
+        trial.as_built(&lent, replaced);
     }
 }
 
@@ -532,7 +571,7 @@ fn damage(chance: &mut Chance, table: &mut Vec<u32>) {
         }
         2 => table.truncate(chance.index(table.len() + 1)),
         3 => table.extend((0..chance.within(1, 13)).map(|_| 0)),
-        4 => table[row] = chance.pick(&[D, N, M, E, H, F, G, T, Z, 0, u32::MAX]),
+        4 => table[row] = chance.pick(&[D, N, M, E, V, H, F, G, T, Z, 0, u32::MAX]),
         // The trailer's own numbers.
         5 => {
             let at = table.len() - 1 - chance.index(6);
@@ -551,8 +590,8 @@ fn damage(chance: &mut Chance, table: &mut Vec<u32>) {
 
 /// Another number: beside this one, at a limit of the paper or beside it, or anything.
 fn edge(chance: &mut Chance, number: u32) -> u32 {
-    const LIMITS: [u32; 14] = [
-        0, 1, 3, 8, 96, 160, 576, 4_000, 4_095, 5_000, 60_000, 100_000, 500_000, 5_000_000,
+    const LIMITS: [u32; 15] = [
+        0, 1, 3, 8, 96, 160, 576, 1_023, 4_000, 4_095, 5_000, 60_000, 100_000, 500_000, 5_000_000,
     ];
     match chance.within(0, 4) {
         0 => number.wrapping_add(1),

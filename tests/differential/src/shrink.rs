@@ -1,7 +1,7 @@
 //! Makes a case that disagrees small, by edits after which it still does.
 
 use crate::case::{Call, Case};
-use crate::decks::{triangle, E, F, G, H, M, N, T};
+use crate::decks::{triangle, E, F, G, H, M, N, T, V};
 use std::time::{Duration, Instant};
 
 const MOST: Duration = Duration::from_secs(20);
@@ -180,7 +180,7 @@ fn without_bytes(case: &mut Case, row: usize) -> Option<()> {
     let count = match u32::from(bytes[at]) {
         N => 1,
         M => 2,
-        E => 3,
+        E | V => 3,
         H | F | G | T => 4,
         _ => return None,
     };
@@ -207,7 +207,7 @@ fn less_room(case: &mut Case) -> Option<()> {
 /// Takes out one card; with an element its loads go too, and the nodes that no other has.
 fn without_all(case: &mut Case, row: usize) -> Option<()> {
     let table = &case.lent.table;
-    if *table.get(6 * row)? != E {
+    if !is_element(*table.get(6 * row)?) {
         return without(case, row);
     }
     let element = ordinal(table, row);
@@ -215,8 +215,9 @@ fn without_all(case: &mut Case, row: usize) -> Option<()> {
         (card[0] == H || card[0] == F) && card[1] == element
     })?;
     without(case, row)?;
-    let elements = case.lent.table.chunks(6).filter(|card| card[0] == E);
-    let used: Vec<u32> = elements.flat_map(|card| &card[1..4]).copied().collect();
+    let elements = case.lent.table.chunks(6).filter(|card| is_element(card[0]));
+    let corners = |card: &[u32]| card[1..4 + usize::from(card[0] == V)].to_vec();
+    let used: Vec<u32> = elements.flat_map(corners).collect();
     take_all(case, |_, card| card[0] == T && !used.contains(&card[1]))?;
     take_all(case, |_, card| {
         card[0] == G && !card[1..3].iter().all(|node| used.contains(node))
@@ -235,12 +236,17 @@ fn take_all(case: &mut Case, test: impl Fn(u32, &[u32]) -> bool) -> Option<()> {
     Some(())
 }
 
-/// The number of a card within its group, from 1.
+/// Is a card of that letter an element? E and V are numbered together.
+fn is_element(letter: u32) -> bool {
+    letter == E || letter == V
+}
+
+/// The number of a card within its group, or among the elements, from 1.
 fn ordinal(table: &[u32], row: usize) -> u32 {
-    table[..=6 * row]
-        .chunks(6)
-        .filter(|card| card[0] == table[6 * row])
-        .count() as u32
+    let letter = table[6 * row];
+    let alike = |other: u32| other == letter || (is_element(other) && is_element(letter));
+    let cards = table[..=6 * row].chunks(6);
+    cards.filter(|card| alike(card[0])).count() as u32
 }
 
 /// Takes out one card. None where another card names what it describes.
@@ -252,7 +258,7 @@ fn without(case: &mut Case, row: usize) -> Option<()> {
         + match letter {
             N => 2,
             M => 3,
-            E => 4,
+            E | V => 4,
             H | F | G | T => 5,
             _ => return None,
         };
@@ -288,9 +294,11 @@ fn without(case: &mut Case, row: usize) -> Option<()> {
 fn renumber(card: &mut [u32], gone: u32, key: u32) -> Option<()> {
     let named: &[usize] = match (gone, card[0]) {
         (N, E) => &[1, 2, 3],
+        (N, V) => &[1, 2, 3, 4],
         (N, G) => &[1, 2],
-        (N, T) | (E, H) | (E, F) => &[1],
+        (N, T) | (E | V, H | F) => &[1],
         (M, E) => &[4],
+        (M, V) => &[5],
         _ => &[],
     };
     for &field in named {

@@ -15,7 +15,7 @@ pub struct Trial {
     pub chance: Chance,
     /// Cases by call and by number: 0 is acceptance.
     met: [[u64; 14]; 5],
-    edges: Met,
+    things: Met,
     /// Decks after replacements that were compared with a fresh build.
     fresh: u64,
     began: Instant,
@@ -27,7 +27,7 @@ impl Trial {
         Trial {
             chance: Chance::seeded(seed),
             met: [[0; 14]; 5],
-            edges: Met::default(),
+            things: Met::default(),
             fresh: 0,
             began: Instant::now(),
             most,
@@ -57,14 +57,14 @@ impl Trial {
             exit(1);
         }
         self.met[call.index()][(ours.answer & 255) as usize] += 1;
-        self.edges.see(call, &case.lent, &ours.lent, ours.answer);
+        self.things.see(call, &case.lent, &ours.lent, ours.answer);
         *lent = ours.lent;
         ours.answer
     }
 
     /// Where the deck builds, P, A and the factor are what the archive makes of it afresh, or the program ends here. So many
-    /// replacements of G cards came before.
-    pub fn as_built(&mut self, lent: &Lent, edges: u32) {
+    /// replacements of G cards and of V cards came before.
+    pub fn as_built(&mut self, lent: &Lent, replaced: [u32; 2]) {
         let mut anew = lent.clone();
         anew.matrices[..3]
             .iter_mut()
@@ -84,7 +84,7 @@ impl Trial {
             exit(1);
         }
         self.fresh += 1;
-        self.edges.as_built(edges);
+        self.things.as_built(replaced);
     }
 
     pub fn fresh(&self) -> u64 {
@@ -104,7 +104,7 @@ impl Trial {
         self.met.iter().flatten().sum()
     }
 
-    /// Prints what was met. Was every refusal, and all of G?
+    /// Prints what was met. Was every refusal, and all of G, of heats and of V?
     pub fn report(&self) -> bool {
         print!("{:8} {:>8} {:>8}", "call", "cases", "done");
         (1..14).for_each(|number| print!(" {number:>6}"));
@@ -120,12 +120,12 @@ impl Trial {
         if !unmet.is_empty() {
             println!("refusals not met: {unmet:?}");
         }
-        self.edges
+        self.things
             .lines()
             .iter()
             .for_each(|line| println!("{line}"));
-        let edges = self.edges.unmet();
-        edges.iter().for_each(|thing| println!("not met: {thing}"));
-        unmet.is_empty() && edges.is_empty()
+        let things = self.things.unmet();
+        things.iter().for_each(|thing| println!("not met: {thing}"));
+        unmet.is_empty() && things.is_empty()
     }
 }

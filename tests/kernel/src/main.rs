@@ -22,6 +22,11 @@ mod limits;
 #[path = "../../differential/src/met.rs"]
 #[allow(dead_code)]
 mod met;
+#[path = "../../differential/src/met_solids.rs"]
+#[allow(dead_code)]
+mod met_solids;
+#[path = "../../differential/src/solids.rs"]
+mod solids;
 
 mod model;
 mod plan;

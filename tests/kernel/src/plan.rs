@@ -1,7 +1,7 @@
 //! What is tried, part by part.
 
 use crate::cases;
-use crate::decks::{bytes_of, text_of, Chance, Groups, D, E, F, G, H, M, N, T, TOP, Z};
+use crate::decks::{bytes_of, text_of, Chance, Groups, D, E, F, G, H, M, N, T, TOP, V, Z};
 use crate::record::Record;
 use crate::trial::Trial;
 use reference::{Card, MAX_BYTES};
@@ -10,6 +10,7 @@ pub fn all(record: &mut Record) {
     before_any_deck(record);
     checked_decks(record);
     a_triangle_replaced(record);
+    solids(record);
     refusing_replacements(record);
     refused_steps(record);
     boards(record);
@@ -22,7 +23,7 @@ pub fn all(record: &mut Record) {
     lengths(record);
     nonsense(record);
     enough(record);
-    record.traced = small();
+    record.traced = [small(), bytes_of(&Groups::one_of_each_solid().table())];
 }
 
 fn before_any_deck(record: &mut Record) {
@@ -70,7 +71,60 @@ fn a_triangle_replaced(record: &mut Record) {
     groups.fixed.push([2, 21_000_000]);
     tried(record, &groups);
     replaced(record, 100, 1);
+    // A film out of its range, and other ends.
+    record.replace(10, [G, 1, 3, 0, 18_500_000, 1_000]);
+    record.replace(10, [G, 1, 2, 9, 18_500_000, 1_000]);
     record.back();
+}
+
+/// The tetrahedron's checked deck, two of them with a card of every kind and other materials, blocks of 8 to 96 nodes; and decks
+/// whose z, kz, triangles or films are where they may not be.
+fn solids(record: &mut Record) {
+    tried(record, &Groups::corner());
+    tried(record, &Groups::two_solids());
+    replaced(record, 60, 2);
+    for material in [0, 1, 2, 3] {
+        record.replace(11, [V, 5, 3, 2, 4, material]);
+        record.replace(11, [V, 5, 3, 4, 2, material]);
+    }
+    for [columns, rows, floors] in [[2, 2, 2], [3, 3, 2], [2, 2, 3], [16, 3, 2]] {
+        let groups = Groups::block(&mut record.chance, columns, rows, floors);
+        tried(record, &groups);
+        replaced(record, 20, 2);
+        record.steps(10);
+        record.back();
+    }
+    let largest = Groups::largest_block(&mut record.chance);
+    tried(record, &largest);
+    let each = Groups::one_of_each_solid;
+    let mut decks = [(); 9].map(|()| each());
+    decks[0].levels[1] = 1;
+    decks[1].films[0][0] = 2;
+    decks[2].solids.clear();
+    decks[3].nodes[0] = [0, 1_024];
+    decks[4].levels[3] = 1_024;
+    decks[5].upward[0] = 500_001;
+    decks[6].levels[3] = 0;
+    decks[7].levels.clear();
+    decks[8].solids[0] = [1, 2, 3, 5, 1];
+    for groups in &decks {
+        record.deck(&text_of(&groups.table()));
+    }
+    // The columns of a z and of a kz, of a solid deck and a flat one: blank, a number, none.
+    for (deck, rows) in [
+        (each().table(), [4, 5]),
+        (Groups::one_of_each().table(), [3, 4]),
+    ] {
+        for (row, field) in rows.into_iter().zip([3, 4]) {
+            for columns in [b"        ", b"       0", b"       7", b"      07"] {
+                let mut bytes = bytes_of(&deck);
+                let at = 42 * row + 8 * field - 7;
+                bytes[at..at + 8].copy_from_slice(columns);
+                record.deck(&bytes);
+            }
+        }
+    }
+    record.steps(1);
 }
 
 /// Replacements by chance, a step after each `between`.
@@ -91,13 +145,14 @@ fn replaced(record: &mut Record, count: usize, between: usize) {
 fn replacement(chance: &mut Chance, table: &[u32]) -> (u32, Card) {
     let cards: Vec<&[u32]> = table.chunks_exact(6).collect();
     let free: Vec<usize> = (0..cards.len())
-        .filter(|&index| [E, H, F, G, T].contains(&cards[index][0]))
+        .filter(|&index| [E, V, H, F, G, T].contains(&cards[index][0]))
         .collect();
     let materials = cards.iter().filter(|card| card[0] == M).count() as u32;
     let index = chance.pick(&free);
     let mut new: Card = cards[index].try_into().unwrap();
     match new[0] {
         E => (new[4], new[5]) = (chance.within(1, materials), chance.within(800, 2_000)),
+        V => new[5] = chance.within(1, materials),
         H => new[2] = chance.within(1, 500_000),
         F => (new[2], new[3]) = (chance.within(1, 100_000), warmth(chance)),
         G => {
@@ -120,7 +175,7 @@ fn warmth(chance: &mut Chance) -> u32 {
 fn fault(chance: &mut Chance, card: &mut u32, new: &mut Card, cards: u32) {
     match chance.within(0, 4) {
         0 => *card = chance.pick(&[0, 1, 2, cards, cards + 1, u32::MAX]),
-        1 => new[0] = chance.pick(&[D, N, M, E, H, F, G, T, Z, 0, 256 + E, u32::MAX]),
+        1 => new[0] = chance.pick(&[D, N, M, E, V, H, F, G, T, Z, 0, 256 + E, u32::MAX]),
         2 => *card = chance.within(1, cards),
         _ => new[chance.within(1, 5) as usize] = chance.unsigned(),
     }
@@ -262,7 +317,7 @@ fn edges(record: &mut Record) {
 fn any_byte(chance: &mut Chance) -> u8 {
     match chance.within(0, 2) {
         0 => chance.bits() as u8,
-        _ => chance.pick(b"0123456789 \nDNMEHFGTZ"),
+        _ => chance.pick(b"0123456789 \nDNMEVHFGTZ"),
     }
 }
 
@@ -385,7 +440,9 @@ fn enough(record: &Record) {
         .iter()
         .all(|&number| replacements[number] > 0));
     assert!([1, 8, 11].iter().all(|&number| steps[number] > 0));
-    assert!([0, 4, 13].iter().all(|&number| record.edges[number] > 0));
+    for met in [record.edges, record.solids] {
+        assert!([0, 4, 13].iter().all(|&number| met[number] > 0));
+    }
 }
 
 /// The differential test's cases of own and foreign buffers.
@@ -398,6 +455,6 @@ pub fn lent(trial: &mut Trial) {
     let [.., replace, step] = met;
     assert!([7, 8, 10, 13].iter().all(|&number| replace[number] > 0));
     assert!([8, 10, 11, 12].iter().all(|&number| step[number] > 0));
-    let unmet = trial.edges.unmet();
+    let unmet = trial.things.unmet();
     assert!(unmet.is_empty(), "not met: {unmet:?}");
 }

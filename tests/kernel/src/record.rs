@@ -1,6 +1,6 @@
 //! The commands, one a line, and what the guest shows of each.
 
-use crate::decks::{Chance, G};
+use crate::decks::{Chance, G, V};
 use crate::model::Model;
 use crate::trial::Trial;
 use crate::words;
@@ -15,13 +15,15 @@ pub struct Record {
     answer: String,
     commands: Vec<String>,
     decks: Vec<Vec<u8>>,
-    /// The deck that stack traces are taken with.
-    pub traced: Vec<u8>,
+    /// The decks that stack traces are taken with, a flat one and a solid one.
+    pub traced: [Vec<u8>; 2],
     shown: Vec<String>,
     /// Accepted calls, and refused ones by number: decks, replacements, writes of steps.
     pub met: [[u32; 14]; 3],
     /// Of the replacements, those by a G card.
     pub edges: [u32; 14],
+    /// And those by a V card.
+    pub solids: [u32; 14],
 }
 
 fn number_of(answer: Answer) -> usize {
@@ -36,10 +38,11 @@ impl Record {
             answer: "no answer".to_string(),
             commands: vec![],
             decks: vec![],
-            traced: vec![],
+            traced: [vec![], vec![]],
             shown: vec![],
             met: [[0; 14]; 3],
             edges: [0; 14],
+            solids: [0; 14],
         }
     }
 
@@ -71,6 +74,7 @@ impl Record {
         let answer = self.model.replace(card, new);
         self.met[1][number_of(answer)] += 1;
         self.edges[number_of(answer)] += u32::from(new[0] == G);
+        self.solids[number_of(answer)] += u32::from(new[0] == V);
         self.answer = words::answered(answer);
         self.show();
     }
@@ -109,7 +113,9 @@ impl Record {
         for (number, bytes) in self.decks.iter().enumerate() {
             fs::write(plan.join(number.to_string()), bytes)?;
         }
-        fs::write(plan.join("traced"), &self.traced)?;
+        for (name, deck) in ["flat", "solid"].iter().zip(&self.traced) {
+            fs::write(plan.join(name), deck)?;
+        }
         fs::write(plan.join("commands"), self.commands.join("\n") + "\n")?;
         let files = trial.write(&plan)?;
         self.shown

@@ -23,7 +23,7 @@ pub struct Trial {
     files: Vec<Cases>,
     /// Cases by call and by number: 0 is acceptance.
     pub met: [[u32; 14]; 5],
-    pub edges: Met,
+    pub things: Met,
 }
 
 impl Trial {
@@ -32,7 +32,7 @@ impl Trial {
             chance: Chance::seeded(seed),
             files: vec![Cases::default()],
             met: [[0; 14]; 5],
-            edges: Met::default(),
+            things: Met::default(),
         }
     }
 
@@ -48,7 +48,7 @@ impl Trial {
         };
         let right = case.by_reference();
         self.met[call.index()][(right.answer & 255) as usize] += 1;
-        self.edges.see(call, &case.lent, &right.lent, right.answer);
+        self.things.see(call, &case.lent, &right.lent, right.answer);
         if self.files.last().unwrap().before.len() > ENOUGH {
             self.files.push(Cases::default());
         }
@@ -60,13 +60,13 @@ impl Trial {
     }
 
     /// A build of the deck as it is, into buffers that held something else.
-    pub fn as_built(&mut self, lent: &Lent, edges: u32) {
+    pub fn as_built(&mut self, lent: &Lent, replaced: [u32; 2]) {
         let mut anew = lent.clone();
         anew.matrices[..3]
             .iter_mut()
             .for_each(|matrix| matrix.fill(0));
         if self.call(&mut anew, Call::Build) == 0 {
-            self.edges.as_built(edges);
+            self.things.as_built(replaced);
         }
     }
 

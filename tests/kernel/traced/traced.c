@@ -10,7 +10,7 @@
 #include <linux/stacktrace.h>
 #include <linux/string.h>
 
-#define MOST 128
+#define MOST 512 /* the text has some 130; with a longer list the kernel refuses to load this, so that none is left out */
 #define DEEP 40
 
 static char *places[MOST];

@@ -1,9 +1,13 @@
 use borrow.Author.Needs.{needs}
 use Rattle.cards.proofs.counts_at.Statement.{statement}
 use Rattle.cards.proofs.counts_at.Tie as tie
-use mathlib.Core.Path.{ap, _∙_}
-use Prim.Native.Nat.{_-_}
-use Rattle.paper.specs.Cards.{countsOf, rows}
+use mathlib.Core.Path.{_≡_, sym, ap, _∙_}
+use mathlib.Core.List.{List}
+use Prim.Native.Nat.{ℕ, _+_, _-_}
+use native.Mathlib.Omega.{arith}
+use lib.ListN.{getD}
+use Rattle.paper.specs.Cards.{countsOf, letter, rows, rowAt}
+use Rattle.laws.proofs.Tables.{row-field}
 use Rattle.cards.proofs.Rows.{lent}
 
 sub-at : tie.Need-sub-at
@@ -14,6 +18,24 @@ mul-at c = search needs
 
 add-end : tie.Need-add-end
 add-end c = search needs
+
+mul-last-element : tie.Need-mul-last-element
+mul-last-element c = search needs
+
+sub-last-element : tie.Need-sub-last-element
+sub-last-element c = search needs
+
+part-last-element-start : tie.Need-part-last-element-start
+part-last-element-start c = search needs
+
+part-last-element-end : tie.Need-part-last-element-end
+part-last-element-end c = search needs
+
+last-element-requires : tie.Need-last-element-requires
+last-element-requires c κs = search needs
+
+number-at-requires : tie.Need-number-at-requires
+number-at-requires c κs = (c .last-element .ensures .1, omega arith)
 
 mul-counts-of : tie.Need-mul-counts-of
 mul-counts-of c = search needs
@@ -32,8 +54,9 @@ counts-of-requires c κs = search needs
 
 returns : tie.Need-returns
 returns c =
-    let t = c .before .before .before .args .t .now in
-    c .counts-of .ensures ∙ ap countsOf (lent t (rows t - 1))
+    let t = c .before .before .before .before .before .before .args .t .now in
+    c .counts-of .ensures (letter t) (c .before .before .number-at .ensures ∙ row-field t (c .before .before .before .last-element .result) 0 (omega arith) ∙ ap (letter t) (c .before .before .before .last-element .ensures .0))
+    ∙ ap (λ (card : List ℕ). countsOf card (letter t)) (lent t (rows t - 1))
 
 pub counts-at-spec : {M : Type 1} → statement M
 counts-at-spec =
@@ -42,6 +65,12 @@ counts-at-spec =
     sub-at
     mul-at
     add-end
+    mul-last-element
+    sub-last-element
+    part-last-element-start
+    part-last-element-end
+    last-element-requires
+    number-at-requires
     mul-counts-of
     sub-counts-of
     part-counts-of-start

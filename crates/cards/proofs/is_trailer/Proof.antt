@@ -1,7 +1,7 @@
 use borrow.Author.Needs.{needs}
 use Rattle.cards.proofs.is_trailer.Statement.{statement}
 use Rattle.cards.proofs.is_trailer.Tie as tie
-use mathlib.Core.Path.{_≡_, sym, ap, _∙_}
+use mathlib.Core.Path.{_≡_, refl, sym, ap, _∙_}
 use lib.ListN.{getD}
 use Rattle.paper.specs.Kinds.{letterOf}
 use Rattle.paper.specs.Cards.{columnsOf, inRange}
@@ -35,7 +35,7 @@ returns-2 c =
     let e : getD card 0 0 ≡ letterOf Z = c .before .before .before .if1 .left ∙ ap (λ (a : About). a .letter) (c .before .before .before .before .before .about .ensures) in
     c .in-range .ensures
     ∙ card-range (c .before .before .counts-of .result) card (its-kind card e) (c .before .columns-of .ensures)
-    ∙ ap (λ (z : Counts). inRange (columnsOf z card) card 5 0) (c .before .before .counts-of .ensures)
+    ∙ ap (λ (z : Counts). inRange (columnsOf z card) card 5 0) (c .before .before .counts-of .ensures (λ i. 0) refl)
     ∙ a-trailer card e
 
 pub is-trailer-spec : {M : Type 1} → statement M

@@ -5,12 +5,12 @@ use mathlib.Core.Path.{_≡_, sym, ap, _∙_}
 use Prim.Native.Nat.{_-_, _≤_}
 use native.Mathlib.Omega.{arith}
 use native.Mathlib.Nat.{sub-zero}
-use Rattle.paper.specs.Kinds.{about, kindAt}
+use Rattle.paper.specs.Kinds.{about}
 use Rattle.paper.specs.Cards.{rowAt, ranked}
 use Rattle.paper.specs.Judge.{judgeFrom}
 use Rattle.paper.specs.declared.About.{About}
 use Rattle.laws.proofs.Judging.{judge-on, judge-here, judge-end}
-use Rattle.cards.proofs.Rows.{lent, letter-at, lent-card}
+use Rattle.cards.proofs.Rows.{lent, letter-at}
 
 abbrev Inv-loop : tie.InvT-loop
 Inv-loop counts t rows i₀ group₀ key₀ i group key = (i ≤ rows) × (judgeFrom counts (rowAt t) rows 0 0 0 ≡ judgeFrom counts (rowAt t) (rows - i) i group key)
@@ -36,29 +36,8 @@ shared-slice-read-kind c = search needs
 kind-requires : tie.Need-kind-requires Inv-loop μ-loop
 kind-requires c κs = search needs
 
-about-requires : tie.Need-about-requires Inv-loop μ-loop
-about-requires c κs = search needs
-
-is-full-requires : tie.Need-is-full-requires Inv-loop μ-loop
-is-full-requires c κs = search needs
-
-mul-judge-card : tie.Need-mul-judge-card Inv-loop μ-loop
-mul-judge-card c = search needs
-
-sub-judge-card : tie.Need-sub-judge-card Inv-loop μ-loop
-sub-judge-card c = search needs
-
-part-judge-card-start : tie.Need-part-judge-card-start Inv-loop μ-loop
-part-judge-card-start c = search needs
-
-part-judge-card-end : tie.Need-part-judge-card-end Inv-loop μ-loop
-part-judge-card-end c = search needs
-
-judge-card-requires : tie.Need-judge-card-requires Inv-loop μ-loop
-judge-card-requires c κs =
-    let t = c .before .before .before .before .before .before .before .before .args .t .now in
-    let i = c .before .before .before .before .before .before .loop .i in
-    (search needs, c .before .before .before .kind .ensures ∙ letter-at t i ∙ sym (ap kindAt (lent t i)), search needs)
+judge-row-requires : tie.Need-judge-row-requires Inv-loop μ-loop
+judge-row-requires c κs = (search needs, search needs, c .kind .ensures ∙ letter-at (c .before .before .before .before .before .args .t .now) (c .before .before .before .loop .i))
 
 enum-told : tie.Need-enum-told Inv-loop μ-loop
 enum-told c = search needs
@@ -68,12 +47,14 @@ enum-told-2 c = search needs
 
 returns : tie.Need-returns Inv-loop μ-loop
 returns c =
-    let a = c .before .before .before .before .before .before .before .before .before .before .before .args in
+    let a = c .before .before .before .before .before .before .before .before .args in
     let t = a .t .now in
-    let l = c .before .before .before .before .before .before .before .before .before .loop in
-    let b = c .before .before .before .before .before .about .ensures ∙ ap about (c .before .before .before .before .before .before .kind .ensures ∙ letter-at t (l .i)) in
-    let e = sym (c .before .before .judge-card .ensures ∙ lent-card (a .counts) t (l .i) (l .group) (l .key) (c .before .before .before .before .is-full .ensures) b) ∙ c .enum-told2 .given .1 in
+    let l = c .before .before .before .before .before .before .loop in
+    let e = sym (c .before .before .judge-row .ensures) ∙ c .enum-told2 .given .1 in
     c .enum-told2 .given .1 ∙ judge-here (a .counts) (rowAt t) (a .rows) (l .i) (l .group) (l .key) _ (omega arith) e ∙ sym (l .inv .1)
+
+about-requires : tie.Need-about-requires Inv-loop μ-loop
+about-requires c κs = search needs
 
 mul-rank : tie.Need-mul-rank Inv-loop μ-loop
 mul-rank c = search needs
@@ -98,11 +79,11 @@ loop-less c = search needs
 
 loop-again : tie.Need-loop-again Inv-loop μ-loop
 loop-again c =
-    let a = c .before .before .before .before .before .before .before .before .before .before .before .before .before .args in
+    let a = c .before .before .before .before .before .before .before .before .before .before .before .args in
     let t = a .t .now in
-    let l = c .before .before .before .before .before .before .before .before .before .before .before .loop in
-    let b = c .before .before .before .before .before .before .before .about .ensures ∙ ap about (c .before .before .before .before .before .before .before .before .kind .ensures ∙ letter-at t (l .i)) in
-    let e = sym (c .before .before .before .before .judge-card .ensures ∙ lent-card (a .counts) t (l .i) (l .group) (l .key) (c .before .before .before .before .before .before .is-full .ensures) b) ∙ c .before .before .enum-told .given .1 in
+    let l = c .before .before .before .before .before .before .before .before .before .loop in
+    let b = c .before .before .about .ensures ∙ ap about (c .before .before .before .before .before .before .kind .ensures ∙ letter-at t (l .i)) in
+    let e = sym (c .before .before .before .before .before .judge-row .ensures) ∙ c .before .before .before .enum-told .given .1 in
     let o = ap (λ (b : About). b .order) b in
     let k = c .rank .ensures ∙ (λ j. ranked (b j) (lent t (l .i) j)) in
     let g = judge-on (a .counts) (rowAt t) (a .rows) (l .i) (l .group) (l .key) (omega arith) e in
@@ -126,16 +107,11 @@ judge-cards-spec =
     mul-kind
     shared-slice-read-kind
     kind-requires
-    about-requires
-    is-full-requires
-    mul-judge-card
-    sub-judge-card
-    part-judge-card-start
-    part-judge-card-end
-    judge-card-requires
+    judge-row-requires
     enum-told
     enum-told-2
     returns
+    about-requires
     mul-rank
     sub-rank
     part-rank-start

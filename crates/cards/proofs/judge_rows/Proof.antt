@@ -5,7 +5,7 @@ use mathlib.Core.Path.{sym, ap, _∙_}
 use Prim.Native.Nat.{_+_, _*_}
 use native.Mathlib.Omega.{arith}
 use borrow.Author.Tests.{not-true, not-false}
-use Rattle.paper.specs.Cards.{countsOf, rowAt}
+use Rattle.paper.specs.Cards.{rowAt}
 use Rattle.paper.specs.Judge.{trailer, judgeFrom}
 use Rattle.paper.specs.declared.Counts.{Counts}
 use Rattle.laws.proofs.Judging.{rows-trailer, rows-back, rows-cards}
@@ -58,33 +58,21 @@ returns-2 c =
     let z = sym (c .before .before .before .is-trailer .ensures ∙ ap trailer (lent (a .t .now) (a .rows))) ∙ not-false (c .before .before .before .is-trailer .result) (c .before .before .if1 .left) in
     rows-back (a .t .now) (a .rows) z (λ e. c .if2 .taken (at-row (a .t .now) (a .rows) 1 (omega arith) ∙ e))
 
-mul-counts-of : tie.Need-mul-counts-of
-mul-counts-of c = search needs
-
-sub-counts-of : tie.Need-sub-counts-of
-sub-counts-of c = search needs
-
-part-counts-of-start : tie.Need-part-counts-of-start
-part-counts-of-start c = search needs
-
-part-counts-of-end : tie.Need-part-counts-of-end
-part-counts-of-end c = search needs
-
-counts-of-requires : tie.Need-counts-of-requires
-counts-of-requires c κs = search needs
+counts-at-requires : tie.Need-counts-at-requires
+counts-at-requires c κs = search needs
 
 judge-cards-requires : tie.Need-judge-cards-requires
 judge-cards-requires c κs = search needs
 
 returns-3 : tie.Need-returns-3
 returns-3 c =
-    let a = c .before .before .before .before .before .before .before .before .before .args in
+    let a = c .before .before .before .before .before .before .before .before .args in
     let t = a .t .now in
     let row = lent t (a .rows) in
-    let z = sym (c .before .before .before .before .before .before .is-trailer .ensures ∙ ap trailer row) ∙ not-false (c .before .before .before .before .before .before .is-trailer .result) (c .before .before .before .before .before .if1 .left) in
+    let z = sym (c .before .before .before .before .before .is-trailer .ensures ∙ ap trailer row) ∙ not-false (c .before .before .before .before .before .is-trailer .result) (c .before .before .before .before .if1 .left) in
     c .judge-cards .ensures
-    ∙ ap (λ (z : Counts). judgeFrom z (rowAt t) (a .rows) 0 0 0) (c .before .counts-of .ensures ∙ ap countsOf (row ∙ ap (rowAt t) (c .before .before .before .before .before .before .before .before .before .pre .0)))
-    ∙ rows-cards t (a .rows) z (sym (at-row t (a .rows) 1 (omega arith)) ∙ c .before .before .before .if2 .left)
+    ∙ ap (λ (z : Counts). judgeFrom z (rowAt t) (a .rows) 0 0 0) (c .before .counts-at .ensures)
+    ∙ rows-cards t (a .rows) z (sym (at-row t (a .rows) 1 (omega arith)) ∙ c .before .before .if2 .left)
 
 pub judge-rows-spec : {M : Type 1} → statement M
 judge-rows-spec =
@@ -104,10 +92,6 @@ judge-rows-spec =
     cast-if2
     mul-if2-2
     returns-2
-    mul-counts-of
-    sub-counts-of
-    part-counts-of-start
-    part-counts-of-end
-    counts-of-requires
+    counts-at-requires
     judge-cards-requires
     returns-3)

@@ -1,7 +1,8 @@
+use borrow.Author.Needs.{needs}
 use Rattle.deck.proofs.cards_to.Statement.{statement}
 use Rattle.deck.proofs.cards_to.Tie as tie
-use borrow.Author.Needs.{needs}
 use mathlib.Core.Path.{_≡_, refl, ap, _∙_}
+use mathlib.Core.Bool.{Bool}
 use mathlib.Core.List.{_++_}
 use Prim.Native.Nat.{_+_, _-_, _*_, _≤_}
 use native.Mathlib.Nat.{sub-zero}
@@ -16,10 +17,10 @@ use Rattle.cards.proofs.Rows.{lent}
 use Rattle.deck.proofs.InRows.{rows-more, rows-end}
 
 abbrev Inv-loop : tie.InvT-loop
-Inv-loop t rows bytes₀ i₀ bytes i = (i ≤ rows) × (length bytes ≡ length bytes₀) × (take (i * 42) bytes ++ joined (textAt t) (rows - i) i ≡ joined (textAt t) rows 0) × (drop (rows * 42) bytes ≡ drop (rows * 42) bytes₀)
+Inv-loop solid t rows bytes₀ i₀ bytes i = (i ≤ rows) × (length bytes ≡ length bytes₀) × (take (i * 42) bytes ++ joined (textAt t) (rows - i) i ≡ joined (textAt t) rows 0) × (drop (rows * 42) bytes ≡ drop (rows * 42) bytes₀)
 
 abbrev μ-loop : tie.MeasureT-loop
-μ-loop t rows bytes₀ i₀ bytes i = rows - i
+μ-loop solid t rows bytes₀ i₀ bytes i = rows - i
 
 loop-holds : tie.Need-loop-holds Inv-loop μ-loop
 loop-holds c = (search needs, refl, rw sub-zero, refl)
@@ -71,10 +72,10 @@ loop-again c =
     let l = c .before .before .before .before .before .before .loop in
     let t = c .before .before .before .before .before .before .before .before .before .args .t .now in
     let n = c .before .before .before .before .before .before .before .before .before .args .rows in
-    let ys = c .before .before .card-to .last .1 .0 in
+    let ys = c .before .before .card-to .last .1 .1 .0 in
     let g : l .i * 42 + 42 ≤ length (l .bytes) = omega arith in
-    let e : ys ≡ textOf (rowAt t (l .i)) = c .before .before .card-to .ensures ∙ ap textOf (lent t (l .i)) in
-    let f : length ys ≡ 42 = c .before .before .card-to .kept .1 .0 ∙ mid-len (l .i * 42) (l .i * 42 + 42) (l .bytes) g ∙ omega arith in (
+    let e : ys ≡ textAt t (l .i) = c .before .before .card-to .ensures ∙ ap (textOf (c .before .before .before .before .before .before .before .before .before .args .solid)) (lent t (l .i)) ∙ ap (λ (d : Bool). textOf d (rowAt t (l .i))) (c .before .before .before .before .before .before .before .before .before .pre .0) in
+    let f : length ys ≡ 42 = c .before .before .card-to .kept .1 .1 .0 ∙ mid-len (l .i * 42) (l .i * 42 + 42) (l .bytes) g ∙ omega arith in (
       omega arith,
       put-length (l .bytes) ys (l .i * 42) 42 g f ∙ l .inv .1,
       rows-more (textAt t) 42 n (l .i) (l .bytes) ys (joined (textAt t) n 0) (omega arith) g f e (omega arith) (l .inv .2),

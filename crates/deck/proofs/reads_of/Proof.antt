@@ -2,16 +2,17 @@ use borrow.Author.Needs.{needs}
 use Rattle.deck.proofs.reads_of.Statement.{statement}
 use Rattle.deck.proofs.reads_of.Tie as tie
 use mathlib.Core.Path.{_≡_, sym, ap, _∙_}
+use mathlib.Core.Bool.{false}
 use mathlib.Core.List.{List}
-use Prim.Native.Nat.{ℕ, _-_, _/_}
+use Prim.Native.Nat.{ℕ, _+_, _-_, _*_, _/_}
 use native.Mathlib.Omega.{arith}
 use borrow.Author.Tests.{not-true, not-false}
-use lib.ListN.{length, getD}
+use lib.ListN.{length, getD, take, drop}
 use Rattle.paper.specs.Cards.{cards, countsOf}
 use Rattle.paper.specs.Judge.{trailer}
-use Rattle.paper.specs.Calls.{lastCard, startOf, readsFrom}
-use Rattle.paper.specs.declared.Counts.{Counts}
-use Rattle.laws.proofs.Reading.{trailer-told, reads-short, reads-long, reads-trailer, reads-back, reads-on}
+use Rattle.paper.specs.Calls.{lastCard, startOf, countsIn, readsFrom}
+use Rattle.laws.proofs.CardText.{length-card}
+use Rattle.laws.proofs.Reading.{trailer-told, last-within, reads-short, reads-long, reads-trailer, reads-back, reads-on}
 
 returns : tie.Need-returns
 returns c = reads-short (c .before .before .args .s .now) (c .before .before .args .room) (omega arith)
@@ -48,17 +49,21 @@ returns-4 c =
     let k = ap (λ (r : List ℕ). getD r 1 0) (c .before .before .before .before .last-card .ensures) in
     reads-back (c .before .before .before .before .before .before .before .before .args .s .now) (c .before .before .before .before .before .before .before .before .args .room) (omega arith) (omega arith) (t ∙ not-false (c .before .before .is-trailer .result) (c .before .if3 .left)) (omega arith)
 
-slice-aggregate-counts-of : tie.Need-slice-aggregate-counts-of
-slice-aggregate-counts-of c = search needs
+slice-aggregate-counts-in : tie.Need-slice-aggregate-counts-in
+slice-aggregate-counts-in c = search needs
 
-counts-of-requires : tie.Need-counts-of-requires
-counts-of-requires c κs = search needs
+counts-in-requires : tie.Need-counts-in-requires
+counts-in-requires c κs =
+    let t = sym (c .before .before .before .is-trailer .ensures) ∙ not-false (c .before .before .before .is-trailer .result) (c .before .before .if3 .left) in
+    let v = c .before .before .before .before .before .last-card .result in
+    let s = trailer-told v (λ i. 0) t in
+    (ap length (c .before .before .before .before .before .last-card .ensures) ∙ length-card false (take 42 (drop (length (c .before .before .before .before .before .before .before .before .before .args .s .now) - 42) (c .before .before .before .before .before .before .before .before .before .args .s .now))), omega (arith, s .back, last-within v (λ i. 0)))
 
 reads-from-requires : tie.Need-reads-from-requires
 reads-from-requires c κs =
     let t = sym (c .before .before .before .before .is-trailer .ensures ∙ ap trailer (c .before .before .before .before .before .before .last-card .ensures)) in
     let k = ap (λ (r : List ℕ). getD r 1 0) (c .before .before .before .before .before .before .last-card .ensures) in
-    let s = trailer-told (lastCard (c .before .before .before .before .before .before .before .before .before .before .args .s .now)) (t ∙ not-false (c .before .before .before .before .is-trailer .result) (c .before .before .before .if3 .left)) in
+    let s = trailer-told (lastCard (c .before .before .before .before .before .before .before .before .before .before .args .s .now)) (λ i. 0) (t ∙ not-false (c .before .before .before .before .is-trailer .result) (c .before .before .before .if3 .left)) in
     (omega (arith, s .back), omega (arith, s .back, s .few))
 
 returns-5 : tie.Need-returns-5
@@ -69,14 +74,12 @@ returns-5 c =
     let v = c .before .before .before .before .before .before .before .last-card .result in
     let t = sym (c .before .before .before .before .before .is-trailer .ensures ∙ ap trailer (c .before .before .before .before .before .before .before .last-card .ensures)) ∙ not-false (c .before .before .before .before .before .is-trailer .result) (c .before .before .before .before .if3 .left) in
     let k : getD v 1 0 ≡ getD z 1 0 = ap (λ (r : List ℕ). getD r 1 0) (c .before .before .before .before .before .before .before .last-card .ensures) in
-    let s = trailer-told z t in
-    let n : getD v 1 0 / 42 ≡ cards (countsOf z) = omega (arith, s .back, k) in
+    let s = trailer-told z (λ i. getD b (startOf b z + i * 42) 0) t in
+    let n : getD v 1 0 / 42 ≡ cards (countsIn b) = omega (arith, s .back, k) in
     let st : length b - 42 - getD v 1 0 ≡ startOf b z = omega (arith, k) in
-    c .reads-from .ensures
-    ∙ ap (λ (z : Counts). readsFrom b room z (length b - 42 - getD v 1 0) (getD v 1 0 / 42)) (c .before .counts-of .ensures ∙ ap countsOf (c .before .before .before .before .before .before .before .last-card .ensures))
-    ∙ ap (λ (j : ℕ). readsFrom b room (countsOf z) j (getD v 1 0 / 42)) st
-    ∙ ap (λ (j : ℕ). readsFrom b room (countsOf z) (startOf b z) j) n
-    ∙ reads-on b room (omega arith) (omega arith) t (omega (arith, k))
+    let e : c .before .counts-in .result ≡ countsIn b =
+    c .before .counts-in .ensures ∙ (λ j. countsOf (c .before .before .before .before .before .before .before .last-card .ensures j) (λ i. getD b (st j + i * 42) 0)) in
+    c .reads-from .ensures ∙ (λ j. readsFrom b room (e j) (st j) (n j)) ∙ reads-on b room (omega arith) (omega arith) t (omega (arith, k))
 
 pub reads-of-spec : {M : Type 1} → statement M
 reads-of-spec =
@@ -92,7 +95,7 @@ reads-of-spec =
     cast-back
     sub-last
     returns-4
-    slice-aggregate-counts-of
-    counts-of-requires
+    slice-aggregate-counts-in
+    counts-in-requires
     reads-from-requires
     returns-5)

@@ -1,6 +1,6 @@
+use borrow.Author.Needs.{needs}
 use Rattle.deck.proofs.rows_to.Statement.{statement}
 use Rattle.deck.proofs.rows_to.Tie as tie
-use borrow.Author.Needs.{needs}
 use mathlib.Core.Path.{_≡_, refl, _∙_}
 use mathlib.Core.List.{_++_}
 use Prim.Native.Nat.{_+_, _-_, _*_, _≤_}
@@ -13,10 +13,10 @@ use Rattle.paper.specs.Calls.{joined, cardAt}
 use Rattle.deck.proofs.InRows.{lent, rows-more, rows-end}
 
 abbrev Inv-loop : tie.InvT-loop
-Inv-loop s start rows table₀ i₀ table i = (i ≤ rows) × (length table ≡ length table₀) × (take (i * 6) table ++ joined (cardAt s start) (rows - i) i ≡ joined (cardAt s start) rows 0) × (drop (rows * 6) table ≡ drop (rows * 6) table₀)
+Inv-loop solid s start rows table₀ i₀ table i = (i ≤ rows) × (length table ≡ length table₀) × (take (i * 6) table ++ joined (cardAt solid s start) (rows - i) i ≡ joined (cardAt solid s start) rows 0) × (drop (rows * 6) table ≡ drop (rows * 6) table₀)
 
 abbrev μ-loop : tie.MeasureT-loop
-μ-loop s start rows table₀ i₀ table i = rows - i
+μ-loop solid s start rows table₀ i₀ table i = rows - i
 
 loop-holds : tie.Need-loop-holds Inv-loop μ-loop
 loop-holds c = (search needs, refl, rw sub-zero, refl)
@@ -70,12 +70,12 @@ loop-again : tie.Need-loop-again Inv-loop μ-loop
 loop-again c =
     let l = c .before .before .before .before .before .before .loop in
     let a = c .before .before .before .before .before .before .before .before .before .args in
-    let row = cardAt (a .s .now) (a .start) in
+    let row = cardAt (a .solid) (a .s .now) (a .start) in
     let n = a .rows in
-    let ys = c .before .before .card-of .last .1 .0 in
+    let ys = c .before .before .card-of .last .1 .1 .0 in
     let g : l .i * 6 + 6 ≤ length (l .table) = omega arith in
-    let e : ys ≡ row (l .i) = c .before .before .card-of .ensures ∙ lent (a .s .now) (a .start) (l .i) in
-    let f : length ys ≡ 6 = c .before .before .card-of .kept .1 .0 ∙ mid-len (l .i * 6) (l .i * 6 + 6) (l .table) g ∙ omega arith in (
+    let e : ys ≡ row (l .i) = c .before .before .card-of .ensures ∙ lent (a .solid) (a .s .now) (a .start) (l .i) in
+    let f : length ys ≡ 6 = c .before .before .card-of .kept .1 .1 .0 ∙ mid-len (l .i * 6) (l .i * 6 + 6) (l .table) g ∙ omega arith in (
       omega arith,
       put-length (l .table) ys (l .i * 6) 6 g f ∙ l .inv .1,
       rows-more row 6 n (l .i) (l .table) ys (joined row n 0) (omega arith) g f e (omega arith) (l .inv .2),
@@ -88,7 +88,7 @@ same-length c = search needs
 returns : tie.Need-returns Inv-loop μ-loop
 returns c =
     let l = c .before .loop in
-    let row = cardAt (c .before .before .before .before .args .s .now) (c .before .before .before .before .args .start) in
+    let row = cardAt (c .before .before .before .before .args .solid) (c .before .before .before .before .args .s .now) (c .before .before .before .before .args .start) in
     let n = c .before .before .before .before .args .rows in
     rows-end row 6 n (l .i) (l .table) (c .before .before .before .before .args .table .now) (joined row n 0) (omega arith) (l .inv .2) (l .inv .3)
 

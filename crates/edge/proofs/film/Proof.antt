@@ -7,10 +7,10 @@ use native.Mathlib.Omega.{arith}
 use Rattle.whole.specs.Largest.{squared, root}
 use Rattle.whole.proofs.Largest.{root-small}
 use Rattle.laws.proofs.Edge.{reach}
-use Rattle.edge.specs.Forms.{asShape}
+use Rattle.edge.specs.Forms.{asSpace}
 use Rattle.edge.proofs.Machine.{small-of, quotient-small, by-root}
 
-quotient : (c : tie.After-halves-squared) → c .halves-squared .result ≡ reach (c .before .before .args .film) (c .before .before .args .thickness) (asShape (c .before .before .args .e)) / squared 60000000
+quotient : (c : tie.After-halves-squared) → c .halves-squared .result ≡ reach (c .before .before .args .film) (c .before .before .args .thickness) (asSpace (c .before .before .args .e)) / squared 60000000
 quotient c =
     let s = c .before .before .args in
     c .halves-squared .ensures ∙ ap (λ (l : ℕ). squared (s .film * s .thickness) * l / squared 60000000) (c .before .squared-length .ensures)

@@ -4,6 +4,7 @@ use Rattle.element.proofs.edge_of.Tie as tie
 use mathlib.Core.Path.{_∙_}
 use mathlib.Core.List.{[], _∷_}
 use Rattle.paper.specs.Corners.{shapeOf}
+use Rattle.paper.specs.Tetrahedron.{spaceOf}
 use Rattle.element.proofs.Ranges.{field-at}
 
 array-read-node : tie.Need-array-read-node
@@ -36,16 +37,25 @@ field-requires-3 c κs = search needs
 field-requires-4 : tie.Need-field-requires-4
 field-requires-4 c κs = search needs
 
+field-requires-5 : tie.Need-field-requires-5
+field-requires-5 c κs = search needs
+
+field-requires-6 : tie.Need-field-requires-6
+field-requires-6 c κs = search needs
+
 returns : tie.Need-returns
-unfolding shapeOf
+unfolding spaceOf shapeOf
 returns c =
-    let t = c .before .before .before .before .before .before .before .before .before .args .table .now in
-    let a = c .before .before .before .before .before .node-row .ensures ∙ c .before .before .before .before .before .before .before .node .ensures in
-    let b = c .before .before .before .before .node-row2 .ensures ∙ c .before .before .before .before .before .before .node2 .ensures in
+    let t = c .before .before .before .before .before .before .before .before .before .before .before .args .table .now in
+    let a = c .before .before .before .before .before .before .before .node-row .ensures ∙ c .before .before .before .before .before .before .before .before .before .node .ensures in
+    let b = c .before .before .before .before .before .before .node-row2 .ensures ∙ c .before .before .before .before .before .before .before .before .node2 .ensures in
     λ d. record {
-      corners = c .before .before .before .before .before .before .before .node .ensures d ∷ c .before .before .before .before .before .before .node2 .ensures d ∷ [];
-      xs = field-at t _ 1 (c .before .before .before .field .ensures) a d ∷ field-at t _ 1 (c .before .before .field2 .ensures) b d ∷ [];
-      ys = field-at t _ 2 (c .before .field3 .ensures) a d ∷ field-at t _ 2 (c .field4 .ensures) b d ∷ [];
+      shape = record {
+        corners = c .before .before .before .before .before .before .before .before .before .node .ensures d ∷ c .before .before .before .before .before .before .before .before .node2 .ensures d ∷ [];
+        xs = field-at t _ 1 (c .before .before .before .before .before .field .ensures) a d ∷ field-at t _ 1 (c .before .before .before .before .field2 .ensures) b d ∷ [];
+        ys = field-at t _ 2 (c .before .before .before .field3 .ensures) a d ∷ field-at t _ 2 (c .before .before .field4 .ensures) b d ∷ [];
+      };
+      zs = field-at t _ 3 (c .before .field5 .ensures) a d ∷ field-at t _ 3 (c .field6 .ensures) b d ∷ [];
     }
 
 pub edge-of-spec : {M : Type 1} → statement M
@@ -62,4 +72,6 @@ edge-of-spec =
     field-requires-2
     field-requires-3
     field-requires-4
+    field-requires-5
+    field-requires-6
     returns)

@@ -4,7 +4,7 @@ use Rattle.element.proofs.shape_of.Tie as tie
 use mathlib.Core.Path.{_∙_}
 use mathlib.Core.List.{[], _∷_}
 use Rattle.paper.specs.Corners.{shapeOf}
-use Rattle.paper.specs.Elements.{bodyOf, elementOf}
+use Rattle.paper.specs.Elements.{bodyOf}
 use Rattle.element.proofs.Ranges.{field-at}
 
 array-read-node : tie.Need-array-read-node
@@ -53,7 +53,7 @@ field-requires-6 : tie.Need-field-requires-6
 field-requires-6 c κs = search needs
 
 returns : tie.Need-returns
-unfolding elementOf bodyOf shapeOf
+unfolding bodyOf shapeOf
 returns c =
     let t = c .before .before .before .before .before .before .before .before .before .before .before .before .before .args .table .now in
     let a = c .before .before .before .before .before .before .before .before .node-row .ensures ∙ c .before .before .before .before .before .before .before .before .before .before .before .node .ensures in

@@ -6,7 +6,7 @@ use mathlib.Core.List.{List}
 use Prim.Native.Nat.{ℕ, _+_}
 use lib.ListN.{getD}
 use Rattle.paper.specs.Cards as cards
-use Rattle.paper.specs.Elements.{bodyOf, elementOf}
+use Rattle.paper.specs.Elements.{bodyOf}
 
 stuff : {v r : ℕ} (t : List ℕ) (m k : ℕ) → r ≡ cards.field t v k → v ≡ cards.materialRow t m → r ≡ cards.field t (cards.materialRow t m) k
 stuff t m k p q = p ∙ ap (λ (z : ℕ). cards.field t z k) q
@@ -36,7 +36,7 @@ array-read-t15 : tie.Need-array-read-t15
 array-read-t15 c = search needs
 
 returns : tie.Need-returns
-unfolding elementOf bodyOf
+unfolding bodyOf
 returns c =
     let t = c .before .before .before .before .before .before .before .args .table .now in
     let m = c .before .before .before .material-row .ensures ∙ ap (cards.materialRow t) (c .before .before .before .before .material .ensures) in

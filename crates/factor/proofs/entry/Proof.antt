@@ -53,8 +53,8 @@ module _ {xs ws : List ℤ} {s at j : ℕ} (ask : Entry xs ws s at j) where
       omega (arith, sum-size-each j (λ k. R (cell xs (tri j + k) *ℤ cell ws k)) (2 ^ 42) each, ask .few)
 
   -- the two numbers of the difference, as the code has them
-  x-is : Is (rd (cell xs (s + j))) (cell xs (s + j)) (2 ^ 50)
-  x-is = num (cell xs (s + j)) (ask .x50) (lit< tt)
+  x-is : Is (rd (cell xs (s + j))) (cell xs (s + j)) (2 ^ 62)
+  x-is = num (cell xs (s + j)) (ask .x62) (lit< tt)
 
   all-is : {r : ℤ} → mag r < 2 ^ 63 → r ≡ sum (length (part xs at j)) (λ k. R (cell (part xs at j) k *ℤ cell ws k)) → Is (rd r) (all xs ws j) (96 * 2 ^ 42)
   all-is ok e = res ok (e ∙ dot-is) (of dot-size)

@@ -12,7 +12,7 @@ use Rattle.whole.specs.Packed.{cell, place, Bounded}
 use Rattle.whole.proofs.Calc.{Is, rd, num, plus, fits, again}
 use Rattle.whole.proofs.Packed.{tri-96, place-in}
 
-sum-is : (xs : List ℤ) (k : ℕ) (v : ℤ) → Bounded (2 ^ 56) xs → natAbs v ≤ 2 ^ 52 → Is (rd (cell xs k) +ℤ rd v) (cell xs k +ℤ v) (2 ^ 56 + 2 ^ 52)
+sum-is : (xs : List ℤ) (k : ℕ) (v : ℤ) → Bounded (2 ^ 62) xs → natAbs v ≤ 2 ^ 58 → Is (rd (cell xs k) +ℤ rd v) (cell xs k +ℤ v) (2 ^ 62 + 2 ^ 58)
 sum-is xs k v h l = plus (num (cell xs k) (h .each k) (lit< tt)) (num v l (lit< tt))
 
 node-row-requires : tie.Need-node-row-requires

@@ -1,7 +1,9 @@
 use borrow.Author.Needs.{needs}
 use Rattle.packed.proofs.add_to_a.Statement.{statement}
 use Rattle.packed.proofs.add_to_a.Tie as tie
-use Rattle.packed.proofs.Turn.{stays-A, turn-card, turn-solid, turn-a-takes, turn-a-gives}
+use native.Mathlib.Omega.{arith}
+use Rattle.laws.proofs.Places.{squareA}
+use Rattle.packed.proofs.Turn.{stays-A, turn-card, turn-solid, turn-takes, turn-a-gives}
 
 field-requires : tie.Need-field-requires
 field-requires c κs = search needs
@@ -22,15 +24,13 @@ square-a-requires : tie.Need-square-a-requires
 square-a-requires c κs = turn-solid (c .before .before .before .before .before .before .before .args .table .now) (c .before .before .before .before .before .before .before .args .row) (c .before .before .before .before .before .field .ensures) (c .before .before .before .before .stirs .ensures) (c .before .before .before .if1 .left) (c .before .before .before .before .before .before .before .args .xs .now) (c .before .before .before .before .before .before .before .pre) (c .before .before .card-at .ensures)
 
 add-square-requires : tie.Need-add-square-requires
-add-square-requires c κs =
-    turn-a-takes (c .before .before .before .before .before .before .before .before .args .table .now) (c .before .before .before .before .before .before .before .before .args .row) (c .before .before .before .before .before .before .field .ensures) (c .before .before .before .before .before .stirs .ensures) (c .before .before .before .before .if1 .left) (c .before .before .before .before .before .before .before .before .args .xs .now) (c .before .before .before .before .before .before .before .before .pre) (c .before .before .before .card-at .ensures) (c .before .before .corners-of .result) (c .before .before .corners-of .ensures .0) (c .before .before .corners-of .ensures .1) (c .square-a .result) (c .square-a .ensures)
+add-square-requires c κs = turn-takes (c .before .before .before .before .before .before .before .before .args .table .now) (c .before .before .before .before .before .before .before .before .args .row) (c .before .before .before .before .before .before .field .ensures) (c .before .before .before .before .before .stirs .ensures) (c .before .before .before .before .if1 .left) (c .before .before .before .before .before .before .before .before .args .xs .now) (c .before .before .before .before .before .before .before .before .pre) (c .before .before .before .card-at .ensures) (c .before .before .corners-of .result) (c .before .before .corners-of .ensures .0) (c .before .before .corners-of .ensures .1) squareA (c .square-a .ensures) (omega arith)
 
 same-length : tie.Need-same-length
 same-length c = search needs
 
 returns-2 : tie.Need-returns-2
-returns-2 c =
-    turn-a-gives (c .before .before .before .before .before .before .before .before .before .before .args .table .now) (c .before .before .before .before .before .before .before .before .before .before .args .row) (c .before .before .before .before .before .before .before .before .field .ensures) (c .before .before .before .before .before .before .before .stirs .ensures) (c .before .before .before .before .before .before .if1 .left) (c .before .before .before .before .before .before .before .before .before .before .args .xs .now) (c .before .before .before .before .before .before .before .before .before .before .pre) (c .before .before .before .before .before .card-at .ensures) (c .before .before .before .before .corners-of .result) (c .before .before .before .before .corners-of .ensures .0) (c .before .before .before .before .corners-of .ensures .1) (c .before .before .square-a .result) (c .before .before .square-a .ensures) (c .before .add-square .ensures)
+returns-2 c = turn-a-gives (c .before .before .before .before .before .before .before .before .before .before .args .table .now) (c .before .before .before .before .before .before .before .before .before .before .args .row) (c .before .before .before .before .before .before .before .before .field .ensures) (c .before .before .before .before .before .before .before .stirs .ensures) (c .before .before .before .before .before .before .if1 .left) (c .before .before .before .before .before .before .before .before .before .before .args .xs .now) (c .before .before .before .before .before .before .before .before .before .before .pre) (c .before .before .before .before .before .card-at .ensures) (c .before .before .before .before .corners-of .result) (c .before .before .before .before .corners-of .ensures .0) (c .before .before .before .before .corners-of .ensures .1) (c .before .before .square-a .ensures) (c .before .add-square .ensures)
 
 pub add-to-a-spec : {M : Type 1} → statement M
 add-to-a-spec =

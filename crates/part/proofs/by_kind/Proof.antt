@@ -64,6 +64,12 @@ enum-told-10 c = search needs
 line-requires-10 : tie.Need-line-requires-10
 line-requires-10 c κs = search needs
 
+enum-told-11 : tie.Need-enum-told-11
+enum-told-11 c = search needs
+
+line-requires-11 : tie.Need-line-requires-11
+line-requires-11 c κs = search needs
+
 returns : tie.Need-returns
 unfolding doesBy
 returns c = c .line .ensures ∙ sym (ap doesBy (c .before .enum-told .given .1))
@@ -104,6 +110,10 @@ returns-10 : tie.Need-returns-10
 unfolding doesBy
 returns-10 c = c .line10 .ensures ∙ sym (ap doesBy (c .before .enum-told10 .given .1))
 
+returns-11 : tie.Need-returns-11
+unfolding doesBy
+returns-11 c = c .line11 .ensures ∙ sym (ap doesBy (c .before .enum-told11 .given .1))
+
 pub by-kind-spec : {M : Type 1} → statement M
 by-kind-spec =
     tie.close
@@ -128,6 +138,8 @@ by-kind-spec =
     line-requires-9
     enum-told-10
     line-requires-10
+    enum-told-11
+    line-requires-11
     returns
     returns-2
     returns-3
@@ -137,4 +149,5 @@ by-kind-spec =
     returns-7
     returns-8
     returns-9
-    returns-10)
+    returns-10
+    returns-11)

@@ -1,4 +1,4 @@
--- at most 4 films of 349,500, times a u32
+-- at most 5 films of 349,500, times a u32
 use borrow.Author.Needs.{needs}
 use Rattle.part.proofs.film_load.Statement.{statement}
 use Rattle.part.proofs.film_load.Tie as tie
@@ -6,11 +6,11 @@ use native.Mathlib.Omega.{arith}
 use native.Mathlib.Nat.{mul-le-mul}
 use Prim.Native.Nat.{ℕ, _+_, _*_, _^_, _≤_, _<_}
 
-rows : (n f : ℕ) → n ≤ 3 → f ≤ 349500 → (1 + n) * f ≤ 1398000
-rows n f l h = mul-le-mul {n₂ = 4} {m₂ = 349500} (omega arith) h
+rows : (n f : ℕ) → n ≤ 4 → f ≤ 349500 → (1 + n) * f ≤ 1747500
+rows n f l h = mul-le-mul {n₂ = 5} {m₂ = 349500} (omega arith) h
 
-product : (n f a : ℕ) → n ≤ 3 → f ≤ 349500 → a < 2 ^ 32 → (1 + n) * f * a < 2 ^ 64
-product n f a l h k = let m : (1 + n) * f * a ≤ 1398000 * 2 ^ 32 = mul-le-mul {n₂ = 1398000} {m₂ = 2 ^ 32} (rows n f l h) (omega arith) in omega arith
+product : (n f a : ℕ) → n ≤ 4 → f ≤ 349500 → a < 2 ^ 32 → (1 + n) * f * a < 2 ^ 64
+product n f a l h k = let m : (1 + n) * f * a ≤ 1747500 * 2 ^ 32 = mul-le-mul {n₂ = 1747500} {m₂ = 2 ^ 32} (rows n f l h) (omega arith) in omega arith
 
 add-result : tie.Need-add-result
 add-result c = search needs

@@ -5,6 +5,7 @@ use mathlib.Core.Path.{_≡_, ap, _∙_}
 use mathlib.Core.Bool.{cond}
 use mathlib.Core.List.{List, [], _∷_}
 use Prim.Native.Nat.{ℕ, zero, suc, _+_, _*_, _/_, _%_, _<_}
+use native.Mathlib.Nat.{div-le-self}
 use native.Mathlib.Omega.{arith}
 use lib.Dec.{ltb}
 use lib.IntN.{ℤ, pos}
@@ -12,15 +13,16 @@ use lib.ListN.{getD}
 use Rattle.paper.specs.Ticks.{kelvin}
 use Rattle.paper.specs.Parts.{heatShare}
 
-abbrev given : ℕ → ℕ → ℕ
-given heat a = kelvin * heat / 3 + cond (ltb a (kelvin * heat % 3)) 1 0
+abbrev given : ℕ → ℕ → ℕ → ℕ
+given n heat a = kelvin * heat / n + cond (ltb a (kelvin * heat % n)) 1 0
 
-three : (heat x y z : ℕ) → x ≡ given heat 0 → y ≡ given heat 1 → z ≡ given heat 2 → (a : ℕ) → a < 3 → pos (getD (x ∷ y ∷ z ∷ []) a 0) ≡ heatShare 3 heat a
+four : (n heat x y z w : ℕ) → x ≡ given n heat 0 → y ≡ given n heat 1 → z ≡ given n heat 2 → w ≡ given n heat 3 → (a : ℕ) → a < 4 → pos (getD (x ∷ y ∷ z ∷ w ∷ []) a 0) ≡ heatShare n heat a
 unfolding heatShare
-three heat x y z p q r zero l = ap pos p
-three heat x y z p q r (suc zero) l = ap pos q
-three heat x y z p q r (suc (suc zero)) l = ap pos r
-three heat x y z p q r (suc (suc (suc a))) l = absurd (omega arith)
+four n heat x y z w p q r s zero l = ap pos p
+four n heat x y z w p q r s (suc zero) l = ap pos q
+four n heat x y z w p q r s (suc (suc zero)) l = ap pos r
+four n heat x y z w p q r s (suc (suc (suc zero))) l = ap pos s
+four n heat x y z w p q r s (suc (suc (suc (suc a)))) l = absurd (omega arith)
 
 cast-all : tie.Need-cast-all
 cast-all c = search needs
@@ -28,18 +30,37 @@ cast-all c = search needs
 mul-all : tie.Need-mul-all
 mul-all c = search needs
 
+div-part : tie.Need-div-part
+div-part c = search needs
+
+rem-rest : tie.Need-rem-rest
+rem-rest c = search needs
+
 dealt-requires : tie.Need-dealt-requires
-dealt-requires c κs = search needs
+dealt-requires c κs = omega (arith, div-le-self (65536 * c .args .heat) (c .args .corners))
 
 dealt-requires-2 : tie.Need-dealt-requires-2
-dealt-requires-2 c κs = search needs
+dealt-requires-2 c κs = omega (arith, div-le-self (65536 * c .before .args .heat) (c .before .args .corners))
 
 dealt-requires-3 : tie.Need-dealt-requires-3
-dealt-requires-3 c κs = search needs
+dealt-requires-3 c κs = omega (arith, div-le-self (65536 * c .before .before .args .heat) (c .before .before .args .corners))
+
+dealt-requires-4 : tie.Need-dealt-requires-4
+dealt-requires-4 c κs = omega (arith, div-le-self (65536 * c .before .before .before .args .heat) (c .before .before .before .args .corners))
 
 returns : tie.Need-returns
-returns c = three (c .before .before .before .args .heat) (c .before .before .dealt .result) (c .before .dealt2 .result) (c .dealt3 .result) (c .before .before .dealt .ensures) (c .before .dealt2 .ensures) (c .dealt3 .ensures)
+returns c = four (c .before .before .before .before .args .corners) (c .before .before .before .before .args .heat) (c .before .before .before .dealt .result) (c .before .before .dealt2 .result) (c .before .dealt3 .result) (c .dealt4 .result) (c .before .before .before .dealt .ensures) (c .before .before .dealt2 .ensures) (c .before .dealt3 .ensures) (c .dealt4 .ensures)
 
 pub heat-shares-spec : {M : Type 1} → statement M
 heat-shares-spec =
-    tie.close (tie.spec cast-all mul-all dealt-requires dealt-requires-2 dealt-requires-3 returns)
+    tie.close
+    (tie.spec
+    cast-all
+    mul-all
+    div-part
+    rem-rest
+    dealt-requires
+    dealt-requires-2
+    dealt-requires-3
+    dealt-requires-4
+    returns)

@@ -8,6 +8,7 @@ use native.Mathlib.Omega.{arith}
 use lib.ListN.{getD}
 use Rattle.paper.specs.Cards.{used}
 use Rattle.paper.specs.Text.{fieldsFrom}
+use Rattle.paper.specs.declared.Kind.{Kind}
 use Rattle.laws.proofs.CardText.{card-none, card-line, card-fields}
 
 shared-slice-read-letter : tie.Need-shared-slice-read-letter
@@ -29,7 +30,7 @@ same-length : tie.Need-same-length
 same-length c = search needs
 
 returns : tie.Need-returns
-returns c = c .before .before .row-to .ensures ∙ card-none (c .before .before .before .before .before .before .before .before .before .before .args .s .now) (sym (c .before .before .before .before .before .used-of .ensures .0 ∙ ap used (c .before .before .before .before .before .before .kind .ensures)) ∙ c .before .before .before .before .if1 .taken)
+returns c = c .before .before .row-to .ensures ∙ card-none (c .before .before .before .before .before .before .before .before .before .before .args .solid) (c .before .before .before .before .before .before .before .before .before .before .args .s .now) (sym (c .before .before .before .before .before .used-of .ensures .0 ∙ ap used (c .before .before .before .before .before .before .kind .ensures)) ∙ c .before .before .before .before .if1 .taken)
 
 shared-slice-read-if2 : tie.Need-shared-slice-read-if2
 shared-slice-read-if2 c = search needs
@@ -43,13 +44,13 @@ same-length-2 c = search needs
 returns-2 : tie.Need-returns-2
 returns-2 c =
     let u = c .before .before .before .before .before .before .before .used-of .ensures .0 ∙ ap used (c .before .before .before .before .before .before .before .before .kind .ensures) in
-    c .before .before .row-to2 .ensures ∙ card-line (c .before .before .before .before .before .before .before .before .before .before .before .before .args .s .now) (λ e. c .before .before .before .before .before .before .if1 .left (u ∙ e)) (c .before .before .before .before .if2 .taken)
+    c .before .before .row-to2 .ensures ∙ card-line (c .before .before .before .before .before .before .before .before .before .before .before .before .args .solid) (c .before .before .before .before .before .before .before .before .before .before .before .before .args .s .now) (λ e. c .before .before .before .before .before .before .if1 .left (u ∙ e)) (c .before .before .before .before .if2 .taken)
 
 row-to-requires-3 : tie.Need-row-to-requires-3
 row-to-requires-3 c κs = search needs
 
 fields-of-requires : tie.Need-fields-of-requires
-fields-of-requires c κs = search needs
+fields-of-requires c κs = (c .before .before .before .before .before .before .before .before .used-of .ensures .0, search needs, search needs)
 
 same-length-3 : tie.Need-same-length-3
 same-length-3 c = search needs
@@ -57,8 +58,10 @@ same-length-3 c = search needs
 returns-3 : tie.Need-returns-3
 returns-3 c =
     let b = c .before .before .before .before .before .before .before .before .before .before .before .before .before .before .before .before .args .s .now in
+    let d = c .before .before .before .before .before .before .before .before .before .before .before .before .before .before .before .before .args .solid in
     let u = c .before .before .before .before .before .before .before .before .before .before .before .used-of .ensures .0 ∙ ap used (c .before .before .before .before .before .before .before .before .before .before .before .before .kind .ensures) in
-    c .before .before .fields-of .ensures ∙ ap (fieldsFrom (c .before .before .before .before .before .before .before .before .before .before .before .used-of .result) b 5 0) (c .before .before .before .before .before .before .row-to3 .ensures) ∙ ap (λ (v : ℕ). fieldsFrom v b 5 0 (getD b 0 0 ∷ 0 ∷ 0 ∷ 0 ∷ 0 ∷ 0 ∷ [])) u ∙ card-fields b (λ e. c .before .before .before .before .before .before .before .before .before .before .if1 .left (u ∙ e)) (c .before .before .before .before .before .before .before .before .if2 .left)
+    c .before .before .fields-of .ensures ∙ ap (fieldsFrom d (c .before .before .before .before .before .before .before .before .before .before .before .before .kind .result) b 5 0) (c .before .before .before .before .before .before .row-to3 .ensures) ∙ ap (λ (q : Kind). fieldsFrom d q b 5 0 (getD b 0 0 ∷ 0 ∷ 0 ∷ 0 ∷ 0 ∷ 0 ∷ [])) (c .before .before .before .before .before .before .before .before .before .before .before .before .kind .ensures)
+    ∙ card-fields d b (λ e. c .before .before .before .before .before .before .before .before .before .before .if1 .left (u ∙ e)) (c .before .before .before .before .before .before .before .before .if2 .left)
 
 pub card-of-spec : {M : Type 1} → statement M
 card-of-spec =

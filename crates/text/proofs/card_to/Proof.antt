@@ -4,8 +4,6 @@ use Rattle.text.proofs.card_to.Tie as tie
 use mathlib.Core.Path.{ap, _∙_}
 use native.Mathlib.Omega.{arith}
 use lib.ListN.{length-set}
-use Rattle.paper.specs.Kinds.{about}
-use Rattle.paper.specs.Cards.{used}
 use Rattle.paper.specs.declared.About.{About}
 use Rattle.kinds.proofs.Sections.{small}
 use Rattle.text.proofs.PrintCard.{text-card}
@@ -29,23 +27,20 @@ used-of-requires : tie.Need-used-of-requires
 used-of-requires c κs = search needs
 
 fields-to-requires : tie.Need-fields-to-requires
-fields-to-requires c κs = search needs
+fields-to-requires c κs = (c .before .used-of .ensures .0, search needs, search needs)
 
 slice-write-out-2 : tie.Need-slice-write-out-2
-slice-write-out-2 c = omega (arith, c .before .before .fields-to .kept .1 .1 .0, length-set (c .before .before .before .before .before .before .before .before .before .before .before .args .out .now) 0 (c .before .before .before .before .before .before .about .result .letter))
+slice-write-out-2 c = omega (arith, c .before .before .fields-to .kept .1 .1 .1 .1 .0, length-set (c .before .before .before .before .before .before .before .before .before .before .before .args .out .now) 0 (c .before .before .before .before .before .before .about .result .letter))
 
 same-length : tie.Need-same-length
-same-length c = simp length-set (c .before .before .fields-to .kept .1 .1 .0 ∙ length-set (c .before .before .before .before .before .before .before .before .before .before .before .args .out .now) 0 (c .before .before .before .before .before .before .about .result .letter))
+same-length c = simp length-set (c .before .before .fields-to .kept .1 .1 .1 .1 .0 ∙ length-set (c .before .before .before .before .before .before .before .before .before .before .before .args .out .now) 0 (c .before .before .before .before .before .before .about .result .letter))
 
 returns : tie.Need-returns
 returns c =
     let o = c .before .before .before .before .before .before .before .before .before .before .before .args .out .now in
     let l = c .before .before .before .before .before .before .about .result .letter in
-    let kind = c .before .before .before .before .before .before .before .kind .ensures in
-    text-card (c .before .before .before .before .before .before .before .before .before .before .before .args .card .now) o (c .before .before .fields-to .last .1 .1 .0) l (c .before .before .before .before .used-of .result) (c .before .before .before .before .before .before .before .before .before .before .before .pre .1) (c .before .before .fields-to .kept .1 .1 .0 ∙ length-set o 0 l ∙ c .before .before .before .before .before .before .before .before .before .before .before .pre .1)
-    (ap (λ (b : About). b .letter) (c .before .before .before .before .before .before .about .ensures ∙ ap about kind))
-    (c .before .before .before .before .used-of .ensures .0 ∙ ap used kind)
-    (c .before .before .fields-to .ensures)
+    text-card (c .before .before .before .before .before .before .before .before .before .before .before .args .solid) (c .before .before .before .before .before .before .before .before .before .before .before .args .card .now) o (c .before .before .fields-to .last .1 .1 .1 .1 .0) l (c .before .before .before .before .before .before .before .kind .result) (c .before .before .before .before .before .before .before .before .before .before .before .pre .1) (c .before .before .fields-to .kept .1 .1 .1 .1 .0 ∙ length-set o 0 l ∙ c .before .before .before .before .before .before .before .before .before .before .before .pre .1)
+    (ap (λ (b : About). b .letter) (c .before .before .before .before .before .before .about .ensures)) (c .before .before .before .before .before .before .before .kind .ensures) (c .before .before .fields-to .ensures)
 
 pub card-to-spec : {M : Type 1} → statement M
 card-to-spec =

@@ -1,0 +1,62 @@
+use borrow.Author.Needs.{needs}
+use Rattle.deck.proofs.asks_part.Statement.{statement}
+use Rattle.deck.proofs.asks_part.Tie as tie
+use mathlib.Core.Path.{_≡_, sym, ap, _∙_}
+use Rattle.paper.specs.Calls.{cardAt}
+use Rattle.paper.specs.declared.About.{About}
+use Rattle.paper.specs.declared.Kind.the-variants.{E, F}
+use Rattle.cards.proofs.OneCard.{asks-by, asks-none}
+use Rattle.deck.proofs.Turn.{asking-by}
+
+about-requires : tie.Need-about-requires
+about-requires c κs = search needs
+
+about-requires-2 : tie.Need-about-requires-2
+about-requires-2 c κs = search needs
+
+is-level-requires : tie.Need-is-level-requires
+is-level-requires c κs =
+    let a = c .before .before .before .before .before .before .args in
+    let e = sym (ap (λ (x : About). x .letter) (c .before .before .before .about .ensures)) ∙ c .if1 .taken ∙ ap (λ (x : About). x .letter) (c .before .before .about2 .ensures) in
+    asking-by (a .counts) (a .s .now) (a .start) (a .card .now) (a .k) E e (c .before .before .before .before .before .before .pre)
+
+returns : tie.Need-returns
+returns c =
+    let a = c .before .before .before .before .before .before .before .args in
+    let e = sym (ap (λ (x : About). x .letter) (c .before .before .before .before .about .ensures)) ∙ c .before .if1 .taken ∙ ap (λ (x : About). x .letter) (c .before .before .before .about2 .ensures) in
+    c .is-level .ensures ∙ asks-by (a .counts) (cardAt (a .counts .solid) (a .s .now) (a .start)) (a .card .now) (a .k) E e
+
+about-requires-3 : tie.Need-about-requires-3
+about-requires-3 c κs = search needs
+
+on-triangle-requires : tie.Need-on-triangle-requires
+on-triangle-requires c κs =
+    let a = c .before .before .before .before .before .before .before .before .before .args in
+    let e = sym (ap (λ (x : About). x .letter) (c .before .before .before .before .before .before .about .ensures)) ∙ c .if2 .taken ∙ ap (λ (x : About). x .letter) (c .before .before .about3 .ensures) in
+    asking-by (a .counts) (a .s .now) (a .start) (a .card .now) (a .k) F e (c .before .before .before .before .before .before .before .before .before .pre)
+
+returns-2 : tie.Need-returns-2
+returns-2 c =
+    let a = c .before .before .before .before .before .before .before .before .before .before .args in
+    let e = sym (ap (λ (x : About). x .letter) (c .before .before .before .before .before .before .before .about .ensures)) ∙ c .before .if2 .taken ∙ ap (λ (x : About). x .letter) (c .before .before .before .about3 .ensures) in
+    c .on-triangle .ensures ∙ asks-by (a .counts) (cardAt (a .counts .solid) (a .s .now) (a .start)) (a .card .now) (a .k) F e
+
+returns-3 : tie.Need-returns-3
+returns-3 c =
+    let a = c .before .before .before .before .before .before .before .before .before .args in
+    asks-none (a .counts) (cardAt (a .counts .solid) (a .s .now) (a .start)) (a .card .now) (a .k)
+    (λ e. c .before .before .before .if1 .left (ap (λ (x : About). x .letter) (c .before .before .before .before .before .before .about .ensures) ∙ e ∙ sym (ap (λ (x : About). x .letter) (c .before .before .before .before .before .about2 .ensures))))
+    (λ e. c .if2 .left (ap (λ (x : About). x .letter) (c .before .before .before .before .before .before .about .ensures) ∙ e ∙ sym (ap (λ (x : About). x .letter) (c .before .before .about3 .ensures))))
+
+pub asks-part-spec : {M : Type 1} → statement M
+asks-part-spec =
+    tie.close
+    (tie.spec
+    about-requires
+    about-requires-2
+    is-level-requires
+    returns
+    about-requires-3
+    on-triangle-requires
+    returns-2
+    returns-3)

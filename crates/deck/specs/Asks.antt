@@ -1,0 +1,27 @@
+-- What the reader's inner functions ask of each other.
+use mathlib.Core.Path.{_≡_}
+use mathlib.Core.Bool.{true}
+use mathlib.Core.List.{List}
+use Prim.Native.Nat.{ℕ, _+_, _*_, _≤_}
+use lib.ListN.{length}
+use Rattle.paper.specs.Kinds.{about, kindAt}
+use Rattle.paper.specs.Cards.{before, columns, inRange, mostRows}
+use Rattle.paper.specs.Calls.{cardAt}
+use Rattle.paper.specs.declared.Counts.{Counts}
+use Rattle.paper.specs.declared.Kind.{Kind}
+use Rattle.laws.proofs.Past.{Past, Turn}
+
+-- a card of a kind whose fields are in range; the cards of the sections before its own have passed
+pub record Asking (z : Counts) (s : List ℕ) (start : ℕ) (card : List ℕ) (k : Kind) : Type 0 where
+  pub six : length card ≡ 6
+  pub range : inRange (columns z k) card 5 0 ≡ true
+  pub room : start + before z (about k .section) * 42 ≤ length s
+  pub past : Past z (cardAt (z .solid) s start) (before z (about k .section))
+
+-- card i of a part, of kind k, where the judge is at it
+pub record Reached (z : Counts) (s : List ℕ) (start i p key : ℕ) (k : Kind) (card : List ℕ) : Type 0 where
+  pub is : card ≡ cardAt (z .solid) s start i
+  pub kind : k ≡ kindAt card
+  pub room : start + i * 42 + 42 ≤ length s
+  pub few : i ≤ mostRows
+  pub turn : Turn z (cardAt (z .solid) s start) i p key
