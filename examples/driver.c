@@ -19,6 +19,7 @@ struct panel {
 	size_t length; /* of the table: six numbers a card */
 	int64_t p[MATRIX], a[MATRIX], factor[MATRIX], work[MATRIX];
 	int64_t temperatures[GORMULAST_MAX_NODES];
+	int64_t carried[GORMULAST_MAX_NODES]; /* what each step leaves to the next */
 	size_t nodes;
 };
 
@@ -28,7 +29,7 @@ static uint64_t panel_build(struct panel *panel)
 			       panel->factor, MATRIX, panel->work, MATRIX);
 }
 
-/* Reads a deck, builds its matrices and starts every node at D's temperature. */
+/* Reads a deck, builds its matrices and starts every node at D's temperature, with nothing carried. */
 static uint64_t panel_open(struct panel *panel, const uint8_t *bytes, size_t length)
 {
 	uint64_t start, end, answer;
@@ -39,16 +40,18 @@ static uint64_t panel_open(struct panel *panel, const uint8_t *bytes, size_t len
 		return answer;
 	panel->length = (end - start) / GORMULAST_CARD_BYTES * GORMULAST_CARD_NUMBERS;
 	panel->nodes = panel->table[panel->length - 4];
-	for (node = 0; node < panel->nodes; node++)
+	for (node = 0; node < panel->nodes; node++) {
 		panel->temperatures[node] = panel->table[2];
+		panel->carried[node] = 0;
+	}
 	return panel_build(panel);
 }
 
-/* After a page: one step. Refused, it leaves the temperatures as they were. */
+/* After a page: one step. Refused, it leaves the temperatures and what is carried as they were. */
 static uint64_t panel_page(struct panel *panel)
 {
 	return gormulast_step(panel->table, panel->length, panel->p, MATRIX, panel->a, MATRIX,
-			      panel->factor, MATRIX, panel->temperatures, panel->nodes);
+			      panel->factor, MATRIX, panel->temperatures, panel->nodes, panel->carried, panel->nodes);
 }
 
 /* Gives a field and the one after it new values, in every card of a letter; stops at the first that is refused. */

@@ -42,7 +42,7 @@ extern "C" {
 	row(PIVOT, 7, "row %u of the factor has a pivot under 16") \
 	row(BOUND, 8, "row %u has a number of the factor or of a step past its bound") \
 	row(SHORT, 9, "a lent buffer is too short") \
-	row(FOREIGN, 10, "the lent P, A or factor has numbers that no build gives") \
+	row(FOREIGN, 10, "the lent P, A, factor or carried has numbers that no call gives") \
 	row(OFF_SCALE, 11, "node %u has a temperature off the scale") \
 	row(UNSETTLED, 12, "row %u is not settled after four corrections") \
 	row(REPLACEMENT, 13, "card %u can't become that card, or there is no such card")
@@ -123,15 +123,25 @@ uint64_t gormulast_replace(uint32_t *table, size_t table_length,
 			   uint32_t card, uint32_t letter,
 			   uint32_t f1, uint32_t f2, uint32_t f3, uint32_t f4, uint32_t f5);
 
-/* One step of the deck's length from the temperatures lent, one for each node.
- *   0        the temperatures are those after the step; numbers past the last node stay
- *   refused  the temperatures stay
+/* One step of the deck's length from the temperatures lent, one for each node, and from what the step before carried over, one
+ * number for each node.
+ *
+ * Temperatures are whole ticks, so a step leaves a residual at each node: heat, in 1/65536 microwatts over a step, that its
+ * temperatures don't have yet, or where it is negative have too soon. The next step adds it at nodes that no T card holds, so
+ * that none of the heat is lost, however many steps are taken. Keep carried with the temperatures and lend both to each step:
+ *   - it is zeros at the start, and whenever the temperatures are set anew;
+ *   - after a replacement it stays as it is: that heat is still due. What a step left is never refused, whatever was replaced;
+ *   - its numbers are at most 2^33 in magnitude, and 0 after a step where a T card holds the node.
+ *
+ *   0        the temperatures are those after the step, carried is what it left; numbers past the last node stay in both
+ *   refused  the temperatures and carried stay
  * Refuses with 1 to 4 and 8 to 12. */
 uint64_t gormulast_step(const uint32_t *table, size_t table_length,
 			const int64_t *p, size_t p_length,
 			const int64_t *a, size_t a_length,
 			const int64_t *factor, size_t factor_length,
-			int64_t *temperatures, size_t temperatures_length);
+			int64_t *temperatures, size_t temperatures_length,
+			int64_t *carried, size_t carried_length);
 
 #ifdef __cplusplus
 }

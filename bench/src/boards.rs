@@ -40,6 +40,11 @@ impl Board {
         matrices
     }
 
+    /// Every node at D's start temperature.
+    pub fn start(&self) -> Vec<i64> {
+        vec![i64::from(self.table[2]); self.nodes]
+    }
+
     /// Its factor with pivots some parts of 64 larger, so that the first step takes so many corrections; none where all nodes
     /// are as warm as they are held.
     pub fn factor_for(&self, corrections: u64) -> Option<Vec<i64>> {
@@ -50,9 +55,10 @@ impl Board {
                 let d = &mut factor[i * (i + 3) / 2];
                 *d = *d * part / 64;
             }
-            let mut temperatures = vec![i64::from(self.table[2]); self.nodes];
-            let answer = reference::step(&self.table, &p, &a, &factor, &mut temperatures).packed();
-            (answer == 256 * corrections).then_some(factor)
+            let (mut temperatures, mut carried) = (self.start(), vec![0; self.nodes]);
+            let (table, first) = (&self.table, &mut temperatures);
+            let answer = reference::step(table, &p, &a, &factor, first, &mut carried);
+            (answer.packed() == 256 * corrections).then_some(factor)
         })
     }
 

@@ -1,23 +1,23 @@
-//! Medians of two works, taken in turns, so that both meet the same machine.
+//! Medians of two works, the archive's and one to measure it against, taken in turns, so that both meet the same machine.
 
 use std::time::Instant;
 
 /// Nanoseconds a call.
 #[derive(Clone, Copy)]
 pub struct Times {
-    pub reference: f64,
+    pub against: f64,
     pub archive: f64,
 }
 
 impl Times {
     pub const MOST: Times = Times {
-        reference: f64::INFINITY,
+        against: f64::INFINITY,
         archive: f64::INFINITY,
     };
 
     pub fn min(self, other: Times) -> Times {
         Times {
-            reference: self.reference.min(other.reference),
+            against: self.against.min(other.against),
             archive: self.archive.min(other.archive),
         }
     }
@@ -28,15 +28,15 @@ const RUNS: usize = 1_001;
 const RUN_NANOSECONDS: u128 = 40_000;
 
 /// Each work answers 0, or the measuring ends: a refused call is no measure.
-pub fn in_turns(mut reference: impl FnMut() -> u64, mut archive: impl FnMut() -> u64) -> Times {
-    let calls = calls_a_run(&mut reference).min(calls_a_run(&mut archive));
-    let (mut right, mut ours) = (Vec::new(), Vec::new());
+pub fn in_turns(mut against: impl FnMut() -> u64, mut archive: impl FnMut() -> u64) -> Times {
+    let calls = calls_a_run(&mut against).min(calls_a_run(&mut archive));
+    let (mut theirs, mut ours) = (Vec::new(), Vec::new());
     for _ in 0..RUNS {
-        right.push(run(&mut reference, calls));
+        theirs.push(run(&mut against, calls));
         ours.push(run(&mut archive, calls));
     }
     Times {
-        reference: median(right, calls),
+        against: median(theirs, calls),
         archive: median(ours, calls),
     }
 }

@@ -3,10 +3,14 @@
 //!     bench DECK..
 //!
 //! The decks rise in nodes and build. reference/ divides as the paper writes it: its R is x/2^20 by a division.
+//!
+//! With the feature `before` it is the archive's step against that of an archive from before the residuals were carried.
 
 #[path = "../../tests/differential/src/face.rs"]
 mod face;
 
+#[cfg(feature = "before")]
+mod before;
 mod boards;
 mod clock;
 
@@ -23,6 +27,14 @@ fn main() {
         .skip(1)
         .map(|path| Board::read(&path))
         .collect();
+    #[cfg(feature = "before")]
+    return before::steps(&boards);
+    #[cfg(not(feature = "before"))]
+    calls(&boards);
+}
+
+#[cfg_attr(feature = "before", allow(dead_code))]
+fn calls(boards: &[Board]) {
     println!(
         "{:15} {:>5} {:>12} {:>12} {:>7}",
         "call", "nodes", "reference", "archive", "ratio"
@@ -57,15 +69,15 @@ fn main() {
         }
     }
     if boards.len() > 1 {
-        growth(&boards);
+        growth(boards);
     }
 }
 
 fn show(call: &str, board: &Board, times: Times) {
-    let ratio = times.archive / times.reference;
+    let ratio = times.archive / times.against;
     let mark = if ratio < 1.0 { "" } else { "  more" };
-    let (nodes, Times { reference, archive }) = (board.nodes, times);
-    println!("{call:15} {nodes:>5} {reference:>9.0} ns {archive:>9.0} ns {ratio:>7.2}{mark}");
+    let (nodes, Times { against, archive }) = (board.nodes, times);
+    println!("{call:15} {nodes:>5} {against:>9.0} ns {archive:>9.0} ns {ratio:>7.2}{mark}");
 }
 
 /// How the cost of a build rises: the power of n from each size to the next. Other work on the machine comes and goes, so
@@ -81,7 +93,7 @@ fn growth(boards: &[Board]) {
     for (boards, times) in boards.windows(2).zip(least.windows(2)) {
         let (n, m) = (boards[0].nodes, boards[1].nodes);
         let power = |from: f64, to: f64| (to / from).ln() / (m as f64 / n as f64).ln();
-        let reference = power(times[0].reference, times[1].reference);
+        let reference = power(times[0].against, times[1].against);
         let archive = power(times[0].archive, times[1].archive);
         println!("{n:>3} to {m:>3} nodes   reference {reference:.2}   archive {archive:.2}");
     }
@@ -190,34 +202,49 @@ fn replaces(board: &Board, card: u32, even: Card, field: usize) -> Times {
     )
 }
 
-/// Always the first step of the deck.
+/// Always the first step of the deck, with nothing carried.
 fn steps(board: &Board, factor: &[i64]) -> Times {
     let [p, a, ..] = &board.built();
     let table = &board.table;
-    let start = vec![i64::from(table[2]); board.nodes];
-    let (mut right, mut ours) = (start.clone(), start.clone());
+    let start = board.start();
+    let (mut right, mut carried) = (start.clone(), vec![0; board.nodes]);
     in_turns(
         || {
             right.copy_from_slice(&start);
-            reference::step(table, p, a, factor, &mut right).packed() & 255
+            carried.fill(0);
+            reference::step(table, p, a, factor, &mut right, &mut carried).packed() & 255
         },
-        || {
-            ours.copy_from_slice(&start);
-            let answer = unsafe {
-                face::gormulast_step(
-                    table.as_ptr(),
-                    table.len(),
-                    p.as_ptr(),
-                    p.len(),
-                    a.as_ptr(),
-                    a.len(),
-                    factor.as_ptr(),
-                    factor.len(),
-                    ours.as_mut_ptr(),
-                    ours.len(),
-                )
-            };
-            answer & 255
-        },
+        our_step(board, p, a, factor),
     )
+}
+
+fn our_step<'a>(
+    board: &'a Board,
+    p: &'a [i64],
+    a: &'a [i64],
+    factor: &'a [i64],
+) -> impl FnMut() -> u64 + 'a {
+    let start = board.start();
+    let (mut ours, mut carried) = (start.clone(), vec![0; board.nodes]);
+    move || {
+        ours.copy_from_slice(&start);
+        carried.fill(0);
+        let answer = unsafe {
+            face::gormulast_step(
+                board.table.as_ptr(),
+                board.table.len(),
+                p.as_ptr(),
+                p.len(),
+                a.as_ptr(),
+                a.len(),
+                factor.as_ptr(),
+                factor.len(),
+                ours.as_mut_ptr(),
+                ours.len(),
+                carried.as_mut_ptr(),
+                carried.len(),
+            )
+        };
+        answer & 255
+    }
 }

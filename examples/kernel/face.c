@@ -5,6 +5,7 @@
  *   /sys/class/misc/gormulast/replace    written: a card's number, its letter's ASCII code, its five fields
  *   /sys/class/misc/gormulast/steps      written: how many steps to take, 1 to 100,000; the first refusal ends them
  *   /sys/class/misc/gormulast/temperatures   read: ticks, one number for each node
+ *   /sys/class/misc/gormulast/carried    read: what the last step left to the next, one number for each node
  *   /sys/class/misc/gormulast/answer     read: the last answer, in plain words
  *
  * A write that is not such numbers fails and leaves the last answer. All memory is taken once, when the module is loaded.
@@ -158,18 +159,30 @@ static ssize_t steps_store(struct device *device, struct device_attribute *attri
 }
 static DEVICE_ATTR_WO(steps);
 
-static ssize_t temperatures_show(struct device *device, struct device_attribute *attribute, char *page)
+/* One for each node. */
+static ssize_t show_numbers(const int64_t *numbers, char *page)
 {
 	size_t node;
 	int at = 0;
 
 	mutex_lock(&board->lock);
 	for (node = 0; node < board->model.nodes; node++)
-		at += sysfs_emit_at(page, at, "%s%lld", node ? " " : "", board->model.temperatures[node]);
+		at += sysfs_emit_at(page, at, "%s%lld", node ? " " : "", numbers[node]);
 	mutex_unlock(&board->lock);
 	return at + sysfs_emit_at(page, at, "\n");
 }
+
+static ssize_t temperatures_show(struct device *device, struct device_attribute *attribute, char *page)
+{
+	return show_numbers(board->model.temperatures, page);
+}
 static DEVICE_ATTR_RO(temperatures);
+
+static ssize_t carried_show(struct device *device, struct device_attribute *attribute, char *page)
+{
+	return show_numbers(board->model.carried, page);
+}
+static DEVICE_ATTR_RO(carried);
 
 static ssize_t answer_show(struct device *device, struct device_attribute *attribute, char *page)
 {
@@ -188,6 +201,7 @@ static struct attribute *board_attrs[] = {
 	&dev_attr_replace.attr,
 	&dev_attr_steps.attr,
 	&dev_attr_temperatures.attr,
+	&dev_attr_carried.attr,
 	&dev_attr_answer.attr,
 	NULL,
 };

@@ -2,8 +2,8 @@
 #include <linux/string.h>
 #include "model.h"
 
-/* Reads a deck, builds its matrices and starts every node at D's temperature. The deck is read into a table of its own, and
- * a refused build leaves p, a and factor, so a deck that is refused, wherever, leaves the old one at work. */
+/* Reads a deck, builds its matrices and starts every node at D's temperature, with nothing carried. The deck is read into a
+ * table of its own, and a refused build leaves p, a and factor, so a deck that is refused, wherever, leaves the old one at work. */
 uint64_t model_deck(struct model *model, const uint8_t *bytes, size_t length)
 {
 	uint64_t start, end, answer;
@@ -20,11 +20,14 @@ uint64_t model_deck(struct model *model, const uint8_t *bytes, size_t length)
 	memcpy(model->table, model->next, numbers * sizeof(*model->table));
 	model->length = numbers;
 	model->nodes = model->table[numbers - 4];
-	for (node = 0; node < model->nodes; node++)
+	for (node = 0; node < model->nodes; node++) {
 		model->temperatures[node] = model->table[2];
+		model->carried[node] = 0;
+	}
 	return 0;
 }
 
+/* What is carried stays: it is heat that is still due. */
 uint64_t model_replace(struct model *model, uint32_t card, const uint32_t new[GORMULAST_CARD_NUMBERS])
 {
 	return gormulast_replace(model->table, model->length, model->p, MATRIX, model->a, MATRIX,
@@ -35,7 +38,7 @@ uint64_t model_replace(struct model *model, uint32_t card, const uint32_t new[GO
 uint64_t model_step(struct model *model)
 {
 	return gormulast_step(model->table, model->length, model->p, MATRIX, model->a, MATRIX,
-			      model->factor, MATRIX, model->temperatures, model->nodes);
+			      model->factor, MATRIX, model->temperatures, model->nodes, model->carried, model->nodes);
 }
 
 size_t model_bytes(const struct model *model, uint8_t *bytes, size_t room)

@@ -16,6 +16,7 @@ struct model {
 	uint32_t next[GORMULAST_MAX_TABLE]; /* a deck not yet accepted */
 	int64_t p[MATRIX], a[MATRIX], factor[MATRIX], work[MATRIX];
 	int64_t temperatures[GORMULAST_MAX_NODES];
+	int64_t carried[GORMULAST_MAX_NODES]; /* what each step leaves to the next */
 	size_t nodes;
 };
 

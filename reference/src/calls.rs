@@ -287,52 +287,50 @@ fn forms_of_change(
     Ok((old_form, new_form))
 }
 
-/// One step from the lent temperatures.
+/// One step from the lent temperatures and the residuals that the step before it left, zero at the start.
 pub fn step(
     table: &[u32],
     p: &[i64],
     a: &[i64],
     factor: &[i64],
     temperatures: &mut [i64],
+    carried: &mut [i64],
 ) -> Stepped {
-    try_run(
-        table,
-        p,
-        a,
-        factor,
-        temperatures,
-        |stepper, _, temperatures| stepper.step(temperatures),
-    )
-    .into()
+    let one = |stepper: &Stepper, _, temperatures: &mut [i64], carried: &mut [i64]| {
+        stepper.step(temperatures, carried)
+    };
+    try_run(table, p, a, factor, temperatures, carried, one).into()
 }
 
-/// D's number of steps from the lent temperatures, up to the first refusal. What
-/// a step asks of the deck and the matrices is the same each time, and asked once.
-pub fn run(table: &[u32], p: &[i64], a: &[i64], factor: &[i64], temperatures: &mut [i64]) -> Ran {
-    try_run(
-        table,
-        p,
-        a,
-        factor,
-        temperatures,
-        |stepper, steps, temperatures| {
-            for _ in 0..steps {
-                stepper.step(temperatures)?;
-            }
-            Ok(steps)
-        },
-    )
-    .into()
+/// D's number of steps from the lent temperatures and residuals, up to the first refusal; each step hands both to the next.
+/// What a step asks of the deck and the matrices is the same each time, and asked once. So are 10 of the residuals and 11 of
+/// the temperatures: a step leaves residuals within its row bounds, which 10 of A holds to 2^33, and temperatures on the scale.
+pub fn run(
+    table: &[u32],
+    p: &[i64],
+    a: &[i64],
+    factor: &[i64],
+    temperatures: &mut [i64],
+    carried: &mut [i64],
+) -> Ran {
+    let all = |stepper: &Stepper, steps, temperatures: &mut [i64], carried: &mut [i64]| {
+        for _ in 0..steps {
+            stepper.step(temperatures, carried)?;
+        }
+        Ok(steps)
+    };
+    try_run(table, p, a, factor, temperatures, carried, all).into()
 }
 
-/// The judging before a step, then `work` with the stepper, D's steps and the n temperatures.
+/// The judging before a step, then `work` with the stepper, D's steps, the n temperatures and the n residuals.
 fn try_run(
     table: &[u32],
     p: &[i64],
     a: &[i64],
     factor: &[i64],
     temperatures: &mut [i64],
-    work: impl Fn(&Stepper, u32, &mut [i64]) -> Result<u32, Refusal>,
+    carried: &mut [i64],
+    work: impl Fn(&Stepper, u32, &mut [i64], &mut [i64]) -> Result<u32, Refusal>,
 ) -> Result<u32, Refusal> {
     let deck = Deck::judge(table)?;
     let n = deck.counts.nodes;
@@ -340,13 +338,15 @@ fn try_run(
     if p.len() < length || a.len() < length || factor.len() < length {
         return Err(Refusal::whole(SHORT));
     }
-    let temperatures = cut(temperatures, n)?;
+    let [temperatures, carried] = [cut(temperatures, n)?, cut(carried, n)?];
     judge_lent(n, p, a, factor)?;
+    judge_carried(carried)?;
     on_scale(temperatures)?;
     work(
         &Stepper::new(&deck, p, a, factor),
         deck.steps(),
         temperatures,
+        carried,
     )
 }
 
@@ -355,10 +355,22 @@ fn cut(slice: &mut [i64], length: usize) -> Result<&mut [i64], Refusal> {
     slice.get_mut(..length).ok_or(Refusal::whole(SHORT))
 }
 
-/// Refusal 10.
+/// Refusal 10 of P, A and the factor.
 fn judge_lent(n: usize, p: &[i64], a: &[i64], factor: &[i64]) -> Result<(), Refusal> {
     if !matrix::sums_bounded(p, n) || !matrix::sums_bounded(a, n) || !factoring::bounded(factor, n)
     {
+        return Err(Refusal::whole(LENT));
+    }
+    Ok(())
+}
+
+/// The greatest magnitude of a carried residual.
+const MAX_CARRIED: u64 = 1 << 33;
+
+/// Refusal 10 of the carried residuals, those of fixed nodes too; of the tests of 10 it is the last.
+fn judge_carried(carried: &[i64]) -> Result<(), Refusal> {
+    let past = |residual: &i64| residual.unsigned_abs() > MAX_CARRIED;
+    if carried.iter().any(past) {
         return Err(Refusal::whole(LENT));
     }
     Ok(())

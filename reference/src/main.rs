@@ -53,7 +53,8 @@ fn simulate(bytes: &[u8]) -> Result<(u32, Vec<i64>), Refusal> {
     accepted(build(table, &mut p, &mut a, &mut factor, &mut work))?;
 
     let mut temperatures = vec![start; nodes];
-    match run(table, &p, &a, &factor, &mut temperatures) {
+    let mut carried = vec![0; nodes];
+    match run(table, &p, &a, &factor, &mut temperatures, &mut carried) {
         Ran::Done(steps) => Ok((steps, temperatures)),
         Ran::Refused(refusal) => Err(refusal),
     }

@@ -25,7 +25,7 @@ pub struct Stepper<'a> {
     a: &'a [i64],
     factor: &'a [i64],
     fixed: [Option<i64>; MAX_NODES],
-    /// The right side without P times the old temperatures.
+    /// The right side without P times the old temperatures and without the carried residuals.
     constant: Vector,
     /// The sum of |A'| along each row.
     tolerance: Vector,
@@ -83,8 +83,9 @@ impl<'a> Stepper<'a> {
         }
     }
 
-    /// One step of n temperatures that are on the scale; they change only if it settles.
-    pub fn step(&self, temperatures: &mut [i64]) -> Result<u32, Refusal> {
+    /// One step of n temperatures that are on the scale, with n residuals that the step before it left. Both change only if
+    /// it settles: the residuals become those of the new temperatures, and 0 at fixed nodes.
+    pub fn step(&self, temperatures: &mut [i64], carried: &mut [i64]) -> Result<u32, Refusal> {
         let mut new = [0; MAX_NODES];
         new[..self.n].copy_from_slice(temperatures);
 
@@ -92,7 +93,7 @@ impl<'a> Stepper<'a> {
         let capacity = multiply(self.p, self.n, &new);
         for i in 0..self.n {
             if self.fixed[i].is_none() {
-                right[i] += capacity[i];
+                right[i] += capacity[i] + carried[i];
             }
         }
 
@@ -109,6 +110,10 @@ impl<'a> Stepper<'a> {
             match (0..self.n).find(|&i| residual[i].abs() > self.tolerance[i]) {
                 None => {
                     temperatures.copy_from_slice(&new[..self.n]);
+                    for i in 0..self.n {
+                        let free = self.fixed[i].is_none();
+                        carried[i] = if free { residual[i] } else { 0 };
+                    }
                     return Ok(corrections);
                 }
                 Some(row) if corrections == MAX_CORRECTIONS => {
@@ -186,9 +191,9 @@ mod tests {
     use crate::build;
     use crate::card::{D, E, M, N, Z};
 
-    /// What no call shows of P6: each residual is -4,464 and each row's bound 10,000.
+    /// What no call shows of P6: each row's bound is 10,000.
     #[test]
-    fn p6_residuals() {
+    fn p6_row_bounds() {
         let table = [
             [D, 1_000, 19_660_800, 1, 0, 0],
             [N, 0, 0, 0, 0, 0],
@@ -207,15 +212,5 @@ mod tests {
         );
         let stepper = Stepper::new(&Deck::judge(&table).unwrap(), &p, &a, &factor);
         assert_eq!(stepper.tolerance[..3], [10_000; 3]);
-
-        let mut old = [0; MAX_NODES];
-        old[..3].fill(19_660_800);
-        let mut right = multiply(&p, 3, &old);
-        for i in 0..3 {
-            right[i] += stepper.constant[i];
-        }
-        let mut new = [0; MAX_NODES];
-        new[..3].fill(19_660_807);
-        assert_eq!(stepper.residual(&right, &new)[..3], [-4_464; 3]);
     }
 }

@@ -26,8 +26,9 @@ fn loads(corners: [u32; 3], microwatts: u32) -> [i64; 3] {
 /// How many ticks warmer each node is, weighed against some loads.
 fn risen(corners: [u32; 3], microwatts: u32, against: [i64; 3]) -> [i64; 3] {
     let mut it = Scales::new(corners, microwatts, against);
+    let (temperatures, carried) = (&mut it.temperatures, &mut it.carried);
     assert_eq!(
-        step(&it.table, &it.p, &it.a, &it.factor, &mut it.temperatures),
+        step(&it.table, &it.p, &it.a, &it.factor, temperatures, carried),
         Stepped::Settled(1)
     );
     assert_eq!(it.temperatures[3], 1);

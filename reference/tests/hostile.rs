@@ -16,11 +16,12 @@ fn spoil(chance: &mut Chance, lent: &mut Lent) {
         let wild = chance.signed();
         let whole = chance.one_in(8);
         let wilds = numbers(chance, lent.p.len());
-        let list = match chance.within(0, 5) {
+        let list = match chance.within(0, 6) {
             0 => &mut lent.p,
             1 => &mut lent.a,
             2 => &mut lent.factor,
             3 => &mut lent.work,
+            4 => &mut lent.carried,
             _ => &mut lent.temperatures,
         };
         if whole {
@@ -198,6 +199,7 @@ fn any_slices() {
             factor: numbers(&mut chance, size),
             work: numbers(&mut chance, size),
             temperatures: numbers(&mut chance, size),
+            carried: numbers(&mut chance, size),
         };
         let before = lent.clone();
         lent.build();

@@ -412,7 +412,7 @@ fn r7_and_r8_of_replacements() {
 fn r9_short() {
     let own = Lent::built(loaded().table());
     let length = triangle(4);
-    // Cuts p, a, factor, work or the temperatures to what is asked, less some.
+    // Cuts p, a, factor, work, the temperatures or the carried residuals to what is asked, less some.
     let cut = |slice: usize, less: usize| {
         let mut lent = own.clone();
         match slice {
@@ -420,7 +420,8 @@ fn r9_short() {
             1 => lent.a.truncate(length - less),
             2 => lent.factor.truncate(length - less),
             3 => lent.work.truncate(length - less),
-            _ => lent.temperatures.truncate(4 - less),
+            4 => lent.temperatures.truncate(4 - less),
+            _ => lent.carried.truncate(4 - less),
         }
         lent
     };
@@ -431,17 +432,17 @@ fn r9_short() {
         (13, card(G, &[1, 2, 9, 9, 9])),
         (15, card(T, &[3, 9])),
     ];
-    for slice in 0..5 {
+    for slice in 0..6 {
         // Just long enough.
         for (number, new) in cards {
             assert_eq!(cut(slice, 0).replace(number, new), Answer::Done);
         }
         assert_eq!(cut(slice, 0).build(), Answer::Done);
         assert!(matches!(cut(slice, 0).step(), Stepped::Settled(_)));
-        // One too short. Build and replace don't ask for temperatures, nor step for work.
+        // One too short. Build and replace don't ask for temperatures and residuals, nor step for work.
         let before = cut(slice, 1);
         let mut lent = before.clone();
-        if slice != 4 {
+        if slice < 4 {
             for (number, new) in cards {
                 assert_eq!(lent.replace(number, new), refused(9, 0));
             }
@@ -587,8 +588,8 @@ fn r11_scale() {
         assert_eq!(lent.step(), answer);
         assert_eq!(lent == before, start == TOP - 6);
     }
-    // A run keeps the temperatures of its last accepted step.
-    groups.d = [1_000, TOP - 20, 3];
+    // A run keeps the temperatures and the residuals of its last accepted step: the third would be 20 ticks up.
+    groups.d = [1_000, TOP - 19, 3];
     let mut lent = Lent::built(groups.table());
     assert_eq!(
         lent.run(),
@@ -597,17 +598,9 @@ fn r11_scale() {
             place: 1
         })
     );
-    assert_eq!(
-        lent.temperatures,
-        [
-            i64::from(TOP) - 6,
-            i64::from(TOP) - 6,
-            i64::from(TOP) - 6,
-            MARK,
-            MARK,
-            MARK
-        ]
-    );
+    let left = i64::from(TOP) - 6;
+    assert_eq!(lent.temperatures, [left, left, left, MARK, MARK, MARK]);
+    assert_eq!(lent.carried, [1_072, 1_072, 1_072, MARK, MARK, MARK]);
     groups.d[2] = 2;
     assert_eq!(Lent::built(groups.table()).run(), Ran::Done(2));
 }

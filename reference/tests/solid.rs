@@ -131,8 +131,9 @@ fn heat_in_quarters() {
             let loads = Scales::loads(&corners, quarter);
             for (more, risen) in [(0, 1), (1, 0)] {
                 let it = Scales::new_solid(corners, microwatts, loads.map(|load| load + more));
-                let mut temperatures = it.temperatures.clone();
-                let answer = step(&it.table, &it.p, &it.a, &it.factor, &mut temperatures);
+                let (mut temperatures, mut carried) = (it.temperatures, it.carried);
+                let (p, a, factor) = (&it.p, &it.a, &it.factor);
+                let answer = step(&it.table, p, a, factor, &mut temperatures, &mut carried);
                 assert_eq!(answer, Stepped::Settled(1));
                 assert_eq!(temperatures[..3], [Scales::WARM + risen; 3]);
             }

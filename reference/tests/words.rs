@@ -10,6 +10,8 @@ use reference::{Answer, Ran, Refusal, Stepped};
 
 type Matrix = Vec<Vec<i128>>;
 type Refused = (u8, u32);
+/// The corrections, the new temperatures, the new residuals.
+type Settled = (u32, Vec<i128>, Vec<i128>);
 
 const ONE: i128 = 1 << 20;
 
@@ -281,12 +283,15 @@ impl Words<'_> {
         Ok([p, a, factor])
     }
 
-    fn step(&self, lent: &[Matrix; 3], old: &[i128]) -> Result<(u32, Vec<i128>), Refused> {
+    fn step(&self, lent: &[Matrix; 3], old: &[i128], carried: &[i128]) -> Result<Settled, Refused> {
         ten(lent)?;
+        if carried.iter().any(|residual| residual.abs() > 1 << 33) {
+            return Err((10, 0));
+        }
         let [p, a, factor] = lent;
         let n = self.nodes();
         let fixed: Matrix = self.fix(a);
-        let mut right = vec![0; n];
+        let mut right = carried.to_vec();
         for i in 0..n {
             for j in 0..n {
                 right[i] += p[i][j] * old[j];
@@ -351,7 +356,10 @@ impl Words<'_> {
             let rest = residual(&new);
             let far = (0..n).find(|&i| rest[i].abs() > fixed[i].iter().map(|a| a.abs()).sum());
             match far {
-                None => return Ok((correction, new)),
+                None => {
+                    let left = (0..n).map(|i| if self.fixed(i).is_some() { 0 } else { rest[i] });
+                    return Ok((correction, new, left.collect()));
+                }
                 Some(row) if correction == 4 => return Err((12, row as u32 + 1)),
                 Some(_) => {}
             }
@@ -484,7 +492,13 @@ fn lend(chance: &mut Chance, lent: &mut Lent) {
     }
 }
 
-/// Refusal 10, by its words.
+/// Residuals as a step before may have left them, or any others.
+fn carry(chance: &mut Chance, lent: &mut Lent) {
+    let n = nodes_of(&lent.table);
+    lent.carried[..n].copy_from_slice(&chance.residuals(n));
+}
+
+/// Refusal 10 of the matrices, by its words.
 fn ten(squares: &[Matrix; 3]) -> Result<(), Refused> {
     let [p, a, factor] = squares;
     let sums = |matrix: &Matrix| {
@@ -597,18 +611,23 @@ fn steps() {
         for t in &mut before.temperatures[..n] {
             *t = (*t + i64::from(chance.within(0, spread))).min(i64::from(TOP));
         }
-        let old: Vec<i128> = before.temperatures[..n]
-            .iter()
-            .map(|&t| i128::from(t))
-            .collect();
+        carry(&mut chance, &mut before);
+        let wide = |numbers: &[i64]| -> Vec<i128> {
+            numbers[..n]
+                .iter()
+                .map(|&number| i128::from(number))
+                .collect()
+        };
+        let (old, carried) = (wide(&before.temperatures), wide(&before.carried));
         let mut lent = before.clone();
         let answer = lent.step();
         let mut expected = before.clone();
-        match Words(&before.table).step(&squares(&before), &old) {
-            Ok((corrections, new)) => {
+        match Words(&before.table).step(&squares(&before), &old, &carried) {
+            Ok((corrections, new, left)) => {
                 assert_eq!(answer, Stepped::Settled(corrections));
                 for i in 0..n {
                     expected.temperatures[i] = new[i] as i64;
+                    expected.carried[i] = left[i] as i64;
                 }
                 corrected[corrections as usize] += 1;
             }
@@ -637,6 +656,7 @@ fn runs() {
     for _ in 0..400 {
         let mut before = Lent::new(any_deck(&mut chance));
         lend(&mut chance, &mut before);
+        carry(&mut chance, &mut before);
         let steps = before.table[3];
         let mut stepped = before.clone();
         let mut expected = Ran::Done(steps);

@@ -13,7 +13,7 @@ enum { MATRIX = GORMULAST_MATRIX(GORMULAST_MAX_NODES), PAINT = 0xA5, STACK = 655
 static uint8_t bytes[GORMULAST_MAX_BYTES], written[GORMULAST_MAX_BYTES];
 static size_t length, rows;
 static uint32_t table[GORMULAST_MAX_TABLE];
-static int64_t p[MATRIX], a[MATRIX], factor[MATRIX], work[MATRIX], temperatures[GORMULAST_MAX_NODES];
+static int64_t p[MATRIX], a[MATRIX], factor[MATRIX], work[MATRIX], temperatures[GORMULAST_MAX_NODES], carried[GORMULAST_MAX_NODES];
 static uint64_t answer;
 static uint32_t card;
 
@@ -71,7 +71,8 @@ static void call_replace(void)
 
 static void call_step(void)
 {
-	answer = gormulast_step(table, 6 * rows, p, MATRIX, a, MATRIX, factor, MATRIX, temperatures, GORMULAST_MAX_NODES);
+	answer = gormulast_step(table, 6 * rows, p, MATRIX, a, MATRIX, factor, MATRIX,
+				temperatures, GORMULAST_MAX_NODES, carried, GORMULAST_MAX_NODES);
 }
 
 static int failed;

@@ -137,7 +137,7 @@ module _ (t : List ℕ) (s : Slices) {k : ℕ} {x : List ℤ} (ek : k ≡ nodes 
 
 module _ (t : List ℕ) (p a f w : List ℤ) where
   abbrev z : Lent
-  z = lent t p a f w []
+  z = lent t p a f w [] []
 
   outcome : buildOutcome z ≡ after (readyJudged t (slices p a f) w) (builtOf t)
   unfolding build
@@ -159,18 +159,18 @@ module _ (t : List ℕ) (p a f w : List ℤ) where
 
   pub build-ended : {r : Answer} {p′ a′ f′ w′ : List ℤ} (k : ℕ) → readyJudged t (slices p a f) w ≡ Done → k ≡ matrix (nodes t)
       → Built r t (slices (take (k - 0) p) (take (k - 0) a) (take (k - 0) f)) (slices p′ a′ f′) w′
-      → left r (lent t (p′ ++ drop (k - 0) p) (a′ ++ drop (k - 0) a) (f′ ++ drop (k - 0) f) (w′ ++ drop (k - 0) w) []) ≡ buildCall z
+      → left r (lent t (p′ ++ drop (k - 0) p) (a′ ++ drop (k - 0) a) (f′ ++ drop (k - 0) f) (w′ ++ drop (k - 0) w) [] []) ≡ buildCall z
   build-ended {r} {p′} {a′} {f′} {w′} k ok ek h = go (factorOf t) refl
     where
       zeroed : w′ ++ drop (k - 0) w ≡ over (replicate (long t) (pos 0)) w
       zeroed = ap (λ (v : List ℤ). v ++ drop (k - 0) w) (h .work) ∙ zeros-over (long t) k w ek
 
-      go : (o : Outcome (List ℤ)) → factorOf t ≡ o → left r (lent t (p′ ++ drop (k - 0) p) (a′ ++ drop (k - 0) a) (f′ ++ drop (k - 0) f) (w′ ++ drop (k - 0) w) []) ≡ buildCall z
+      go : (o : Outcome (List ℤ)) → factorOf t ≡ o → left r (lent t (p′ ++ drop (k - 0) p) (a′ ++ drop (k - 0) a) (f′ ++ drop (k - 0) f) (w′ ++ drop (k - 0) w) [] []) ≡ buildCall z
       go (refused v) is =
           let same : slices p′ a′ f′ ≡ slices (take (k - 0) p) (take (k - 0) a) (take (k - 0) f) = h .left ∙ ap (λ (o : Outcome (List ℤ)). made (then o (λ f. done (slices (lower (nodes t) (P t)) (lower (nodes t) (A t)) f))) (slices (take (k - 0) p) (take (k - 0) a) (take (k - 0) f))) is in
           let ans : r ≡ Refused v = h .answer ∙ ap (λ (o : Outcome (List ℤ)). answerOf (then o (λ f. done (slices (lower (nodes t) (P t)) (lower (nodes t) (A t)) f)))) is in
-          (λ i. left (ans i) (lent t (same i .p ++ drop (k - 0) p) (same i .a ++ drop (k - 0) a) (same i .factor ++ drop (k - 0) f) (w′ ++ drop (k - 0) w) []))
-          ∙ (λ i. left (Refused v) (lent t (whole-again k p i) (whole-again k a i) (whole-again k f i) (w′ ++ drop (k - 0) w) []))
+          (λ i. left (ans i) (lent t (same i .p ++ drop (k - 0) p) (same i .a ++ drop (k - 0) a) (same i .factor ++ drop (k - 0) f) (w′ ++ drop (k - 0) w) [] []))
+          ∙ (λ i. left (Refused v) (lent t (whole-again k p i) (whole-again k a i) (whole-again k f i) (w′ ++ drop (k - 0) w) [] []))
           ∙ stopped t p a f w t v (w′ ++ drop (k - 0) w) (inside-told (factorOf t) v (rows-inside (nodes t) 0 (lower (nodes t) (cleared (fixed t) (A t)))) is) zeroed
           ∙ ends (ap (λ (x : Answer). after x (builtOf t)) ok ∙ ap (λ (o : Outcome (List ℤ)). then o (λ f. done (slices (lower (nodes t) (P t)) (lower (nodes t) (A t)) f))) is)
       go (done y) is =
@@ -179,7 +179,7 @@ module _ (t : List ℕ) (p a f w : List ℤ) where
           let ans : r ≡ Done = h .answer ∙ ap (λ (o : Outcome (List ℤ)). answerOf (then o (λ f. done (slices (lower (nodes t) (P t)) (lower (nodes t) (A t)) f)))) is in
           let x : List ℤ = lower (nodes t) (cleared (fixed t) (A t)) in
           let long-y : length y ≡ matrix (nodes t) = ends-done (Kept 0 x) (rowsFrom (nodes t) 0 x) y (rows-keep 0 (nodes t) 0 x (omega arith)) is .long ∙ length-lower (nodes t) (cleared (fixed t) (A t)) in
-          ap (λ (v : Answer). left v (lent t (p′ ++ drop (k - 0) p) (a′ ++ drop (k - 0) a) (f′ ++ drop (k - 0) f) (w′ ++ drop (k - 0) w) [])) ans
+          ap (λ (v : Answer). left v (lent t (p′ ++ drop (k - 0) p) (a′ ++ drop (k - 0) a) (f′ ++ drop (k - 0) f) (w′ ++ drop (k - 0) w) [] [])) ans
           ∙ accepted t p a f w t s (p′ ++ drop (k - 0) p) (a′ ++ drop (k - 0) a) (f′ ++ drop (k - 0) f) (w′ ++ drop (k - 0) w)
           (ap (λ (q : Slices). q .p ++ drop (k - 0) p) same ∙ over-cut (matrix (nodes t)) k (s .p) p (length-lower (nodes t) (P t)) ek)
           (ap (λ (q : Slices). q .a ++ drop (k - 0) a) same ∙ over-cut (matrix (nodes t)) k (s .a) a (length-lower (nodes t) (A t)) ek)

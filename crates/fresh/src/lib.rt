@@ -66,7 +66,7 @@ pub fn build(
     factor: &mut [i64],
     work: &mut [i64],
 ) -> Answer
-    ensures { λ r. ⌜ left r (lent (now (table .entry)) (now (p .exit)) (now (a .exit)) (now (factor .exit)) (now (work .exit)) []) ≡ buildCall (lent (now (table .entry)) (now (p .entry)) (now (a .entry)) (now (factor .entry)) (now (work .entry)) []) ⌝ }
+    ensures { λ r. ⌜ left r (lent (now (table .entry)) (now (p .exit)) (now (a .exit)) (now (factor .exit)) (now (work .exit)) [] []) ≡ buildCall (lent (now (table .entry)) (now (p .entry)) (now (a .entry)) (now (factor .entry)) (now (work .entry)) [] []) ⌝ }
 {
     if let Answer::Refused(r) = ready(table, &p[..], &a[..], &factor[..], &work[..]) {
         return Answer::Refused(r);

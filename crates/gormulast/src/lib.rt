@@ -39,7 +39,7 @@ pub extern "C" fn gormulast_build(
     factor: &mut [i64],
     work: &mut [i64],
 ) -> u64
-    ensures { λ r. ⌜ gave r (lent (now (table .entry)) (now (p .exit)) (now (a .exit)) (now (factor .exit)) (now (work .exit)) []) ≡ exitToC (buildCall (lent (now (table .entry)) (now (p .entry)) (now (a .entry)) (now (factor .entry)) (now (work .entry)) [])) ⌝ }
+    ensures { λ r. ⌜ gave r (lent (now (table .entry)) (now (p .exit)) (now (a .exit)) (now (factor .exit)) (now (work .exit)) [] []) ≡ exitToC (buildCall (lent (now (table .entry)) (now (p .entry)) (now (a .entry)) (now (factor .entry)) (now (work .entry)) [] [])) ⌝ }
 {
     paper::packed_answer(model::build(
         table,
@@ -65,7 +65,7 @@ pub extern "C" fn gormulast_replace(
     f4: u32,
     f5: u32,
 ) -> u64
-    ensures { λ r. ⌜ gave r (lent (now (table .exit)) (now (p .exit)) (now (a .exit)) (now (factor .exit)) (now (work .exit)) []) ≡ exitToC (replaceCall (lent (now (table .entry)) (now (p .entry)) (now (a .entry)) (now (factor .entry)) (now (work .entry)) []) card (letter ∷ f1 ∷ f2 ∷ f3 ∷ f4 ∷ f5 ∷ [])) ⌝ }
+    ensures { λ r. ⌜ gave r (lent (now (table .exit)) (now (p .exit)) (now (a .exit)) (now (factor .exit)) (now (work .exit)) [] []) ≡ exitToC (replaceCall (lent (now (table .entry)) (now (p .entry)) (now (a .entry)) (now (factor .entry)) (now (work .entry)) [] []) card (letter ∷ f1 ∷ f2 ∷ f3 ∷ f4 ∷ f5 ∷ [])) ⌝ }
 {
     let new = [letter, f1, f2, f3, f4, f5];
     paper::packed_answer(model::replace(
@@ -86,8 +86,9 @@ pub extern "C" fn gormulast_step(
     a: &[i64],
     factor: &[i64],
     temperatures: &mut [i64],
+    carried: &mut [i64],
 ) -> u64
-    ensures { λ r. ⌜ gave r (lent (now (table .entry)) (now (p .entry)) (now (a .entry)) (now (factor .entry)) [] (now (temperatures .exit))) ≡ stepToC (stepCall (lent (now (table .entry)) (now (p .entry)) (now (a .entry)) (now (factor .entry)) [] (now (temperatures .entry)))) ⌝ }
+    ensures { λ r. ⌜ gave r (lent (now (table .entry)) (now (p .entry)) (now (a .entry)) (now (factor .entry)) [] (now (temperatures .exit)) (now (carried .exit))) ≡ stepToC (stepCall (lent (now (table .entry)) (now (p .entry)) (now (a .entry)) (now (factor .entry)) [] (now (temperatures .entry)) (now (carried .entry)))) ⌝ }
 {
-    paper::packed_step(step::step(table, p, a, factor, &mut temperatures[..]))
+    paper::packed_step(step::step(table, p, a, factor, &mut temperatures[..], &mut carried[..]))
 }

@@ -1,5 +1,5 @@
-// The stepping program: reads a deck from standard input, builds, starts every node at D's start temperature, does D's steps
-// and prints the temperatures. A refusal prints `R number place` alone.
+// The stepping program: reads a deck from standard input, builds, starts every node at D's start temperature with nothing carried,
+// does D's steps and prints the temperatures. A refusal prints `R number place` alone.
 use libc::STDIN_FILENO;
 use libc::STDOUT_FILENO;
 use paper::Answer;
@@ -60,8 +60,15 @@ fn size(x: u32) -> usize {
 }
 
 // D's steps of a built model.
-fn stepped(table: &[u32], p: &[i64], a: &[i64], factor: &[i64], temperatures: &mut [i64]) {
-    match run::run(table, p, a, factor, &mut temperatures[..]) {
+fn stepped(
+    table: &[u32],
+    p: &[i64],
+    a: &[i64],
+    factor: &[i64],
+    temperatures: &mut [i64],
+    carried: &mut [i64],
+) {
+    match run::run(table, p, a, factor, &mut temperatures[..], &mut carried[..]) {
         Ran::Finished(steps) => printed(&temperatures[..], steps),
         Ran::Refused(why) => refused(why),
     }
@@ -73,6 +80,7 @@ fn ran(table: &[u32]) {
     let mut factor = [0i64; LONGEST];
     let mut work = [0i64; LONGEST];
     let mut temperatures = [0i64; NODES];
+    let mut carried = [0i64; NODES];
     let answer = model::build(table, &mut p, &mut a, &mut factor, &mut work);
     if let Answer::Refused(why) = answer {
         refused(why);
@@ -82,7 +90,14 @@ fn ran(table: &[u32]) {
     let first = start(table);
     whole::slices::fill(&mut temperatures, first.0 as i64);
     if n <= NODES {
-        stepped(table, &p, &a, &factor, &mut temperatures[0..n]);
+        stepped(
+            table,
+            &p,
+            &a,
+            &factor,
+            &mut temperatures[0..n],
+            &mut carried[0..n],
+        );
     }
 }
 

@@ -69,7 +69,7 @@ made (done x) e = (x, refl)
 -- ---- what is written over the slices, and read of them again
 
 abbrev laid : List ℕ → Slices → Lent → List ℤ → Lent
-laid new s z w = record { table = new; slices = closed s z; work = w; temperatures = z .temperatures }
+laid new s z w = record { table = new; slices = closed s z; work = w; temperatures = z .temperatures; carried = z .carried }
 
 opened-laid : (n : ℕ) (s : Slices) (z : Lent) → Sized (matrix n) s → opened n (closed s z) ≡ s
 unfolding opened closed

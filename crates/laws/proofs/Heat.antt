@@ -18,7 +18,7 @@ use Rattle.paper.specs.Corners.{share}
 use Rattle.paper.specs.Parts.{Part, heatShare, namedRow, partOf, partAt}
 use Rattle.paper.specs.Matrices.{addsLoad, heatOf, powers}
 use Rattle.paper.specs.declared.Kind.{Kind}
-use Rattle.paper.specs.declared.Kind.the-variants.{H}
+use Rattle.paper.specs.declared.Kind.the-variants.{D, N, M, E, «V», H, F, G, T, Z, Other}
 use Rattle.laws.proofs.Letters.{kind-of}
 use Rattle.laws.proofs.Tables.{row-field}
 use Rattle.laws.proofs.Decks.{In, kindIn, Deck}
@@ -48,6 +48,31 @@ unfolding share
 share-all m ns q inside =
     sum-swap m (length ns) (λ i a. cond (eqb (getD ns a 0) (suc i)) (q a) (pos 0))
     ∙ sum-ext (length ns) _ q (λ a l. column m (getD ns a 0) true (q a) (inside a l))
+
+-- ---- a card with no loads
+
+share-none : (ns : List ℕ) (q : ℕ → ℤ) (i : ℕ) → ((a : ℕ) → q a ≡ pos 0) → share ns q i ≡ pos 0
+unfolding share
+share-none ns q i h = sum-none (length ns) (λ a. cond (eqb (getD ns a 0) (suc i)) (q a) (pos 0)) (λ a l. one (eqb (getD ns a 0) (suc i)) a)
+  where
+    one : (b : Bool) (a : ℕ) → cond b (q a) (pos 0) ≡ pos 0
+    one true a = h a
+    one false a = refl
+
+-- THEOREM. H, F and G alone have loads.
+pub unloaded : (t card : List ℕ) (i : ℕ) (k : Kind) → (k ≡ H → ⊥) → (k ≡ F → ⊥) → (k ≡ G → ⊥) → addsLoad (partOf t card k) i ≡ pos 0
+unfolding addsLoad partOf
+unloaded t card i D h f g = share-none _ _ i (λ a. refl)
+unloaded t card i N h f g = share-none _ _ i (λ a. refl)
+unloaded t card i M h f g = share-none _ _ i (λ a. refl)
+unloaded t card i E h f g = share-none _ _ i (λ a. refl)
+unloaded t card i «V» h f g = share-none _ _ i (λ a. refl)
+unloaded t card i H h f g = absurd (h refl)
+unloaded t card i F h f g = absurd (f refl)
+unloaded t card i G h f g = absurd (g refl)
+unloaded t card i T h f g = share-none _ _ i (λ a. refl)
+unloaded t card i Z h f g = share-none _ _ i (λ a. refl)
+unloaded t card i Other h f g = share-none _ _ i (λ a. refl)
 
 -- ---- all cards
 

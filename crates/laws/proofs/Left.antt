@@ -16,9 +16,9 @@ use Rattle.paper.specs.Judge.{judged, newJudged}
 use Rattle.paper.specs.Building.{Slices, build}
 use Rattle.paper.specs.Lent.{roomy, opened, lentJudged}
 use Rattle.paper.specs.Replacing.{stirs, firstRow, redone, replaced}
-use Rattle.paper.specs.Step.{Settling}
+use Rattle.paper.specs.Step.{Settling, carriedOn}
 use Rattle.paper.specs.Calls.{whenDone, joined, textAt, writes, written, writeCall, lastCard, startOf, countsIn, cardAt, reads, readTable, readCall}
-use Rattle.paper.specs.Calls.{Lent, Exit, StepExit, over, long, closed, worked, inFactor, asLent, leaves, endsStep, buildCall, replaceCall, stepCall}
+use Rattle.paper.specs.Calls.{Lent, Exit, StepExit, over, long, closed, worked, inFactor, asLent, leaves, boardAt, endsStep, buildCall, replaceCall, stepCall}
 use Rattle.paper.specs.Replacements.{ready, on, present, Beyond}
 use Rattle.paper.specs.declared.Answer.{Answer}
 use Rattle.paper.specs.declared.Answer.the-variants.{Done, Refused}
@@ -79,13 +79,14 @@ work-zeroed z = take-at (replicate (long (z .table)) (pos 0)) (drop (length (rep
 
 leaves-beyond : (new : List ℕ) (b : Bool) (z : Lent) (o : Outcome Slices) → Ends (Sized (long (z .table))) o → Beyond z (leaves new b z o .lent)
 unfolding leaves closed
-leaves-beyond new b z (refused r) h = record { p = refl; a = refl; factor = refl; work = worked-beyond (b && inFactor r) z; temperatures = refl }
+leaves-beyond new b z (refused r) h = record { p = refl; a = refl; factor = refl; work = worked-beyond (b && inFactor r) z; temperatures = refl; carried = refl }
 leaves-beyond new b z (done s) h = record {
   p = drop-over (long (z .table)) (s .p) (z .slices .p) (h .longP);
   a = drop-over (long (z .table)) (s .a) (z .slices .a) (h .longA);
   factor = drop-over (long (z .table)) (s .factor) (z .slices .factor) (h .longF);
   work = worked-beyond b z;
   temperatures = refl;
+  carried = refl;
 }
 
 -- an outcome's end, by what it says of each
@@ -157,7 +158,7 @@ module _ (z : Lent) (card : ℕ) (new : List ℕ) where
       let (s, e) = accepted ok in
       let k = told s e in
       ap (λ (x : Exit). x .lent) (replace-is z card new ∙ ap (leaves (put t c new) (stirs t c) z) (e ∙ ap done (idle s k st)))
-      ∙ (λ i. record { table = put t c new; slices = closed-back s k i; work = worked (st i) z; temperatures = z .temperatures })
+      ∙ (λ i. record { table = put t c new; slices = closed-back s k i; work = worked (st i) z; temperatures = z .temperatures; carried = z .carried })
 
   module _ (six : length new ≡ 6) where
     first-fits : (s : Slices) → Told s → firstRow t c new ≤ nodes t
@@ -210,12 +211,16 @@ module _ (z : Lent) (card : ℕ) (new : List ℕ) where
 
 -- ---- a step
 
--- THEOREM. It writes the nodes' temperatures alone.
-pub step-same : (z : Lent) → stepCall z .lent ≡ record { table = z .table; slices = z .slices; work = z .work; temperatures = stepCall z .lent .temperatures }
+-- all but the temperatures and what is carried
+abbrev pub besides : Lent → Lent → Lent
+besides z x = record { table = z .table; slices = z .slices; work = z .work; temperatures = x .temperatures; carried = x .carried }
+
+-- THEOREM. It writes the nodes' temperatures and what they carry alone.
+pub step-same : (z : Lent) → stepCall z .lent ≡ besides z (stepCall z .lent)
 unfolding stepCall
 step-same z = go (stepOutcome z)
   where
-    go : (o : Outcome Settling) → endsStep z o .lent ≡ record { table = z .table; slices = z .slices; work = z .work; temperatures = endsStep z o .lent .temperatures }
+    go : (o : Outcome Settling) → endsStep z o .lent ≡ besides z (endsStep z o .lent)
     go (refused r) = refl
     go (done s) = refl
 
@@ -224,8 +229,15 @@ unfolding stepCall
 step-beyond z = go (stepOutcome z) refl
   where
     go : (o : Outcome Settling) → stepOutcome z ≡ o → Beyond z (endsStep z o .lent)
-    go (refused r) e = record { p = refl; a = refl; factor = refl; work = refl; temperatures = refl }
-    go (done s) e = record { p = refl; a = refl; factor = refl; work = refl; temperatures = drop-over (nodes (z .table)) (s .temperatures) (z .temperatures) (made-long z s (settled.made z s e)) }
+    go (refused r) e = record { p = refl; a = refl; factor = refl; work = refl; temperatures = refl; carried = refl }
+    go (done s) e = record {
+      p = refl;
+      a = refl;
+      factor = refl;
+      work = refl;
+      temperatures = drop-over (nodes (z .table)) (s .temperatures) (z .temperatures) (made-long z s (settled.made z s e));
+      carried = drop-over (nodes (z .table)) (carriedOn (boardAt z) (s .residuals)) (z .carried) (settled.carried-long z (s .residuals));
+    }
 
 -- ---- reading and writing
 

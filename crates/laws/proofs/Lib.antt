@@ -41,4 +41,7 @@ pub mod Demand3
 pub mod Settled
 pub mod Calls
 pub mod Left
+pub mod Carried
 pub mod Running
+pub mod Balance
+pub mod Book

@@ -41,18 +41,25 @@ module _ (n : ℕ) (z : Lent) where
 pub step-untouched : (z : Lent) → Untouched z (stepCall z .lent)
 step-untouched z =
     let e = step-same z in
-    record { table = ap (λ (x : Lent). x .table) e; slices = ap (λ (x : Lent). x .slices) e; work = ap (λ (x : Lent). x .work) e; beyond = step-beyond z .temperatures }
+    record {
+      table = ap (λ (x : Lent). x .table) e;
+      slices = ap (λ (x : Lent). x .slices) e;
+      work = ap (λ (x : Lent). x .work) e;
+      temperatures = step-beyond z .temperatures;
+      carried = step-beyond z .carried;
+    }
 
 both : (x y z : Lent) → Untouched x y → Untouched y z → Untouched x z
 both x y z h k = record {
   table = k .table ∙ h .table;
   slices = k .slices ∙ h .slices;
   work = k .work ∙ h .work;
-  beyond = subst (λ (t : _). drop (nodes t) (z .temperatures) ≡ drop (nodes t) (y .temperatures)) (h .table) (k .beyond) ∙ h .beyond;
+  temperatures = subst (λ (t : _). drop (nodes t) (z .temperatures) ≡ drop (nodes t) (y .temperatures)) (h .table) (k .temperatures) ∙ h .temperatures;
+  carried = subst (λ (t : _). drop (nodes t) (z .carried) ≡ drop (nodes t) (y .carried)) (h .table) (k .carried) ∙ h .carried;
 }
 
 none : (z : Lent) → Untouched z z
-none z = record { table = refl; slices = refl; work = refl; beyond = refl }
+none z = record { table = refl; slices = refl; work = refl; temperatures = refl; carried = refl }
 
 runs-untouched : (n : ℕ) (z : Lent) → Untouched z (runFrom n z .lent)
 unfolding runFrom
@@ -104,7 +111,7 @@ module _ (z : Lent) where
   unfolding runCall
   run-none r e = rw e
 
-  -- THEOREM. A run, accepted or refused, writes the nodes' temperatures alone.
+  -- THEOREM. A run, accepted or refused, writes the nodes' temperatures and what they carry alone.
   pub run-untouched : Untouched z (runCall z .lent)
   run-untouched = go (judged (z .table)) refl
     where
@@ -120,7 +127,7 @@ module _ (z : Lent) where
   unfolding stepCall
   no-step r e = rw e
 
-  -- THEOREM. A refused one leaves the temperatures of its last accepted step, and the step after it has that refusal.
+  -- THEOREM. A refused one leaves what its last accepted step left, and the step after it has that refusal.
   pub run-stopped : (r : Refusal) → runCall z .answer ≡ runAnswer.Refused r → Stopped n z r (runCall z .lent)
   unfolding runFrom
   run-stopped r ok = go (judged (z .table)) refl

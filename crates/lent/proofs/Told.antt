@@ -18,14 +18,14 @@ use Rattle.whole.proofs.Tests.{and-told, nor-told}
 use Rattle.paper.specs.Ticks.{onScale}
 use Rattle.paper.specs.Factor.{small}
 use Rattle.paper.specs.Building.{Slices}
-use Rattle.paper.specs.Lent.{rowSize, heavy, pivot, badRow, noFactor, foreign, roomy, enough, opened, lentJudged}
+use Rattle.paper.specs.Lent.{rowSize, heavy, pivot, badRow, noFactor, foreign, laden, roomy, enough, opened, lentJudged}
 use Rattle.paper.specs.Step.{offScale}
 use Rattle.paper.specs.declared.Answer.{Answer}
 use Rattle.paper.specs.declared.Answer.the-variants.{Done}
 use Rattle.paper.specs.declared.Refusal.the-variants.{Short, Foreign}
 use Rattle.laws.proofs.Outcomes.{cond-done, cond-rest}
 use Rattle.laws.proofs.Scale.{on-scale-size}
-use Rattle.lent.specs.Rows.{Rows, Light, Factored, Mild, Passed}
+use Rattle.lent.specs.Rows.{Rows, Light, Factored, Mild, Borne, Passed}
 
 -- ---- a matrix that is not heavy
 
@@ -103,6 +103,14 @@ passed n s rest few e =
       a-light = light (opened n s .a) n (cut n (s .a) few la) a;
       factored = factored (opened n s .factor) n (cut n (s .factor) few lf) f;
     }
+
+-- what refusal 10 lets n nodes carry
+pub borne : (n : ℕ) (c : List ℤ) → n ≤ length c → laden n c ≡ false → Borne (take n c) n
+unfolding laden
+borne n c h e = record {
+  long = length-take-le n c h;
+  each = λ j k. subst (λ (z : ℤ). natAbs z ≤ 2 ^ 33) (sym (getD-take n c j (pos 0) k)) (leb-true _ _ (not-false (small 33 (cell c j)) (any-each n (λ i. not (small 33 (cell c i))) e j k)));
+}
 
 -- temperatures on the scale
 pub mild : (n : ℕ) (t : List ℤ) → n ≤ length t → offScale n t ≡ 0 → Mild (take n t) n

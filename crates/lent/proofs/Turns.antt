@@ -23,7 +23,7 @@ use Rattle.whole.proofs.Sums.{sumN-more, sumN-mono, sumN-min, any-ext, any-none
 use Rattle.paper.specs.Ticks.{onScale}
 use Rattle.paper.specs.Factor.{small}
 use Rattle.paper.specs.Building.{Slices, slices}
-use Rattle.paper.specs.Lent.{rowSize, heavy, pivot, badRow, noFactor, foreign, enough, opened, lentJudged}
+use Rattle.paper.specs.Lent.{rowSize, heavy, pivot, badRow, noFactor, foreign, laden, enough, opened, lentJudged}
 use Rattle.paper.specs.declared.Answer.the-variants.{Done, Refused}
 use Rattle.paper.specs.declared.Refusal.the-variants.{Short, Foreign}
 use Rattle.lent.specs.Rows.{largest, capped, cappedTo}
@@ -90,14 +90,22 @@ largest-over m zero c = ap not (le-leb 0 c (omega arith))
 largest-over m (suc n) c = larger-over (largest n m) (natAbs (cell m n)) c ∙ ap (λ (b : Bool). b || not (leb (natAbs (cell m n)) c)) (largest-over m n c)
 
 -- the numbers of a part of a slice
-pub large-part : (l : List ℤ) (at n : ℕ) (xs : List ℤ) → xs ≡ take n (drop at l) → at + n ≤ length l → (most : ℕ) → most ≡ largest (length xs) xs
-    → ltb (2 ^ 24) most ≡ any n (λ k. not (small 24 (cell l (at + k))))
-large-part l at n xs e h most em =
+large-part : (w : ℕ) (l : List ℤ) (at n : ℕ) (xs : List ℤ) → xs ≡ take n (drop at l) → at + n ≤ length l → (most : ℕ) → most ≡ largest (length xs) xs
+    → ltb (2 ^ w) most ≡ any n (λ k. not (small w (cell l (at + k))))
+large-part w l at n xs e h most em =
     let long : length xs ≡ n = ap length e ∙ length-take-le n (drop at l) (omega (arith, length-drop at l)) in
-    above (2 ^ 24) most most (λ h. h) (λ h. h)
-    ∙ ap (λ (k : ℕ). not (leb k (2 ^ 24))) (em ∙ ap (λ (k : ℕ). largest k xs) long)
-    ∙ largest-over xs n (2 ^ 24)
-    ∙ any-ext n _ _ (λ k s. ap (λ (z : ℤ). not (small 24 z)) (ap (λ (ys : List ℤ). cell ys k) e ∙ getD-take n (drop at l) k (pos 0) s ∙ getD-drop at l k (pos 0)))
+    above (2 ^ w) most most (λ h. h) (λ h. h)
+    ∙ ap (λ (k : ℕ). not (leb k (2 ^ w))) (em ∙ ap (λ (k : ℕ). largest k xs) long)
+    ∙ largest-over xs n (2 ^ w)
+    ∙ any-ext n _ _ (λ k s. ap (λ (z : ℤ). not (small w z)) (ap (λ (ys : List ℤ). cell ys k) e ∙ getD-take n (drop at l) k (pos 0) s ∙ getD-drop at l k (pos 0)))
+
+-- the first n of what is carried
+pub laden-is : (carried : List ℤ) (n : ℕ) → n ≤ length carried → (most : ℕ) → (xs : List ℤ) → xs ≡ take (n - 0) carried → most ≡ largest (length xs) xs → ltb (2 ^ 33) most ≡ laden n carried
+unfolding laden
+laden-is carried n h most xs ex em =
+    let e : n - 0 ≡ n = omega arith in
+    large-part 33 carried 0 n xs (ex ∙ ap (λ (k : ℕ). take k carried) e) (omega arith) most em
+    ∙ any-ext n _ _ (λ k l. ap (λ (q : ℕ). not (small 33 (cell carried q))) (omega arith))
 
 sumN-same : (n c : ℕ) → sumN n (λ k. c) ≡ n * c
 unfolding sumN
@@ -137,7 +145,7 @@ module _ (l : List ℤ) (i at : ℕ) (ea : at ≡ tri i) (h : at + i ≤ length 
   large-is : ltb (2 ^ 24) most ≡ any i (λ j. not (small 24 (cell l (tri i + j))))
   large-is =
       let e : at + i - at ≡ i = omega arith in
-      large-part l at i xs (ex ∙ ap (λ (k : ℕ). take k (drop at l)) e) h most em ∙ ap (λ (s : ℕ). any i (λ j. not (small 24 (cell l (s + j))))) ea
+      large-part 24 l at i xs (ex ∙ ap (λ (k : ℕ). take k (drop at l)) e) h most em ∙ ap (λ (s : ℕ). any i (λ j. not (small 24 (cell l (s + j))))) ea
 
   pub row-large : 2 ^ 24 < most → ltb (2 ^ 24) most ≡ badRow l i
   unfolding badRow

@@ -49,6 +49,11 @@ pub record Mild (t : List ℤ) (n : ℕ) : Type 0 where
   pub long : length t ≡ n
   pub each : (j : ℕ) → j < n → natAbs (cell t j) ≤ 2 ^ 25
 
+-- what n nodes carry
+pub record Borne (c : List ℤ) (n : ℕ) : Type 0 where
+  pub long : length c ≡ n
+  pub each : (j : ℕ) → j < n → natAbs (cell c j) ≤ 2 ^ 33
+
 -- slices of any length that refusals 9 and 10 let pass, and that whatever else is lent is long enough
 pub record Passed (n : ℕ) (s : Slices) (rest : Bool) : Type 0 where
   pub p-long : matrix n ≤ length (s .p)

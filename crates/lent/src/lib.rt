@@ -9,7 +9,7 @@ ghost use Prim.Native.Nat.{_+_, _^_, _≤_, _<_, max};
 ghost use lib.Dec.{leb};
 ghost use lib.ListN.{length};
 ghost use Rattle.paper.specs.Building.{slices};
-ghost use Rattle.paper.specs.Lent.{rowSize, heavy, pivot, badRow, noFactor, foreign, enough, lentJudged};
+ghost use Rattle.paper.specs.Lent.{rowSize, heavy, pivot, badRow, noFactor, foreign, laden, enough, lentJudged};
 ghost use Rattle.paper.specs.Step.{offScale};
 ghost use Rattle.lent.specs.Rows.{InRow, Rows, largest, capped, cappedTo};
 
@@ -185,6 +185,14 @@ pub fn judge(p: &[i64], a: &[i64], factor: &[i64], rest: bool, n: usize) -> Answ
         return Answer::Refused(Refusal::Foreign);
     }
     Answer::Done
+}
+
+// Refusal 10's last test: whether a number that one of n nodes carries passes 2^33.
+pub fn laden(carried: &[i64], n: usize) -> bool
+    requires { ⌜ n ≤ length (now carried) ⌝ }
+    ensures { λ r. ⌜ r ≡ laden n (now (carried .entry)) ⌝ }
+{
+    8_589_934_592 < largest(&carried[0..n])
 }
 
 // Refusal 11: the lowest node off the scale, from 1, or 0.

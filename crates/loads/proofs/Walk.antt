@@ -6,11 +6,13 @@ use Prim.Native.Nat.{ℕ, suc, _+_, _*_, _/_, _%_, _-_, _^_, _≤_, _<_}
 use native.Mathlib.Nat.{mul-le-mul, div-le-self}
 use native.Mathlib.Omega.{arith}
 use lib.Dec.{eqb, ltb}
-use lib.IntN.{ℤ, pos, natAbs, _+ℤ_, +ℤ-idr}
+use lib.IntN.{ℤ, pos, natAbs, _+ℤ_, +ℤ-idl, +ℤ-idr}
 use lib.ListN.{length, getD}
 use Rattle.whole.specs.Sums.{sum, table}
 use Rattle.whole.specs.Packed.{cell}
-use Rattle.whole.proofs.Sums.{sum-size-each, sum-none, sum-more, sum-ext, table-at, table-ext, table-length}
+use Rattle.whole.proofs.Signs.{natAbs-plus}
+use Rattle.whole.proofs.Linear.{zarith, plusL}
+use Rattle.whole.proofs.Sums.{sum-size-each, sum-none, sum-more, sum-ext, table-at, table-ext, table-length, table-cells}
 use Rattle.paper.specs.Ticks.{top}
 use Rattle.paper.specs.Kinds.{about, kindOf, kindAt}
 use Rattle.paper.specs.Cards.{field, letter, rowAt, rows, nodes, materials, elements, elementRow, before, countsAt}
@@ -26,8 +28,10 @@ use Rattle.paper.specs.declared.Kind.the-variants.{D, N, M, E, «V», H, F, G, 
 use Rattle.laws.proofs.Decks.{In, kindIn, Deck}
 use Rattle.laws.proofs.Tables.{row-field}
 use Rattle.laws.proofs.Spans.{Inside, row-kind, few-corners, three-corners, part-corners, heat-in, film-in, film-flat, ambient-in, edge-ambient-in, names-F, in-loads}
+use Rattle.laws.proofs.Heat.{unloaded}
 use Rattle.laws.proofs.Edge.{g-small}
 use Rattle.laws.proofs.Weights.{S-size, face-size, named-on-sheet}
+use Rattle.lent.specs.Rows.{Borne}
 use Rattle.part.specs.Asks.{Card}
 use Rattle.part.proofs.Parts.{card-at}
 use Rattle.loads.specs.Asks.{AtRow, Room, Spread}
@@ -126,34 +130,16 @@ module _ {t : List ℕ} (d : Deck t) (row : ℕ) (l : row < rows t) where
 
 -- ---- rows that add nothing: those of no load
 
-share-none : (ns : List ℕ) (q : ℕ → ℤ) (i : ℕ) → ((a : ℕ) → q a ≡ pos 0) → share ns q i ≡ pos 0
-unfolding share
-share-none ns q i h = sum-none (length ns) (λ a. cond (eqb (getD ns a 0) (suc i)) (q a) (pos 0)) (λ a l. one (eqb (getD ns a 0) (suc i)) a)
-  where
-    one : (b : Bool) (a : ℕ) → cond b (q a) (pos 0) ≡ pos 0
-    one true a = h a
-    one false a = refl
-
 idle : (t card : List ℕ) (i : ℕ) (kind : Kind) → (about kind .section ≡ 4 → ⊥) → addsLoad (partOf t card kind) i ≡ pos 0
-unfolding addsLoad partOf about
-idle t card i D n = share-none _ _ i (λ a. refl)
-idle t card i N n = share-none _ _ i (λ a. refl)
-idle t card i M n = share-none _ _ i (λ a. refl)
-idle t card i E n = share-none _ _ i (λ a. refl)
-idle t card i «V» n = share-none _ _ i (λ a. refl)
-idle t card i H n = absurd (n refl)
-idle t card i F n = absurd (n refl)
-idle t card i G n = absurd (n refl)
-idle t card i T n = share-none _ _ i (λ a. refl)
-idle t card i Z n = share-none _ _ i (λ a. refl)
-idle t card i Other n = share-none _ _ i (λ a. refl)
+unfolding about
+idle t card i kind n = unloaded t card i kind (λ e. n (ap (λ (k : Kind). about k .section) e)) (λ e. n (ap (λ (k : Kind). about k .section) e)) (λ e. n (ap (λ (k : Kind). about k .section) e))
 
 -- what the rows before this one add
 abbrev pub upTo : List ℕ → ℕ → ℕ → ℤ
 upTo t row i = sum row (λ k. addsLoad (partAt t k) i)
 
 module _ {t : List ℕ} (d : Deck t) where
-  pub load-size : (i m : ℕ) → m ≤ rows t → natAbs (upTo t m i) ≤ 2 ^ 57
+  pub load-size : (i m : ℕ) → m ≤ rows t → natAbs (upTo t m i) ≤ 2 ^ 57 - 2 ^ 33
   load-size i m h =
       omega (arith, sum-size-each m (λ k. addsLoad (partAt t k) i) (3 * heaviest) (λ k l. adds-size d k (omega arith) i), d .few)
 
@@ -166,43 +152,61 @@ module _ {t : List ℕ} (d : Deck t) where
 
 -- ---- the walk
 
-pub record LoadInv (t : List ℕ) (r : List ℤ) (row : ℕ) : Type 0 where
-  pub inside : suc row ≤ rows t
-  pub so-far : r ≡ table (nodes t) (upTo t row)
+-- with what node i carries
+abbrev so : List ℕ → List ℤ → ℕ → ℕ → ℤ
+so t carried row i = upTo t row i +ℤ cell carried i
 
-module _ {t : List ℕ} (d : Deck t) where
-  pub load-start : (r : List ℤ) (m row : ℕ) → m ≡ nodes t → r ≡ table m (λ i. pos 0) → row ≡ nodes t + materials t + elements t + 1 → LoadInv t r row
-  load-start r m row em er ew = record {
+pub record LoadInv (t : List ℕ) (carried r : List ℤ) (row : ℕ) : Type 0 where
+  pub inside : suc row ≤ rows t
+  pub so-far : r ≡ table (nodes t) (so t carried row)
+
+-- a load that what is carried leaves room for
+pub carrying-size : (x c : ℤ) → natAbs x ≤ 2 ^ 57 - 2 ^ 33 → natAbs c ≤ 2 ^ 33 → natAbs (x +ℤ c) ≤ 2 ^ 57
+carrying-size x c h k = omega (arith, natAbs-plus x c)
+
+one-more : (x c y : ℤ) → x +ℤ c +ℤ y ≡ x +ℤ y +ℤ c
+one-more x c y = omega (zarith, plusL x c, plusL (x +ℤ c) y, plusL x y, plusL (x +ℤ y) c)
+
+module _ {t : List ℕ} {carried : List ℤ} (d : Deck t) (b : Borne carried (nodes t)) where
+  pub load-start : (r : List ℤ) (row : ℕ) → r ≡ carried → row ≡ nodes t + materials t + elements t + 1 → LoadInv t carried r row
+  load-start r row er ew = record {
     inside = omega (arith, d .all);
-    so-far = er ∙ ap (λ (k : ℕ). table k (λ i. pos 0)) em ∙ table-ext (nodes t) (λ i. pos 0) (upTo t row) (λ i h. sym (ap (λ (k : ℕ). upTo t k i) ew ∙ none-before d i));
+    so-far = er ∙ sym (table-cells carried (nodes t) (b .long))
+        ∙ table-ext (nodes t) (cell carried) (so t carried row) (λ i h. sym (ap (λ (z : ℤ). z +ℤ cell carried i) (ap (λ (k : ℕ). upTo t k i) ew ∙ none-before d i) ∙ +ℤ-idl (cell carried i)));
   }
 
-  module _ {r : List ℤ} {row : ℕ} (w : LoadInv t r row) where
+  module _ {r : List ℤ} {row : ℕ} (w : LoadInv t carried r row) where
     pub load-long : length r ≡ nodes t
-    load-long = ap length (w .so-far) ∙ table-length (nodes t) (upTo t row)
+    load-long = ap length (w .so-far) ∙ table-length (nodes t) (so t carried row)
+
+    load-at : (i : ℕ) → i < nodes t → cell r i ≡ so t carried row i
+    load-at i l = ap (λ (x : List ℤ). cell x i) (w .so-far) ∙ table-at (nodes t) i (so t carried row) l
 
     pub load-room : suc row < rows t → Room t r row
     load-room h = record {
       here = record { each = record { deck = d; long = load-long }; inside = h };
-      small = λ i l. subst (λ (z : ℤ). natAbs z ≤ 2 ^ 57) (sym (ap (λ (x : List ℤ). cell x i) (w .so-far) ∙ table-at (nodes t) i (upTo t row) l)) (load-size d i row (omega (arith, w .inside)));
+      small = λ i l. subst (λ (z : ℤ). natAbs z ≤ 2 ^ 57) (sym (load-at i l)) (carrying-size (upTo t row i) (cell carried i) (load-size d i row (omega (arith, w .inside))) (b .each i l));
     }
 
-    pub load-next : suc row < rows t → {s : List ℤ} → s ≡ table (nodes t) (λ i. cell r i +ℤ addsLoad (partAt t row) i) → LoadInv t s (row + 1)
+    pub load-next : suc row < rows t → {s : List ℤ} → s ≡ table (nodes t) (λ i. cell r i +ℤ addsLoad (partAt t row) i) → LoadInv t carried s (row + 1)
     load-next h {s} e = record {
       inside = omega arith;
-      so-far = e ∙ table-ext (nodes t) _ (upTo t (row + 1)) (λ i l. ap (λ (z : ℤ). z +ℤ addsLoad (partAt t row) i) (ap (λ (x : List ℤ). cell x i) (w .so-far) ∙ table-at (nodes t) i (upTo t row) l) ∙ sym (sum-more row (λ k. addsLoad (partAt t k) i)));
+      so-far = e ∙ table-ext (nodes t) _ (so t carried (row + 1)) (λ i l.
+          ap (λ (z : ℤ). z +ℤ addsLoad (partAt t row) i) (load-at i l)
+          ∙ one-more (upTo t row i) (cell carried i) (addsLoad (partAt t row) i)
+          ∙ ap (λ (z : ℤ). z +ℤ cell carried i) (sym (sum-more row (λ k. addsLoad (partAt t k) i))));
     }
 
     -- Z, the last row, adds nothing
-    pub load-end : rows t ≤ suc row → r ≡ table (nodes t) (loadOf t)
+    pub load-end : rows t ≤ suc row → r ≡ table (nodes t) (λ i. loadOf t i +ℤ cell carried i)
     unfolding loadOf
     load-end h =
         let e : row + 1 ≡ rows t = omega (arith, w .inside) in
         w .so-far
-        ∙ table-ext (nodes t) (upTo t row) _ (λ i l.
-        sym (ap (λ (z : ℤ). upTo t row i +ℤ z) (outside d i row (omega (arith, w .inside)) (λ (a, b). omega arith)) ∙ +ℤ-idr (upTo t row i))
+        ∙ table-ext (nodes t) (so t carried row) _ (λ i l. ap (λ (z : ℤ). z +ℤ cell carried i)
+        (sym (ap (λ (z : ℤ). upTo t row i +ℤ z) (outside d i row (omega (arith, w .inside)) (λ (a, b). omega arith)) ∙ +ℤ-idr (upTo t row i))
         ∙ sym (sum-more row (λ k. addsLoad (partAt t k) i))
-        ∙ ap (λ (k : ℕ). upTo t k i) e)
+        ∙ ap (λ (k : ℕ). upTo t k i) e))
 
 -- ---- one card
 

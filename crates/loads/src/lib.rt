@@ -1,4 +1,4 @@
-// What the cards of a judged deck say of each node: its loads, and the temperature that it is held at.
+// What the cards of a judged deck say of each node: its loads, to which it carries one more, and the temperature that it is held at.
 use paper::Kind;
 use paper::Node;
 use paper::Ticks;
@@ -15,6 +15,7 @@ ghost use Rattle.paper.specs.Corners.{share};
 ghost use Rattle.paper.specs.Parts.{partAt};
 ghost use Rattle.paper.specs.Matrices.{addsLoad, loadOf, fixes, held};
 ghost use Rattle.laws.proofs.Decks.{Deck};
+ghost use Rattle.lent.specs.Rows.{Borne};
 ghost use Rattle.part.specs.Forms.{cornersOf};
 ghost use Rattle.part.specs.Asks.{Full};
 ghost use Rattle.loads.specs.Asks.{Each, AtRow, Room, Corner, plusAt, Spread};
@@ -64,12 +65,12 @@ fn add_card(table: &[u32], r: &mut [i64], row: usize)
     spread(&mut r[..], corners, shares);
 }
 
-// The loads of each node, in place of whatever r held. Z adds none.
-pub fn loads(table: &[u32], r: &mut [i64])
-    requires { ⌜ Each (now table) (now r) ⌝ }
-    ensures { λ _. ⌜ now (r .exit) ≡ list (nodes (now (table .entry))) (loadOf (now (table .entry))) ⌝ }
+// The loads of each node and what it carries, in place of whatever r held. Z adds none.
+pub fn loads(table: &[u32], carried: &[i64], r: &mut [i64])
+    requires { ⌜ Each (now table) (now r) × Borne (now carried) (nodes (now table)) ⌝ }
+    ensures { λ _. ⌜ now (r .exit) ≡ list (nodes (now (table .entry))) (λ i. loadOf (now (table .entry)) i +ℤ cell (now (carried .entry)) i) ⌝ }
 {
-    whole::slices::fill(&mut r[..], 0);
+    whole::slices::copy(carried, &mut r[..]);
     let mut row = first_row(table);
     let end = table.len() / 6 - 1;
     while row < end {

@@ -44,7 +44,7 @@ stirring t row new h f e = sym (stirs-new t row new h) ∙ sym (f t new) ∙ e
 
 module _ (t : List ℕ) (p a f w : List ℤ) (card : ℕ) (new : List ℕ) where
   abbrev z : Lent
-  z = lent t p a f w []
+  z = lent t p a f w [] []
 
   abbrev row : ℕ
   row = card - 1
@@ -72,7 +72,7 @@ module _ (t : List ℕ) (p a f w : List ℤ) (card : ℕ) (new : List ℕ) where
         ∙ sym (replace-is z card new)
 
     -- the card alone
-    pub replace-alone : stirs t row ≡ false → left Done (lent t′ p a f w []) ≡ replaceCall z card new
+    pub replace-alone : stirs t row ≡ false → left Done (lent t′ p a f w [] []) ≡ replaceCall z card new
     unfolding replaced
     replace-alone st =
         alone t p a f w t′ (h .for-p) (h .for-a) (h .for-f)
@@ -117,7 +117,7 @@ module _ (t : List ℕ) (p a f w : List ℤ) (card : ℕ) (new : List ℕ) where
       module _ {r : Answer} {t″ : List ℕ} {p′ a′ f′ w′ : List ℤ} (g : Renewed r t t″ (slices (take (k - 0) p) (take (k - 0) a) (take (k - 0) f)) (slices p′ a′ f′) w′ row new)
           (lp : length p′ ≡ length (take (k - 0) p)) (la : length a′ ≡ length (take (k - 0) a)) (lf : length f′ ≡ length (take (k - 0) f)) where
         abbrev Ended : Type 0
-        Ended = left r (lent t″ (p′ ++ drop (k - 0) p) (a′ ++ drop (k - 0) a) (f′ ++ drop (k - 0) f) (w′ ++ drop (k - 0) w) []) ≡ replaceCall z card new
+        Ended = left r (lent t″ (p′ ++ drop (k - 0) p) (a′ ++ drop (k - 0) a) (f′ ++ drop (k - 0) f) (w′ ++ drop (k - 0) w) [] []) ≡ replaceCall z card new
 
         zeroed : w′ ++ drop (k - 0) w ≡ over (replicate (long t) (pos 0)) w
         zeroed = ap (λ (v : List ℤ). v ++ drop (k - 0) w) (g .work) ∙ zeros-over (long t) k w ek
@@ -137,8 +137,8 @@ module _ (t : List ℕ) (p a f w : List ℤ) (card : ℕ) (new : List ℕ) where
                 let ans : r ≡ Refused v = g .answer ∙ ap answerOf is in
                 let same-t : t″ ≡ t = g .table ∙ ap (λ (o : Outcome Slices). tableOf o t′ t) is in
                 let same : slices p′ a′ f′ ≡ slices (take (k - 0) p) (take (k - 0) a) (take (k - 0) f) = g .left ∙ ap (λ (o : Outcome Slices). made o (slices (take (k - 0) p) (take (k - 0) a) (take (k - 0) f))) is in
-                (λ i. left (ans i) (lent (same-t i) (same i .p ++ drop (k - 0) p) (same i .a ++ drop (k - 0) a) (same i .factor ++ drop (k - 0) f) (w′ ++ drop (k - 0) w) []))
-                ∙ (λ i. left (Refused v) (lent t (whole-again k p i) (whole-again k a i) (whole-again k f i) (w′ ++ drop (k - 0) w) []))
+                (λ i. left (ans i) (lent (same-t i) (same i .p ++ drop (k - 0) p) (same i .a ++ drop (k - 0) a) (same i .factor ++ drop (k - 0) f) (w′ ++ drop (k - 0) w) [] []))
+                ∙ (λ i. left (Refused v) (lent t (whole-again k p i) (whole-again k a i) (whole-again k f i) (w′ ++ drop (k - 0) w) [] []))
                 ∙ stopped t p a f w t′ v (w′ ++ drop (k - 0) w) inside zeroed
                 ∙ ap (λ (y : Bool). leaves t′ y z (refused v)) (sym st)
                 ∙ ends (own-is ∙ is)
@@ -146,7 +146,7 @@ module _ (t : List ℕ) (p a f w : List ℤ) (card : ℕ) (new : List ℕ) where
                 let ans : r ≡ Done = g .answer ∙ ap answerOf is in
                 let new-t : t″ ≡ t′ = g .table ∙ ap (λ (o : Outcome Slices). tableOf o t′ t) is in
                 let same : slices p′ a′ f′ ≡ s = g .left ∙ ap (λ (o : Outcome Slices). made o (slices (take (k - 0) p) (take (k - 0) a) (take (k - 0) f))) is in
-                (λ i. left (ans i) (lent (new-t i) (p′ ++ drop (k - 0) p) (a′ ++ drop (k - 0) a) (f′ ++ drop (k - 0) f) (w′ ++ drop (k - 0) w) []))
+                (λ i. left (ans i) (lent (new-t i) (p′ ++ drop (k - 0) p) (a′ ++ drop (k - 0) a) (f′ ++ drop (k - 0) f) (w′ ++ drop (k - 0) w) [] []))
                 ∙ accepted t p a f w t′ (slices p′ a′ f′) (p′ ++ drop (k - 0) p) (a′ ++ drop (k - 0) a) (f′ ++ drop (k - 0) f) (w′ ++ drop (k - 0) w) (long-as p′ p (h .for-p) lp) (long-as a′ a (h .for-a) la) (long-as f′ f (h .for-f) lf) zeroed
                 ∙ ap (λ (y : Bool). leaves t′ y z (done (slices p′ a′ f′))) (sym st)
                 ∙ ends (own-is ∙ is ∙ ap (λ (s : Slices). done s) (sym same))

@@ -11,7 +11,7 @@ pub fn build(
     factor: &mut [i64],
     work: &mut [i64],
 ) -> Answer
-    ensures { λ r. ⌜ left r (lent (now (table .entry)) (now (p .exit)) (now (a .exit)) (now (factor .exit)) (now (work .exit)) []) ≡ buildCall (lent (now (table .entry)) (now (p .entry)) (now (a .entry)) (now (factor .entry)) (now (work .entry)) []) ⌝ }
+    ensures { λ r. ⌜ left r (lent (now (table .entry)) (now (p .exit)) (now (a .exit)) (now (factor .exit)) (now (work .exit)) [] []) ≡ buildCall (lent (now (table .entry)) (now (p .entry)) (now (a .entry)) (now (factor .entry)) (now (work .entry)) [] []) ⌝ }
 {
     fresh::build(
         table,
@@ -34,7 +34,7 @@ pub fn replace(
     card: u32,
     new: [u32; 6],
 ) -> Answer
-    ensures { λ r. ⌜ left r (lent (now (table .exit)) (now (p .exit)) (now (a .exit)) (now (factor .exit)) (now (work .exit)) []) ≡ replaceCall (lent (now (table .entry)) (now (p .entry)) (now (a .entry)) (now (factor .entry)) (now (work .entry)) []) card new ⌝ }
+    ensures { λ r. ⌜ left r (lent (now (table .exit)) (now (p .exit)) (now (a .exit)) (now (factor .exit)) (now (work .exit)) [] []) ≡ replaceCall (lent (now (table .entry)) (now (p .entry)) (now (a .entry)) (now (factor .entry)) (now (work .entry)) [] []) card new ⌝ }
 {
     if let Answer::Refused(r) = admit::judge(
         &table[..],

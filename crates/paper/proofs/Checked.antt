@@ -23,8 +23,8 @@ use Rattle.paper.specs.Matrices.{addsP, addsA, addsLoad, P, A, loadOf, f
 use Rattle.paper.specs.Factor.{w, l, rowFrom, rowsFrom}
 use Rattle.paper.specs.Building.{elementsFrom, build, Slices}
 use Rattle.paper.specs.Replacing.{formOf, moved, redone, replaced}
-use Rattle.paper.specs.Lent.{rowSize, heavy, badRow, noFactor, foreign, enough, opened, lentJudged}
-use Rattle.paper.specs.Step.{boardOf, rightSide, residual, residuals, rowBound, yAt, forwardFrom, xAt, backFrom, warmed, addFrom, correct, unsettled, attempts, stepped, offScale}
+use Rattle.paper.specs.Lent.{rowSize, heavy, badRow, noFactor, foreign, laden, enough, opened, lentJudged}
+use Rattle.paper.specs.Step.{boardOf, rightSide, residual, residuals, rowBound, yAt, forwardFrom, xAt, backFrom, warmed, addFrom, correct, unsettled, attempts, stepped, carriedOn, offScale}
 use Rattle.paper.specs.Calls.{closed, leaves, buildCall, replaceCall, stepCall, Lent, lent, Exit}
 use Rattle.paper.specs.declared.Answer.{Answer}
 use Rattle.paper.specs.declared.Answer.the-variants.{Done, Refused}
@@ -85,9 +85,9 @@ g edge = pos (partAt (rimmed edge) 6 .film)
 abbrev warmed′ : ℕ → List ℕ
 warmed′ µW = deck 1000 right 1000 2400 (element 3 1 2 1000) (letterOf H ∷ 1 ∷ µW ∷ 0 ∷ 0 ∷ 0 ∷ []) 1
 
--- lent with a deck: slices of seven numbers, one past the matrix length, each 77; temperatures, one past the nodes
+-- lent with a deck: slices of seven numbers, one past the matrix length, each 77; temperatures and zeros carried, one past the nodes
 abbrev on : List ℕ → Lent
-on t = let xs = replicate 7 (pos 77) in lent t xs xs xs xs (replicate 3 (pos 19660800) ++ pos 77 ∷ [])
+on t = let xs = replicate 7 (pos 77) in lent t xs xs xs xs (replicate 3 (pos 19660800) ++ pos 77 ∷ []) (replicate 3 (pos 0) ++ pos 99 ∷ [])
 
 abbrev pub built : List ℕ → Exit
 built t = buildCall (on t)
@@ -100,15 +100,19 @@ seen x f = say (x .answer)
     say Done = f (x .lent .slices)
     say (Refused r) = pos (numberOf r) ∷ pos (placeOf r) ∷ []
 
--- a step after a build: the packed answer, and the temperatures with one past them
+-- a step: the packed answer, the temperatures and what is carried, each with one past the nodes
+abbrev pub afterStep : Lent → List ℤ
+afterStep z = let x = stepCall z in pos (packed (toldStep (x .answer))) ∷ x .lent .temperatures ++ x .lent .carried
+
+-- after a build
 abbrev stepOn : List ℕ → List ℤ
-stepOn t = let x = stepCall (built t .lent) in pos (packed (toldStep (x .answer))) ∷ x .lent .temperatures
+stepOn t = afterStep (built t .lent)
 
 -- each node's residual after that step, and its row bound
 abbrev residualsOn : List ℕ → List ℤ
 residualsOn t =
     let s = built t .lent .slices in
-    let board = boardOf t (s .p) (s .a) (replicate 3 (pos 19660800)) in
+    let board = boardOf t (s .p) (s .a) (replicate 3 (pos 19660800)) (replicate 3 (pos 0)) in
     residuals board (stepCall (built t .lent) .lent .temperatures) ++ table 3 (λ i. pos (rowBound (s .a) (board .fixed) 3 i))
 
 abbrev a : Slices → List ℤ
@@ -141,8 +145,8 @@ cases =
     ∷ case 4 (seen (built (deck 1000 right 1000 2400 (element 1 3 2 1000) [] 0)) a) (seen (built base) a)
     ∷ case 5 (seen (built base) factor) (numbers (6000 ∷ 349525 ∷ 4833 ∷ 349525 ∷ 397691 ∷ 4138 ∷ 77 ∷ []))
     ∷ case 6 (stepOn heated ++ residualsOn heated)
-    (numbers (256 ∷ 19660807 ∷ 19660807 ∷ 19660807 ∷ 77 ∷ []) ++ negsuc 4463 ∷ negsuc 4463 ∷ negsuc 4463 ∷ numbers (10000 ∷ 10000 ∷ 10000 ∷ []))
-    ∷ case 7 (stepOn base) (numbers (256 ∷ 19660800 ∷ 19660800 ∷ 19660800 ∷ 77 ∷ []))
+    (numbers (256 ∷ 19660807 ∷ 19660807 ∷ 19660807 ∷ 77 ∷ []) ++ replicate 3 (negsuc 4463) ++ pos 99 ∷ replicate 3 (negsuc 4463) ++ numbers (10000 ∷ 10000 ∷ 10000 ∷ []))
+    ∷ case 7 (stepOn base) (numbers (256 ∷ 19660800 ∷ 19660800 ∷ 19660800 ∷ 77 ∷ 0 ∷ 0 ∷ 0 ∷ 99 ∷ []))
     ∷ case 8 (seen (built (deck 60000 right 1000 1 (element 1 2 3 1000) [] 0)) a) (numbers (7 ∷ 3 ∷ []))
     ∷ case 9 (seen (built (deck 1000 (node 0 0 ++ node 100 0 ++ node 101 1) 10000 1 (element 1 2 3 1000) [] 0)) a) (numbers (8 ∷ 2 ∷ []))
     ∷ case 10 (pos (elementAt (deck 1 right 1000 960 (element 1 2 3 4000) [] 0) 5 .stored) ∷ seen (built (deck 1 right 1000 961 (element 1 2 3 4000) [] 0)) a)
@@ -155,7 +159,7 @@ cases =
     ∷ case 14 (let s = built (rimmed (rim 1 2 1800 1000)) .lent .slices in s .a ++ s .p)
     (numbers (6004 ∷ 2002 ∷ 5504 ∷ 2000 ∷ 2500 ∷ 5500 ∷ 77 ∷ 5000 ∷ 2500 ∷ 5000 ∷ 2500 ∷ 2500 ∷ 5000 ∷ 77 ∷ []))
     ∷ case 15 (table 3 (loadOf (rimmed (rim 1 2 1800 1000)))) (numbers (117964800 ∷ 117964800 ∷ 0 ∷ []))
-    ∷ case 16 (stepOn (rimmed (rim 1 2 1800 1000))) (numbers (256 ∷ 19660800 ∷ 19660800 ∷ 19660800 ∷ 77 ∷ []))
+    ∷ case 16 (stepOn (rimmed (rim 1 2 1800 1000))) (numbers (256 ∷ 19660800 ∷ 19660800 ∷ 19660800 ∷ 77 ∷ 0 ∷ 0 ∷ 0 ∷ 99 ∷ []))
     ∷ case 17 (seen (replaceCall (built (rimmed (rim 2 3 1 1)) .lent) 7 (rim 2 3 100000 4000)) a)
     (numbers (6000 ∷ 2000 ∷ 6442 ∷ 2000 ∷ 2971 ∷ 6442 ∷ 77 ∷ []))
     ∷ case 18 (far 2 ∷ far 3 ∷ []) (numbers (19304 ∷ 0 ∷ []))
@@ -165,7 +169,7 @@ cases =
     ∷ []
 
 run : same (same eqZ) (map (λ (k : Case). k .got) cases) (map (λ (k : Case). k .want) cases) ≡ true
-unfolding cases same eqZ nearestN nearest sum sumN any firstFrom table tri place lower toldStep packed about kindOf before columns used zeros inRange agree ranked field nodes materials elements put stands clean rises ordered full nameAt formed ranged judgeOne asks judgeCard judgeFrom trailer judgeRows judged answers newJudged square mass spread share shapeOf spaceOf area b c S pair u faceFilm climb length² reaches edgeFilm bodyOf flatOf elementOf fair formJudged elementJudged heatShare partOf least addsP addsA addsLoad P A loadOf fixed held cleared w l rowFrom rowsFrom elementsFrom build formOf moved redone replaced rowSize heavy badRow noFactor foreign enough opened lentJudged boardOf rightSide residual residuals rowBound yAt forwardFrom xAt backFrom warmed addFrom correct unsettled attempts stepped offScale closed leaves buildCall replaceCall stepCall
+unfolding cases same eqZ nearestN nearest sum sumN any firstFrom table tri place lower toldStep packed about kindOf before columns used zeros inRange agree ranked field nodes materials elements put stands clean rises ordered full nameAt formed ranged judgeOne asks judgeCard judgeFrom trailer judgeRows judged answers newJudged square mass spread share shapeOf spaceOf area b c S pair u faceFilm climb length² reaches edgeFilm bodyOf flatOf elementOf fair formJudged elementJudged heatShare partOf least addsP addsA addsLoad P A loadOf fixed held cleared w l rowFrom rowsFrom elementsFrom build formOf moved redone replaced rowSize heavy badRow noFactor foreign laden enough opened lentJudged boardOf rightSide residual residuals rowBound yAt forwardFrom xAt backFrom warmed addFrom correct unsettled attempts stepped carriedOn offScale closed leaves buildCall replaceCall stepCall
 run = refl
 
 pub all-checked : map (λ (k : Case). k .got) cases ≡ map (λ (k : Case). k .want) cases

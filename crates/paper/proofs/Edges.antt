@@ -2,9 +2,9 @@
 use mathlib.Core.Path.{_≡_, refl}
 use mathlib.Core.Bool.{Bool, true, false, cond}
 use mathlib.Core.List.{List, [], _∷_, _++_, map}
-use Prim.Native.Nat.{ℕ, _+_, _^_}
+use Prim.Native.Nat.{ℕ, _+_, _-_, _^_}
 use lib.Dec.{eqb, ltb}
-use lib.IntN.{pos, natAbs}
+use lib.IntN.{pos, negsuc, natAbs}
 use Rattle.whole.specs.Nearest.{nearestN, nearest}
 use Rattle.whole.specs.Sums.{sum, sumN, any, firstFrom, table}
 use Rattle.whole.specs.Packed.{tri, place, lower}
@@ -15,7 +15,7 @@ use Rattle.paper.specs.Corners.{square, mass, spread, share, shapeOf, ar
 use Rattle.paper.specs.Triangle.{b, c, S, pair, u}
 use Rattle.paper.specs.Elements.{bodyOf, flatOf, elementOf, fair, formJudged, elementJudged, elementAt}
 use Rattle.paper.specs.Factor.{w, l, rowFrom, rowsFrom}
-use Rattle.paper.specs.Lent.{rowSize, heavy, badRow, noFactor}
+use Rattle.paper.specs.Lent.{rowSize, heavy, badRow, noFactor, laden}
 use Rattle.paper.specs.Refusals.{Outcome, refused, done, numberOf}
 use Rattle.paper.specs.declared.Answer.{Answer}
 use Rattle.paper.specs.declared.Answer.the-variants.{Done, Refused}
@@ -96,10 +96,12 @@ edges =
     ∷ edge (foreign (noFactor 1 (pos 16 ∷ []))) (foreign (noFactor 1 (pos 15 ∷ []))) 10
     ∷ edge (foreign (noFactor 1 (pos (2 ^ 38) ∷ []))) (foreign (noFactor 1 (pos (2 ^ 38 + 1) ∷ []))) 10
     ∷ edge (foreign (noFactor 2 (pos 16 ∷ pos (2 ^ 24) ∷ pos 16 ∷ []))) (foreign (noFactor 2 (pos 16 ∷ pos (2 ^ 24 + 1) ∷ pos 16 ∷ []))) 10
+    ∷ edge (foreign (laden 1 (pos (2 ^ 33) ∷ []))) (foreign (laden 1 (pos (2 ^ 33 + 1) ∷ []))) 10
+    ∷ edge (foreign (laden 2 (pos 0 ∷ negsuc (2 ^ 33 - 1) ∷ []))) (foreign (laden 2 (pos 0 ∷ negsuc (2 ^ 33) ∷ []))) 10
     ∷ []
 
 run : same (same eqb) (map (λ (e : Edge). e .passes ∷ e .fails ∷ []) edges) (map (λ (e : Edge). 0 ∷ e .number ∷ []) edges) ≡ true
-unfolding edges same about kindOf before columns used zeros inRange ranked stands clean rises ordered full formed ranged judgeOne asks judgeCard judgeFrom trailer judgeRows judged nearestN nearest sum sumN any firstFrom table tri place lower field nodes materials elements square mass spread share shapeOf area b c S pair u bodyOf flatOf elementOf fair formJudged elementJudged w l rowFrom rowsFrom rowSize heavy badRow noFactor
+unfolding edges same about kindOf before columns used zeros inRange ranked stands clean rises ordered full formed ranged judgeOne asks judgeCard judgeFrom trailer judgeRows judged nearestN nearest sum sumN any firstFrom table tri place lower field nodes materials elements square mass spread share shapeOf area b c S pair u bodyOf flatOf elementOf fair formJudged elementJudged w l rowFrom rowsFrom rowSize heavy badRow noFactor laden
 run = refl
 
 pub at-the-edges : map (λ (e : Edge). e .passes ∷ e .fails ∷ []) edges ≡ map (λ (e : Edge). 0 ∷ e .number ∷ []) edges

@@ -1,6 +1,7 @@
 -- Figures of the definitions: what each gives of decks that are written out.
 pub mod Cases
 pub mod Checked
+pub mod Carried
 pub mod Built
 pub mod Texts
 pub mod Edges

@@ -21,7 +21,7 @@ use Rattle.paper.specs.Matrices.{addsP, addsA, P, A, fixed, cleared}
 use Rattle.paper.specs.Factor.{w, l, rowFrom, rowsFrom}
 use Rattle.paper.specs.Building.{elementsFrom, build}
 use Rattle.paper.specs.Replacing.{formOf, moved, redone, replaced}
-use Rattle.paper.specs.Lent.{rowSize, heavy, badRow, noFactor, foreign, enough, opened, lentJudged}
+use Rattle.paper.specs.Lent.{rowSize, heavy, badRow, noFactor, foreign, laden, enough, opened, lentJudged}
 use Rattle.paper.specs.Step.{offScale}
 use Rattle.paper.specs.Calls.{closed, leaves, buildCall, replaceCall, stepCall, Lent, lent}
 use Rattle.paper.specs.declared.Answer.{Answer}
@@ -41,17 +41,17 @@ abbrev saysStep : Stepped → List ℕ
 saysStep answer = shown (toldStep answer)
 
 -- with a deck, each slice so many numbers, each z
-abbrev all : ℕ → ℤ → List ℕ → List ℤ → Lent
-all n z t temperatures = let xs = replicate n z in lent t xs xs xs xs temperatures
+abbrev all : ℕ → ℤ → List ℕ → List ℤ → List ℤ → Lent
+all n z t temperatures carried = let xs = replicate n z in lent t xs xs xs xs temperatures carried
 
 abbrev builds : List ℕ → ℕ → List ℕ
-builds t n = says (buildCall (all n (pos 0) t []) .answer)
+builds t n = says (buildCall (all n (pos 0) t [] []) .answer)
 
 abbrev replaces : List ℕ → ℕ → ℕ → List ℕ → List ℕ
-replaces t n card new = says (replaceCall (all n (pos 0) t []) card new .answer)
+replaces t n card new = says (replaceCall (all n (pos 0) t [] []) card new .answer)
 
-abbrev steps : List ℕ → ℕ → ℕ → List ℤ → List ℕ
-steps t n x temperatures = saysStep (stepCall (all n (pos x) t temperatures) .answer)
+abbrev steps : List ℕ → ℕ → ℕ → List ℤ → List ℤ → List ℕ
+steps t n x temperatures carried = saysStep (stepCall (all n (pos x) t temperatures carried) .answer)
 
 -- the factor of one entry
 abbrev factors : ℤ → List ℕ
@@ -155,14 +155,16 @@ cases =
     ∷ both (replaces heated 5 7 (heat 1 4 0)) 9 0
     ∷ both (replaces (two stiff stiff) 6 6 (element 1 2 3 4000)) 10 0
     -- a step: the deck, 9, 10, 11
-    ∷ both (steps (wide 0) 0 0 []) 4 2
-    ∷ both (steps base 6 0 (replicate 2 (pos 0))) 9 0
-    ∷ both (steps base 6 0 (replicate 3 (pos 33554433))) 10 0
-    ∷ both (steps base 6 16 (pos 0 ∷ pos 33554433 ∷ pos 33554433 ∷ [])) 11 2
+    ∷ both (steps (wide 0) 0 0 [] []) 4 2
+    ∷ both (steps base 6 0 (replicate 2 (pos 0)) (replicate 3 (pos 0))) 9 0
+    ∷ both (steps base 6 0 (replicate 3 (pos 0)) (replicate 2 (pos (2 ^ 34)))) 9 0
+    ∷ both (steps base 6 0 (replicate 3 (pos 33554433)) (replicate 3 (pos 0))) 10 0
+    ∷ both (steps base 6 16 (replicate 3 (pos 33554433)) (pos 0 ∷ pos 0 ∷ pos (2 ^ 34) ∷ [])) 10 0
+    ∷ both (steps base 6 16 (pos 0 ∷ pos 33554433 ∷ pos 33554433 ∷ []) (pos 0 ∷ pos 0 ∷ pos 0 ∷ pos (2 ^ 34) ∷ [])) 11 2
     ∷ []
 
 run : same (same eqb) (map (λ (x : Both). x .got) cases) (map (λ (x : Both). x .want) cases) ≡ true
-unfolding cases same nearestN nearest sum sumN any firstFrom table tri place lower told toldStep about kindOf before columns used zeros inRange agree ranked field nodes materials elements put stands clean rises ordered full nameAt formed ranged judgeOne asks judgeCard judgeFrom trailer judgeRows judged answers newJudged square mass spread share shapeOf area b c S pair u faceFilm bodyOf flatOf elementOf fair formJudged elementJudged partOf least addsP addsA P A fixed cleared w l rowFrom rowsFrom elementsFrom build formOf moved redone replaced rowSize heavy badRow noFactor foreign enough opened lentJudged offScale closed leaves buildCall replaceCall stepCall
+unfolding cases same nearestN nearest sum sumN any firstFrom table tri place lower told toldStep about kindOf before columns used zeros inRange agree ranked field nodes materials elements put stands clean rises ordered full nameAt formed ranged judgeOne asks judgeCard judgeFrom trailer judgeRows judged answers newJudged square mass spread share shapeOf area b c S pair u faceFilm bodyOf flatOf elementOf fair formJudged elementJudged partOf least addsP addsA P A fixed cleared w l rowFrom rowsFrom elementsFrom build formOf moved redone replaced rowSize heavy badRow noFactor foreign laden enough opened lentJudged offScale closed leaves buildCall replaceCall stepCall
 run = refl
 
 pub in-order : map (λ (x : Both). x .got) cases ≡ map (λ (x : Both). x .want) cases

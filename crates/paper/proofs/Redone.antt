@@ -52,7 +52,7 @@ stack =
 
 -- slices of the longer matrix length and one more
 abbrev built : List ℕ → Exit
-built t = let xs = replicate 16 (pos 77) in buildCall (lent t xs xs xs xs [])
+built t = let xs = replicate 16 (pos 77) in buildCall (lent t xs xs xs xs [] [])
 
 -- an exit as numbers: number and place, the deck, P, A, the factor
 abbrev seen : Exit → List ℤ

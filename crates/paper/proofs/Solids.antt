@@ -74,7 +74,7 @@ block = counted 1000 cube (material 1200 2400 4800 2400) (tetra 1 2 3 4 1) ((let
 abbrev made : List ℕ → List ℤ
 made t =
     let xs = replicate 11 (pos 77) in
-    let s = buildCall (lent t xs xs xs xs []) .lent .slices in
+    let s = buildCall (lent t xs xs xs xs [] []) .lent .slices in
     s .a ++ s .p ++ table 4 (loadOf t)
 
 pub record Case : Type 0 where

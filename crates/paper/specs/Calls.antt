@@ -1,5 +1,5 @@
 -- What each public call answers and leaves, of any bytes, any table and any lent slices. Whatever is not named is only read.
-use mathlib.Core.Bool.{Bool, true, false, cond, _&&_, _||_}
+use mathlib.Core.Bool.{Bool, true, false, not, cond, _&&_, _||_}
 use mathlib.Core.List.{List, [], _++_}
 use Prim.Native.Nat.{ℕ, zero, suc, _+_, _-_, _*_}
 use lib.Dec.{ltb, leb, eqb}
@@ -12,13 +12,13 @@ use Rattle.paper.specs.Judge.{judgeFrom, judged, trailer, newJudged}
 use Rattle.paper.specs.Building.{Slices, build}
 use Rattle.whole.specs.Packed.{matrix}
 use Rattle.paper.specs.Replacing.{stirs, replaced}
-use Rattle.paper.specs.Lent.{roomy, enough, opened, lentJudged}
-use Rattle.paper.specs.Step.{Board, Settling, boardOf, stepped, offScale}
+use Rattle.paper.specs.Lent.{laden, roomy, enough, opened, lentJudged}
+use Rattle.paper.specs.Step.{Board, Settling, boardOf, stepped, carriedOn, offScale}
 use Rattle.paper.specs.declared.Counts.{Counts}
 use Rattle.paper.specs.declared.Answer.{Answer}
 use Rattle.paper.specs.declared.Answer.the-variants.{Done, Refused}
 use Rattle.paper.specs.declared.Refusal.{Refusal}
-use Rattle.paper.specs.declared.Refusal.the-variants.{Length, Trailer, Short, OffScale}
+use Rattle.paper.specs.declared.Refusal.the-variants.{Length, Trailer, Short, Foreign, OffScale}
 use Rattle.paper.specs.declared.Stepped.{Stepped}
 use Rattle.paper.specs.declared.Stepped.the-variants as stepAnswer
 
@@ -127,10 +127,16 @@ pub record Lent : Type 0 where
   pub slices : Slices
   pub work : List ℤ
   pub temperatures : List ℤ
+  pub carried : List ℤ
 
-abbrev pub lent : List ℕ → List ℤ → List ℤ → List ℤ → List ℤ → List ℤ → Lent
-lent table p a factor work temperatures =
-    record { table = table; slices = record { p = p; a = a; factor = factor }; work = work; temperatures = temperatures }
+abbrev pub lent : List ℕ → List ℤ → List ℤ → List ℤ → List ℤ → List ℤ → List ℤ → Lent
+lent table p a factor work temperatures carried = record {
+  table = table;
+  slices = record { p = p; a = a; factor = factor };
+  work = work;
+  temperatures = temperatures;
+  carried = carried;
+}
 
 -- what a call answers and leaves
 pub record Exit : Type 0 where
@@ -167,7 +173,13 @@ inFactor r = eqb (numberOf r) 7 || eqb (numberOf r) 8
 
 -- after a refusal: as it was lent, but for the work slice
 abbrev pub asLent : Bool → Refusal → Lent → Lent
-asLent works r z = record { table = z .table; slices = z .slices; work = worked (works && inFactor r) z; temperatures = z .temperatures }
+asLent works r z = record {
+  table = z .table;
+  slices = z .slices;
+  work = worked (works && inFactor r) z;
+  temperatures = z .temperatures;
+  carried = z .carried;
+}
 
 -- works: whether the call has use for the work slice; new: the table on acceptance
 unfoldable pub leaves : List ℕ → Bool → Lent → Outcome Slices → Exit
@@ -178,6 +190,7 @@ leaves new works z (done s) = record {
     slices = closed s z;
     work = worked works z;
     temperatures = z .temperatures;
+    carried = z .carried;
   };
 }
 leaves new works z (refused r) = record { answer = Refused r; lent = asLent works r z }
@@ -200,6 +213,13 @@ replaceCall z card new =
     (after (lentJudged n (z .slices) (roomy n (z .work)))
     (replaced t (opened n (z .slices)) (card - 1) new))))
 
+-- what a step of lent slices works from
+abbrev pub boardAt : Lent → Board
+boardAt z =
+    let n = nodes (z .table) in
+    let s = opened n (z .slices) in
+    boardOf (z .table) (s .p) (s .a) (take n (z .temperatures)) (take n (z .carried))
+
 abbrev pub endsStep : Lent → Outcome Settling → StepExit
 endsStep z (done s) = record {
   answer = stepAnswer.Settled (s .corrections);
@@ -208,25 +228,20 @@ endsStep z (done s) = record {
     slices = z .slices;
     work = z .work;
     temperatures = over (s .temperatures) (z .temperatures);
+    carried = over (carriedOn (boardAt z) (s .residuals)) (z .carried);
   };
 }
 endsStep z (refused r) = record { answer = stepAnswer.Refused r; lent = z }
-
--- what a step of lent slices works from
-abbrev pub boardAt : Lent → Board
-boardAt z =
-    let n = nodes (z .table) in
-    let s = opened n (z .slices) in
-    boardOf (z .table) (s .p) (s .a) (take n (z .temperatures))
 
 unfoldable pub stepCall : Lent → StepExit
 stepCall z =
     let n = nodes (z .table) in
     endsStep z
     (after (judged (z .table))
-    (after (lentJudged n (z .slices) (leb n (length (z .temperatures))))
+    (after (lentJudged n (z .slices) (leb n (length (z .temperatures)) && leb n (length (z .carried))))
+    (when (not (laden n (z .carried))) Foreign
     (unlessAt (offScale n (z .temperatures)) OffScale
-    (stepped (boardAt z) (opened n (z .slices) .factor)))))
+    (stepped (boardAt z) (opened n (z .slices) .factor))))))
 
 -- ---- as C has them: the answer as one number, and what is left
 

@@ -35,6 +35,10 @@ noFactor n xs = any n (badRow xs)
 unfoldable pub foreign : ℕ → Slices → Bool
 foreign n s = heavy n (s .p) || heavy n (s .a) || noFactor n (s .factor)
 
+-- what nodes carry: a number above 2^33 in magnitude
+unfoldable pub laden : ℕ → List ℤ → Bool
+laden n carried = any n (λ i. not (small 33 (cell carried i)))
+
 -- ---- slices lent for n nodes, of any length
 
 abbrev pub roomy : ℕ → List ℤ → Bool

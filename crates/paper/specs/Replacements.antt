@@ -19,7 +19,7 @@ ready z = let n = nodes (z .table) in enough n (z .slices) && roomy n (z .work)
 
 -- the same slices, with another deck
 abbrev pub on : List ℕ → Lent → Lent
-on t z = record { table = t; slices = z .slices; work = z .work; temperatures = z .temperatures }
+on t z = record { table = t; slices = z .slices; work = z .work; temperatures = z .temperatures; carried = z .carried }
 
 -- P, A and the factor, as far as the matrix length
 abbrev pub present : Lent → Slices
@@ -31,13 +31,14 @@ pub record Holds (z : Lent) : Type 0 where
   pub room : ready z ≡ true
   pub built : build (z .table) ≡ done (present z)
 
--- past the matrix length, and past the nodes' temperatures, all is as it was
+-- past the matrix length, and past the nodes' temperatures and what they carry, all is as it was
 pub record Beyond (z z′ : Lent) : Type 0 where
   pub p : drop (long (z .table)) (z′ .slices .p) ≡ drop (long (z .table)) (z .slices .p)
   pub a : drop (long (z .table)) (z′ .slices .a) ≡ drop (long (z .table)) (z .slices .a)
   pub factor : drop (long (z .table)) (z′ .slices .factor) ≡ drop (long (z .table)) (z .slices .factor)
   pub work : drop (long (z .table)) (z′ .work) ≡ drop (long (z .table)) (z .work)
   pub temperatures : drop (nodes (z .table)) (z′ .temperatures) ≡ drop (nodes (z .table)) (z .temperatures)
+  pub carried : drop (nodes (z .table)) (z′ .carried) ≡ drop (nodes (z .table)) (z .carried)
 
 -- ---- any list of them
 

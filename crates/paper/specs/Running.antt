@@ -54,12 +54,13 @@ runCall z = ends (onward (record { answer = judged (z .table); lent = z }) (runF
 
 -- ---- what a step and a run leave
 
--- all is as it was but the nodes' temperatures
+-- all is as it was but the nodes' temperatures and what they carry
 pub record Untouched (z z′ : Lent) : Type 0 where
   pub table : z′ .table ≡ z .table
   pub slices : z′ .slices ≡ z .slices
   pub work : z′ .work ≡ z .work
-  pub beyond : drop (nodes (z .table)) (z′ .temperatures) ≡ drop (nodes (z .table)) (z .temperatures)
+  pub temperatures : drop (nodes (z .table)) (z′ .temperatures) ≡ drop (nodes (z .table)) (z .temperatures)
+  pub carried : drop (nodes (z .table)) (z′ .carried) ≡ drop (nodes (z .table)) (z .carried)
 
 -- a run that a refusal ended: what is left is that of the accepted steps, and the next one is refused
 pub record Stopped (most : ℕ) (z : Lent) (r : Refusal) (rest : Lent) : Type 0 where

@@ -16,7 +16,8 @@ use Rattle.paper.specs.Matrices.{loadOf, held, cleared}
 use Rattle.paper.specs.Factor.{R, small}
 use Rattle.paper.specs.declared.Refusal.the-variants.{Bound, OffScale, Unsettled}
 
--- what a step works from: n nodes, P, A, the loads, the T cards' temperatures (-1: none) and the old temperatures
+-- what a step works from: n nodes, P, A, the loads, the T cards' temperatures (-1: none) and the old temperatures. What a node
+-- carries is one more load of it: a fixed node's right side has no loads, and so not this either
 pub record Board : Type 0 where
   pub n : ℕ
   pub p : List ℤ
@@ -25,9 +26,15 @@ pub record Board : Type 0 where
   pub fixed : List ℤ
   pub old : List ℤ
 
-unfoldable pub boardOf : List ℕ → List ℤ → List ℤ → List ℤ → Board
-boardOf t p a old =
-    record { n = nodes t; p = p; a = a; loads = table (nodes t) (loadOf t); fixed = table (nodes t) (held t); old = old }
+unfoldable pub boardOf : List ℕ → List ℤ → List ℤ → List ℤ → List ℤ → Board
+boardOf t p a old carried = record {
+  n = nodes t;
+  p = p;
+  a = a;
+  loads = table (nodes t) (λ i. loadOf t i +ℤ cell carried i);
+  fixed = table (nodes t) (held t);
+  old = old;
+}
 
 abbrev pub isFixed : List ℤ → ℕ → Bool
 isFixed f i = leZ (pos 0) (cell f i)
@@ -91,13 +98,14 @@ correct l n t r = then (forwardFrom l n 0 r) (λ y. then (backFrom l n n y) (λ 
 unfoldable pub unsettled : Board → List ℤ → ℕ
 unsettled b r = firstFrom (b .n) 0 (λ i. not (leb (natAbs (cell r i)) (rowBound (b .a) (b .fixed) (b .n) i)))
 
--- what a step makes: the count of corrections and the temperatures
+-- what a step makes: the count of corrections, the temperatures, and their residuals, which were tested
 pub record Settling : Type 0 where
   pub corrections : ℕ
   pub temperatures : List ℤ
+  pub residuals : List ℤ
 
-abbrev pub settled : ℕ → List ℤ → Outcome Settling
-settled c t = done (record { corrections = c; temperatures = t })
+abbrev pub settled : ℕ → List ℤ → List ℤ → Outcome Settling
+settled c t r = done (record { corrections = c; temperatures = t; residuals = r })
 
 -- settled where no row is left, or else what a row calls for
 abbrev pub unless : ℕ → Outcome Settling → (ℕ → Outcome Settling) → Outcome Settling
@@ -107,13 +115,17 @@ unless (suc row) o again = again (suc row)
 -- corrections from t, whose residuals are r: this one is number c, and k more may follow
 unfoldable pub attempts : Board → List ℤ → ℕ → ℕ → List ℤ → List ℤ → Outcome Settling
 attempts b l zero c t r =
-    then (correct l (b .n) t r) (λ u. unless (unsettled b (residuals b u)) (settled c u) (λ row. refused (Unsettled row)))
+    then (correct l (b .n) t r) (λ u. unless (unsettled b (residuals b u)) (settled c u (residuals b u)) (λ row. refused (Unsettled row)))
 attempts b l (suc k) c t r =
-    then (correct l (b .n) t r) (λ u. unless (unsettled b (residuals b u)) (settled c u) (λ row. attempts b l k (suc c) u (residuals b u)))
+    then (correct l (b .n) t r) (λ u. unless (unsettled b (residuals b u)) (settled c u (residuals b u)) (λ row. attempts b l k (suc c) u (residuals b u)))
 
 -- up to four corrections, at least one, from the old temperatures
 unfoldable pub stepped : Board → List ℤ → Outcome Settling
 stepped b l = attempts b l 3 1 (b .old) (residuals b (b .old))
+
+-- what each node carries to the next step: its residual, 0 where it is fixed
+unfoldable pub carriedOn : Board → List ℤ → List ℤ
+carriedOn b r = table (b .n) (λ i. cond (isFixed (b .fixed) i) (pos 0) (cell r i))
 
 -- the lowest node whose temperature is off the scale, from 1; 0 where there is none
 unfoldable pub offScale : ℕ → List ℤ → ℕ

@@ -55,14 +55,14 @@ read-beyond = leaves.read-beyond
 pub write-beyond : (table bytes : List ℕ) → drop (rows table * 42) (writeCall table bytes .bytes) ≡ drop (rows table * 42) bytes
 write-beyond = leaves.write-beyond
 
--- no number past the matrix length is written, no temperature past the nodes'
+-- no number past the matrix length is written, no temperature and no carried number past the nodes'
 pub build-beyond : (z : Lent) → Beyond z (buildCall z .lent)
 build-beyond = leaves.build-beyond
 
 pub replace-beyond : (z : Lent) (card : ℕ) (new : List ℕ) → length new ≡ 6 → Beyond z (replaceCall z card new .lent)
 replace-beyond = leaves.replace-beyond
 
--- a step and a run write the nodes' temperatures alone
+-- a step and a run write the nodes' temperatures and what they carry alone
 pub step-untouched : (z : Lent) → Untouched z (stepCall z .lent)
 step-untouched = runs.step-untouched
 

@@ -9,3 +9,4 @@ pub mod Replacing
 pub mod Leaving
 pub mod Heat
 pub mod Step
+pub mod Book

@@ -6,9 +6,14 @@ use mathlib.Core.List.{[], _∷_, map}
 use Rattle.paper.proofs.Checked.{Case, cases, all-checked}
 use Rattle.paper.proofs.Edges.{Edge, edges, at-the-edges}
 use Rattle.paper.proofs.Orders as orders
+use Rattle.paper.proofs.Carried as carried
 
 pub checked-numbers : map (λ (k : Case). k .got) cases ≡ map (λ (k : Case). k .want) cases
 checked-numbers = all-checked
+
+-- what a step carries on, and the book of three steps
+pub carried-numbers : map (λ (k : carried.Case). k .got) carried.cases ≡ map (λ (k : carried.Case). k .want) carried.cases
+carried-numbers = carried.all-checked
 
 -- the last value passes, and the next is refused by its number
 pub limits : map (λ (e : Edge). e .passes ∷ e .fails ∷ []) edges ≡ map (λ (e : Edge). 0 ∷ e .number ∷ []) edges

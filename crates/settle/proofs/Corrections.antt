@@ -21,22 +21,22 @@ use Rattle.settle.proofs.Boards.{forth}
 -- ---- one correction of k + 1
 
 last : Board → ℕ → List ℤ → Outcome Settling
-last b c u = unless (unsettled b (residuals b u)) (settled c u) (λ row. refused (Unsettled row))
+last b c u = unless (unsettled b (residuals b u)) (settled c u (residuals b u)) (λ row. refused (Unsettled row))
 
 more : Board → List ℤ → ℕ → ℕ → List ℤ → Outcome Settling
-more b l k c u = unless (unsettled b (residuals b u)) (settled c u) (λ row. attempts b l k (suc c) u (residuals b u))
+more b l k c u = unless (unsettled b (residuals b u)) (settled c u (residuals b u)) (λ row. attempts b l k (suc c) u (residuals b u))
 
 refused-is : (b : Board) (l : List ℤ) (k c : ℕ) (t r : List ℤ) (why : Refusal) → correct l (b .n) t r ≡ refused why → attempts b l k c t r ≡ refused why
 unfolding attempts last more
 refused-is b l zero c t r why e = ap (λ (o : Outcome (List ℤ)). then o (last b c)) e
 refused-is b l (suc k) c t r why e = ap (λ (o : Outcome (List ℤ)). then o (more b l k c)) e
 
-settled-is : (b : Board) (l : List ℤ) (k c : ℕ) (t r u : List ℤ) → correct l (b .n) t r ≡ done u → unsettled b (residuals b u) ≡ 0 → attempts b l k c t r ≡ settled c u
+settled-is : (b : Board) (l : List ℤ) (k c : ℕ) (t r u : List ℤ) → correct l (b .n) t r ≡ done u → unsettled b (residuals b u) ≡ 0 → attempts b l k c t r ≡ settled c u (residuals b u)
 unfolding attempts last more
 settled-is b l zero c t r u e z =
-    ap (λ (o : Outcome (List ℤ)). then o (last b c)) e ∙ ap (λ (q : ℕ). unless q (settled c u) (λ row. refused (Unsettled row))) z
+    ap (λ (o : Outcome (List ℤ)). then o (last b c)) e ∙ ap (λ (q : ℕ). unless q (settled c u (residuals b u)) (λ row. refused (Unsettled row))) z
 settled-is b l (suc k) c t r u e z =
-    ap (λ (o : Outcome (List ℤ)). then o (more b l k c)) e ∙ ap (λ (q : ℕ). unless q (settled c u) (λ row. attempts b l k (suc c) u (residuals b u))) z
+    ap (λ (o : Outcome (List ℤ)). then o (more b l k c)) e ∙ ap (λ (q : ℕ). unless q (settled c u (residuals b u)) (λ row. attempts b l k (suc c) u (residuals b u))) z
 
 unless-row : (row : ℕ) (o : Outcome Settling) (again : ℕ → Outcome Settling) → (row ≡ 0 → ⊥) → unless row o again ≡ again row
 unless-row zero o again h = absurd (h refl)
@@ -46,15 +46,15 @@ last-is : (b : Board) (l : List ℤ) (c : ℕ) (t r u : List ℤ) → correct l 
 unfolding attempts last
 last-is b l c t r u e row w h =
     ap (λ (o : Outcome (List ℤ)). then o (last b c)) e
-    ∙ ap (λ (q : ℕ). unless q (settled c u) (λ row. refused (Unsettled row))) (sym w)
-    ∙ unless-row row (settled c u) (λ row. refused (Unsettled row)) h
+    ∙ ap (λ (q : ℕ). unless q (settled c u (residuals b u)) (λ row. refused (Unsettled row))) (sym w)
+    ∙ unless-row row (settled c u (residuals b u)) (λ row. refused (Unsettled row)) h
 
 again-is : (b : Board) (l : List ℤ) (k c : ℕ) (t r u : List ℤ) → correct l (b .n) t r ≡ done u → (row : ℕ) → row ≡ unsettled b (residuals b u) → (row ≡ 0 → ⊥) → attempts b l (suc k) c t r ≡ attempts b l k (suc c) u (residuals b u)
 unfolding attempts more
 again-is b l k c t r u e row w h =
     ap (λ (o : Outcome (List ℤ)). then o (more b l k c)) e
-    ∙ ap (λ (q : ℕ). unless q (settled c u) (λ row. attempts b l k (suc c) u (residuals b u))) (sym w)
-    ∙ unless-row row (settled c u) (λ row. attempts b l k (suc c) u (residuals b u)) h
+    ∙ ap (λ (q : ℕ). unless q (settled c u (residuals b u)) (λ row. attempts b l k (suc c) u (residuals b u))) (sym w)
+    ∙ unless-row row (settled c u (residuals b u)) (λ row. attempts b l k (suc c) u (residuals b u)) h
 
 -- ---- the loop
 
@@ -76,8 +76,8 @@ module _ {b : Board} {l t₀ t r : List ℤ} {c : ℕ} (v : LoopInv b l t₀ t r
     out-is : correct l (b .n) t r ≡ outOf w u
     out-is = ap (λ (m : ℕ). correct l m t r) (sym en) ∙ sym (p .out)
 
-    pub loop-refused : (why : Refusal) → w ≡ answer.Refused why → (s : List ℤ) → ended (Refused why) s ≡ attempts b l 3 1 t₀ (residuals b t₀)
-    loop-refused why e s = sym (v .rest ∙ refused-is b l (4 - c) c t r why (out-is ∙ ap (λ (x : Answer). outOf x u) e))
+    pub loop-refused : (why : Refusal) → w ≡ answer.Refused why → (x y : List ℤ) → ended (Refused why) x y ≡ attempts b l 3 1 t₀ (residuals b t₀)
+    loop-refused why e x y = sym (v .rest ∙ refused-is b l (4 - c) c t r why (out-is ∙ ap (λ (x : Answer). outOf x u) e))
 
     module _ (e : w ≡ answer.Done) where
       done-is : correct l (b .n) t r ≡ done u
@@ -87,10 +87,10 @@ module _ {b : Board} {l t₀ t r : List ℤ} {c : ℕ} (v : LoopInv b l t₀ t r
       loop-mild = p .ok e
 
       module _ (row : ℕ) (s : List ℤ) (j : Weighed row b u s) where
-        pub loop-settled : row ≡ 0 → ended (Settled c) u ≡ attempts b l 3 1 t₀ (residuals b t₀)
-        loop-settled z = sym (v .rest ∙ settled-is b l (4 - c) c t r u done-is (sym (j .unsettled-is) ∙ z))
+        pub loop-settled : row ≡ 0 → ended (Settled c) u s ≡ attempts b l 3 1 t₀ (residuals b t₀)
+        loop-settled z = ap (settled c u) (j .residuals-are) ∙ sym (v .rest ∙ settled-is b l (4 - c) c t r u done-is (sym (j .unsettled-is) ∙ z))
 
-        pub loop-last : (row ≡ 0 → ⊥) → c ≡ 4 → ended (Refused (Unsettled row)) u ≡ attempts b l 3 1 t₀ (residuals b t₀)
+        pub loop-last : (row ≡ 0 → ⊥) → c ≡ 4 → ended (Refused (Unsettled row)) u s ≡ attempts b l 3 1 t₀ (residuals b t₀)
         loop-last h z =
             let k : 4 - c ≡ 0 = omega arith in
             sym (v .rest ∙ ap (λ (k : ℕ). attempts b l k c t r) k ∙ last-is b l c t r u done-is row (j .unsettled-is) h)

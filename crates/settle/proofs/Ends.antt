@@ -1,27 +1,40 @@
--- How the corrections end, and what that leaves in place of the old temperatures.
+-- How the corrections end, and what that leaves in place of the old temperatures and of what was carried.
 use mathlib.Core.Path.{_≡_, sym, ap, _∙_}
+use mathlib.Core.Bool.{cond}
 use mathlib.Core.List.{List}
 use Prim.Native.Nat.{ℕ}
-use lib.IntN.{ℤ}
+use lib.IntN.{ℤ, pos}
+use lib.ListN.{length}
+use Rattle.whole.specs.Sums.{table}
+use Rattle.whole.specs.Packed.{cell}
 use Rattle.paper.specs.Refusals.{Outcome}
-use Rattle.paper.specs.Step.{boardOf, residuals, Settling, attempts, stepped}
+use Rattle.paper.specs.Cards.{nodes}
+use Rattle.paper.specs.Matrices.{held}
+use Rattle.paper.specs.Step.{boardOf, isFixed, residuals, Settling, attempts, stepped, carriedOn}
 use Rattle.paper.specs.declared.Refusal.{Refusal}
 use Rattle.paper.specs.declared.Stepped.{Stepped}
 use Rattle.paper.specs.declared.Stepped.the-variants.{Settled, Refused}
-use Rattle.settle.specs.Asks.{ended, answerOf, leftOf, Exits}
+use Rattle.settle.specs.Asks.{Trying, ended, ending, endsAs, stepsTo}
 
-module _ (e : Stepped) (u : List ℤ) {old : List ℤ} {o : Outcome Settling} (q : ended e u ≡ o) where
-  pub exits-refused : (why : Refusal) → e ≡ Refused why → Exits e old old o
-  exits-refused why h =
-      let s = sym (ap (λ (x : Stepped). ended x u) h) ∙ q in
-      record { answer-is = h ∙ ap answerOf s; left-is = ap (leftOf old) s }
+module _ (t : List ℕ) (p a l old carried : List ℤ) where
+  -- from the old temperatures
+  from-old : (u : List ℤ) → u ≡ old → attempts (boardOf t p a old carried) l 3 1 u (residuals (boardOf t p a old carried) u) ≡ stepped (boardOf t p a old carried) l
+  unfolding stepped boardOf
+  from-old u e = ap (λ (x : List ℤ). attempts (boardOf t p a old carried) l 3 1 x (residuals (boardOf t p a old carried) x)) e
 
-  pub exits-settled : (c : ℕ) → e ≡ Settled c → {new : List ℤ} → new ≡ u → Exits (Settled c) new old o
-  exits-settled c h n =
-      let s = sym (ap (λ (x : Stepped). ended x u) h) ∙ q in
-      record { answer-is = ap answerOf s; left-is = n ∙ ap (leftOf old) s }
+  module _ (u : List ℤ) (eu : u ≡ old) (e : Stepped) (v r : List ℤ) (q : ended e v r ≡ attempts (boardOf t p a old carried) l 3 1 u (residuals (boardOf t p a old carried) u)) where
+    all : {x : Stepped} → e ≡ x → ended x v r ≡ stepped (boardOf t p a old carried) l
+    all h = sym (ap (λ (x : Stepped). ended x v r) h) ∙ q ∙ from-old u eu
 
--- from the old temperatures
-pub from-old : (t : List ℕ) (p a l old u : List ℤ) → u ≡ old → attempts (boardOf t p a old) l 3 1 u (residuals (boardOf t p a old) u) ≡ stepped (boardOf t p a old) l
-unfolding stepped boardOf
-from-old t p a l old u e = ap (λ (x : List ℤ). attempts (boardOf t p a old) l 3 1 x (residuals (boardOf t p a old) x)) e
+    pub ends-refused : (why : Refusal) → e ≡ Refused why → ending e old carried ≡ stepsTo t p a l old carried
+    unfolding boardOf
+    ends-refused why h = ap (λ (x : Stepped). ending x old carried) h ∙ ap (endsAs (boardOf t p a old carried) carried) (all h)
+
+    pub ends-settled : {fixed w s : List ℤ} {n : ℕ} → Trying t p a fixed old carried w s n → length r ≡ n → (c : ℕ) → e ≡ Settled c → {new on : List ℤ} → new ≡ v
+        → on ≡ table (length r) (λ i. cond (isFixed fixed i) (pos 0) (cell r i))
+        → ending (Settled c) new on ≡ stepsTo t p a l old carried
+    unfolding boardOf carriedOn
+    ends-settled {fixed} k long c h en eo =
+        (λ i. ending (Settled c) (en i) (eo i))
+        ∙ (λ i. ending (Settled c) v (table ((long ∙ k .ready .count) i) (λ j. cond (isFixed (k .fixed-is i) j) (pos 0) (cell r j))))
+        ∙ ap (endsAs (boardOf t p a old carried) carried) (all h)

@@ -8,41 +8,46 @@ use Rattle.whole.specs.Sums.{table}
 use Rattle.paper.specs.Refusals.{Outcome, refused, done}
 use Rattle.paper.specs.Cards.{nodes}
 use Rattle.paper.specs.Matrices.{held}
-use Rattle.paper.specs.Step.{Settling, settled}
+use Rattle.paper.specs.Step.{Board, boardOf, Settling, settled, stepped, carriedOn}
 use Rattle.paper.specs.declared.Stepped.{Stepped}
 use Rattle.paper.specs.declared.Stepped.the-variants.{Settled, Refused}
 use Rattle.laws.proofs.Decks.{Deck}
-use Rattle.lent.specs.Rows.{Light, Mild}
+use Rattle.lent.specs.Rows.{Light, Mild, Borne}
 
 -- past refusal 11: what the residuals are of
-pub record Ready (t : List ℕ) (p a old : List ℤ) (n : ℕ) : Type 0 where
+pub record Ready (t : List ℕ) (p a old carried : List ℤ) (n : ℕ) : Type 0 where
   pub deck : Deck t
   pub count : n ≡ nodes t
   pub p-light : Light p n
   pub a-light : Light a n
   pub old-mild : Mild old n
+  pub borne : Borne carried n
 
 -- with the T cards' temperatures looked up, the temperatures u so far, and room for residuals
-pub record Trying (t : List ℕ) (p a fixed old u r : List ℤ) (n : ℕ) : Type 0 where
-  pub ready : Ready t p a old n
+pub record Trying (t : List ℕ) (p a fixed old carried u r : List ℤ) (n : ℕ) : Type 0 where
+  pub ready : Ready t p a old carried n
   pub fixed-is : fixed ≡ table (nodes t) (held t)
   pub u-mild : Mild u n
   pub r-long : length r ≡ n
 
--- an answer with the temperatures that are left where it is no refusal
-abbrev pub ended : Stepped → List ℤ → Outcome Settling
-ended (Settled c) t = settled c t
-ended (Refused r) t = refused r
+-- an answer with the temperatures and their residuals that are left where it is no refusal
+abbrev pub ended : Stepped → List ℤ → List ℤ → Outcome Settling
+ended (Settled c) t r = settled c t r
+ended (Refused q) t r = refused q
 
--- the answer of an outcome, and the temperatures that it leaves in place of the old ones
-abbrev pub answerOf : Outcome Settling → Stepped
-answerOf (done s) = Settled (s .corrections)
-answerOf (refused r) = Refused r
+-- an answer, and what is left in place of the old temperatures and of what was carried
+pub record Ending : Type 0 where
+  pub answer : Stepped
+  pub temperatures : List ℤ
+  pub carried : List ℤ
 
-abbrev pub leftOf : List ℤ → Outcome Settling → List ℤ
-leftOf old (done s) = s .temperatures
-leftOf old (refused r) = old
+abbrev pub ending : Stepped → List ℤ → List ℤ → Ending
+ending answer temperatures carried = record { answer = answer; temperatures = temperatures; carried = carried }
 
-pub record Exits (e : Stepped) (new old : List ℤ) (o : Outcome Settling) : Type 0 where
-  pub answer-is : e ≡ answerOf o
-  pub left-is : new ≡ leftOf old o
+abbrev pub endsAs : Board → List ℤ → Outcome Settling → Ending
+endsAs b carried (done s) = ending (Settled (s .corrections)) (s .temperatures) (carriedOn b (s .residuals))
+endsAs b carried (refused r) = ending (Refused r) (b .old) carried
+
+-- what a step past its refusals leaves
+abbrev pub stepsTo : List ℕ → List ℤ → List ℤ → List ℤ → List ℤ → List ℤ → Ending
+stepsTo t p a l old carried = let b = boardOf t p a old carried in endsAs b carried (stepped b l)

@@ -3,11 +3,16 @@ use paper::Answer;
 use paper::Refusal;
 use paper::Stepped;
 ghost use mathlib.Core.Path.{_≡_};
+ghost use mathlib.Core.Bool.{cond};
+ghost use lib.IntN.{pos};
+ghost use lib.Signed.{leZ};
 ghost use lib.ListN.{length};
-ghost use Rattle.paper.specs.Step.{boardOf, residuals, attempts, stepped};
+ghost use Rattle.whole.specs.Sums.{table as list};
+ghost use Rattle.whole.specs.Packed.{cell};
+ghost use Rattle.paper.specs.Step.{boardOf, isFixed, residuals, attempts};
 ghost use Rattle.lent.specs.Rows.{Factored, Mild};
 ghost use Rattle.residual.specs.Asks.{Weighed};
-ghost use Rattle.settle.specs.Asks.{Trying, ended, Exits};
+ghost use Rattle.settle.specs.Asks.{Trying, ended, ending, stepsTo};
 
 // ---- corrections
 
@@ -18,18 +23,19 @@ fn weigh(
     a: &[i64],
     fixed: &[i32],
     old: &[i64],
+    carried: &[i64],
     t: &[i32],
     r: &mut [i64],
     n: usize,
 ) -> u32
-    requires { ⌜ Trying (now table) (now p) (now a) (now fixed) (now old) (now t) (now r) n ⌝ }
-    ensures { λ row. ⌜ Weighed row (boardOf (now (table .entry)) (now (p .entry)) (now (a .entry)) (now (old .entry))) (now (t .entry)) (now (r .exit)) ⌝ }
+    requires { ⌜ Trying (now table) (now p) (now a) (now fixed) (now old) (now carried) (now t) (now r) n ⌝ }
+    ensures { λ row. ⌜ Weighed row (boardOf (now (table .entry)) (now (p .entry)) (now (a .entry)) (now (old .entry)) (now (carried .entry))) (now (t .entry)) (now (r .exit)) ⌝ }
 {
-    loads::loads(table, &mut r[..]);
+    loads::loads(table, carried, &mut r[..]);
     residual::residuals(p, a, fixed, old, t, &mut r[..], n)
 }
 
-// Corrections of t, up to four, at least one. The residuals that test for settled are the next correction's.
+// Corrections of t, up to four, at least one. The residuals that test for settled are the next correction's, or stay in r.
 fn attempts(
     table: &[u32],
     p: &[i64],
@@ -37,21 +43,22 @@ fn attempts(
     l: &[i64],
     fixed: &[i32],
     old: &[i64],
+    carried: &[i64],
     t: &mut [i32],
     r: &mut [i64],
     n: usize,
 ) -> Stepped
-    requires { ⌜ Trying (now table) (now p) (now a) (now fixed) (now old) (now t) (now r) n × Factored (now l) n ⌝ }
-    ensures { λ e. ⌜ ended e (now (t .exit)) ≡ attempts (boardOf (now (table .entry)) (now (p .entry)) (now (a .entry)) (now (old .entry))) (now (l .entry)) 3 1 (now (t .entry)) (residuals (boardOf (now (table .entry)) (now (p .entry)) (now (a .entry)) (now (old .entry))) (now (t .entry))) ⌝ }
+    requires { ⌜ Trying (now table) (now p) (now a) (now fixed) (now old) (now carried) (now t) (now r) n × Factored (now l) n ⌝ }
+    ensures { λ e. ⌜ ended e (now (t .exit)) (now (r .exit)) ≡ attempts (boardOf (now (table .entry)) (now (p .entry)) (now (a .entry)) (now (old .entry)) (now (carried .entry))) (now (l .entry)) 3 1 (now (t .entry)) (residuals (boardOf (now (table .entry)) (now (p .entry)) (now (a .entry)) (now (old .entry)) (now (carried .entry))) (now (t .entry))) ⌝ }
 {
-    weigh(table, p, a, fixed, old, &t[..], &mut r[..], n);
+    weigh(table, p, a, fixed, old, carried, &t[..], &mut r[..], n);
     let mut c: u32 = 1;
     loop {
         let v = correction::correct(l, &mut t[..], &mut r[..], n);
         if let Answer::Refused(why) = v {
             return Stepped::Refused(why);
         }
-        let row = weigh(table, p, a, fixed, old, &t[..], &mut r[..], n);
+        let row = weigh(table, p, a, fixed, old, carried, &t[..], &mut r[..], n);
         if row == 0 {
             return Stepped::Settled(c);
         }
@@ -89,7 +96,37 @@ fn widen(from: &[i32], to: &mut [i64])
     }
 }
 
-// The corrections from the old temperatures, and the new ones in their place where they settle.
+// A residual, or 0 of a fixed node.
+fn kept(f: i32, r: i64) -> i64
+    ensures { λ s. ⌜ s ≡ cond (leZ (pos 0) f) (pos 0) r ⌝ }
+{
+    if 0 <= f { 0 } else { r }
+}
+
+// What each node carries on.
+fn carry(fixed: &[i32], r: &[i64], carried: &mut [i64])
+    requires { ⌜ (length (now fixed) ≡ length (now r)) × (length (now carried) ≡ length (now r)) ⌝ }
+    ensures { λ _. ⌜ now (carried .exit) ≡ list (length (now (r .entry))) (λ i. cond (isFixed (now (fixed .entry)) i) (pos 0) (cell (now (r .entry)) i)) ⌝ }
+{
+    let mut k = 0;
+    while k < r.len() {
+        let v = kept(fixed[k], r[k]);
+        carried[k] = v;
+        k += 1;
+    }
+}
+
+// The new temperatures in place of the old, and what each node carries on.
+fn keep(fixed: &[i32], t: &[i32], r: &[i64], old: &mut [i64], carried: &mut [i64])
+    requires { ⌜ (length (now old) ≡ length (now t)) × (length (now fixed) ≡ length (now r)) × (length (now carried) ≡ length (now r)) ⌝ }
+    ensures { λ _. ⌜ now (old .exit) ≡ now (t .entry) ⌝ }
+    ensures { λ _. ⌜ now (carried .exit) ≡ list (length (now (r .entry))) (λ i. cond (isFixed (now (fixed .entry)) i) (pos 0) (cell (now (r .entry)) i)) ⌝ }
+{
+    widen(t, &mut old[..]);
+    carry(fixed, r, &mut carried[..]);
+}
+
+// The corrections from the old temperatures. Where they settle, the new ones are left in their place, and what each node carries on.
 pub fn finish(
     table: &[u32],
     p: &[i64],
@@ -97,18 +134,30 @@ pub fn finish(
     l: &[i64],
     fixed: &[i32],
     old: &mut [i64],
+    carried: &mut [i64],
     t: &mut [i32],
     r: &mut [i64],
     n: usize,
 ) -> Stepped
-    requires { ⌜ Trying (now table) (now p) (now a) (now fixed) (now old) (now old) (now r) n × Factored (now l) n × (length (now t) ≡ n) ⌝ }
-    ensures { λ e. ⌜ Exits e (now (old .exit)) (now (old .entry)) (stepped (boardOf (now (table .entry)) (now (p .entry)) (now (a .entry)) (now (old .entry))) (now (l .entry))) ⌝ }
+    requires { ⌜ Trying (now table) (now p) (now a) (now fixed) (now old) (now carried) (now old) (now r) n × Factored (now l) n × (length (now t) ≡ n) ⌝ }
+    ensures { λ e. ⌜ ending e (now (old .exit)) (now (carried .exit)) ≡ stepsTo (now (table .entry)) (now (p .entry)) (now (a .entry)) (now (l .entry)) (now (old .entry)) (now (carried .entry)) ⌝ }
 {
     narrow(&old[..], &mut t[..]);
-    let e = attempts(table, p, a, l, fixed, &old[..], &mut t[..], &mut r[..], n);
+    let e = attempts(
+        table,
+        p,
+        a,
+        l,
+        fixed,
+        &old[..],
+        &carried[..],
+        &mut t[..],
+        &mut r[..],
+        n,
+    );
     let Stepped::Settled(c) = e else {
         return e;
     };
-    widen(&t[..], &mut old[..]);
+    keep(fixed, &t[..], &r[..], &mut old[..], &mut carried[..]);
     Stepped::Settled(c)
 }

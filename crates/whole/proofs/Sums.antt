@@ -8,12 +8,12 @@ use native.Mathlib.Nat.{eq-or-lt-of-le, le-of-suc-le-suc, add-zero, add-mul, suc
 use native.Mathlib.Decide.{ℕ-discrete}
 use native.Mathlib.Numerals.{add-one}
 use native.Mathlib.Omega.{arith}
-use lib.IntN.{ℤ, pos, natAbs, _+ℤ_, _-ℤ_, +ℤ-idl, +ℤ-idr}
+use lib.IntN.{ℤ, pos, natAbs, _+ℤ_, _-ℤ_, _*ℤ_, zero-*ℤ, +ℤ-idl, +ℤ-idr}
 use lib.ListN.{length, set, drop, replicate, length-set, length-append, length-replicate, length-drop, getD-replicate, List·getD-append, drop-of-length-le}
 use lib.Seq.{getD-drop, getD-append-add, getD-at, getD-set-same, getD-set-other, set-at, drop-cons, ext-getD}
 use Rattle.whole.specs.Sums.{sum, sumN, any, firstFrom, table}
 use Rattle.whole.specs.Packed.{cell}
-use Rattle.whole.proofs.Signs.{natAbs-plus}
+use Rattle.whole.proofs.Signs.{natAbs-plus, plus-times}
 use Rattle.whole.proofs.Linear.{zarith, plusL, minusL}
 use Rattle.whole.proofs.Ring.{swap4}
 use Rattle.whole.proofs.Tests.{or-right}
@@ -42,6 +42,12 @@ sum-minus (suc n) f g = ap (λ (z : ℤ). z +ℤ (f n -ℤ g n)) (sum-minus n f 
   where
     four : (a b x y : ℤ) → a -ℤ b +ℤ (x -ℤ y) ≡ a +ℤ x -ℤ (b +ℤ y)
     four a b x y = omega (zarith, minusL a b, minusL x y, plusL (a -ℤ b) (x -ℤ y), plusL a x, plusL b y, minusL (a +ℤ x) (b +ℤ y))
+
+-- a common factor
+pub sum-times : (n : ℕ) (f : ℕ → ℤ) (x : ℤ) → sum n (λ k. f k *ℤ x) ≡ sum n f *ℤ x
+unfolding sum
+sum-times zero f x = sym (zero-*ℤ x)
+sum-times (suc n) f x = ap (λ (z : ℤ). z +ℤ f n *ℤ x) (sum-times n f x) ∙ sym (plus-times (sum n f) (f n) x)
 
 pub sum-none : (n : ℕ) (f : ℕ → ℤ) → ((k : ℕ) → k < n → f k ≡ pos 0) → sum n f ≡ pos 0
 unfolding sum

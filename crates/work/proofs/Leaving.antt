@@ -41,10 +41,10 @@ and-no false c e = refl
 
 module _ (t : List ℕ) (p a f w : List ℤ) where
   abbrev z : Lent
-  z = lent t p a f w []
+  z = lent t p a f w [] []
 
   stop : Refusal → Bool → Exit
-  stop r b = record { answer = Refused r; lent = record { table = t; slices = slices p a f; work = worked b z; temperatures = [] } }
+  stop r b = record { answer = Refused r; lent = record { table = t; slices = slices p a f; work = worked b z; temperatures = []; carried = [] } }
 
   -- refused before anything was written
   pub kept : (new : List ℕ) (b : Bool) (r : Refusal) → inFactor r ≡ false → left (Refused r) z ≡ leaves new b z (refused r)
@@ -52,19 +52,19 @@ module _ (t : List ℕ) (p a f w : List ℤ) where
   kept new b r e = ap (stop r) (sym (and-no b (inFactor r) e))
 
   -- refused by the factor
-  pub stopped : (new : List ℕ) (r : Refusal) (w′ : List ℤ) → inFactor r ≡ true → w′ ≡ over (replicate (long t) (pos 0)) w → left (Refused r) (lent t p a f w′ []) ≡ leaves new true z (refused r)
+  pub stopped : (new : List ℕ) (r : Refusal) (w′ : List ℤ) → inFactor r ≡ true → w′ ≡ over (replicate (long t) (pos 0)) w → left (Refused r) (lent t p a f w′ [] []) ≡ leaves new true z (refused r)
   unfolding leaves stop
-  stopped new r w′ e q = ap (λ (v : List ℤ). left (Refused r) (lent t p a f v [])) q ∙ ap (stop r) (sym e)
+  stopped new r w′ e q = ap (λ (v : List ℤ). left (Refused r) (lent t p a f v [] [])) q ∙ ap (stop r) (sym e)
 
   -- accepted
   pub accepted : (new : List ℕ) (s : Slices) (p′ a′ f′ w′ : List ℤ) → p′ ≡ over (s .p) p → a′ ≡ over (s .a) a → f′ ≡ over (s .factor) f → w′ ≡ over (replicate (long t) (pos 0)) w
-      → left Done (lent new p′ a′ f′ w′ []) ≡ leaves new true z (done s)
+      → left Done (lent new p′ a′ f′ w′ [] []) ≡ leaves new true z (done s)
   unfolding leaves closed
-  accepted new s p′ a′ f′ w′ ep ea ef ew = λ i. left Done (lent new (ep i) (ea i) (ef i) (ew i) [])
+  accepted new s p′ a′ f′ w′ ep ea ef ew = λ i. left Done (lent new (ep i) (ea i) (ef i) (ew i) [] [])
 
-  pub alone : (new : List ℕ) → long t ≤ length p → long t ≤ length a → long t ≤ length f → left Done (lent new p a f w []) ≡ leaves new false z (done (opened (nodes t) (slices p a f)))
+  pub alone : (new : List ℕ) → long t ≤ length p → long t ≤ length a → long t ≤ length f → left Done (lent new p a f w [] []) ≡ leaves new false z (done (opened (nodes t) (slices p a f)))
   unfolding leaves closed opened
-  alone new lp la lf = λ i. left Done (lent new (sym (over-again (long t) p lp) i) (sym (over-again (long t) a la) i) (sym (over-again (long t) f lf) i) w [])
+  alone new lp la lf = λ i. left Done (lent new (sym (over-again (long t) p lp) i) (sym (over-again (long t) a la) i) (sym (over-again (long t) f lf) i) w [] [])
 
 -- ---- answers in turn
 

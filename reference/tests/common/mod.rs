@@ -17,6 +17,8 @@ pub const G: u32 = b'G' as u32;
 pub const T: u32 = b'T' as u32;
 pub const Z: u32 = b'Z' as u32;
 pub const TOP: u32 = 33_554_432;
+/// The greatest magnitude of a carried residual.
+pub const MOST_CARRIED: i64 = 1 << 33;
 
 /// Xorshift, 64 bits.
 pub struct Chance(u64);
@@ -58,6 +60,35 @@ impl Chance {
             0 => self.pick(&[i64::MIN, i64::MIN + 1, i64::MAX, i64::MAX - 1, 0, 1, -1]),
             1 => bits,
             _ => bits >> self.within(20, 63),
+        }
+    }
+
+    /// So many carried residuals: all zero, or of every size up to 2^33 and both its ends; seldom one past it.
+    pub fn residuals(&mut self, length: usize) -> Vec<i64> {
+        let mut residuals = vec![0; length];
+        if self.one_in(4) {
+            return residuals;
+        }
+        let size = self.within(30, 63);
+        for residual in &mut residuals {
+            *residual = match self.within(0, 9) {
+                0 => self.pick(&[0, 1, -1, MOST_CARRIED, -MOST_CARRIED]),
+                _ => self.bits() as i64 >> size,
+            };
+        }
+        if length > 0 && self.one_in(12) {
+            let at = self.index(length);
+            residuals[at] = self.past_carried();
+        }
+        residuals
+    }
+
+    /// A number that no residual may be.
+    pub fn past_carried(&mut self) -> i64 {
+        let near = [MOST_CARRIED + 1, -MOST_CARRIED - 1];
+        match self.within(0, 2) {
+            0 => self.pick(&[i64::MIN, i64::MIN + 1, i64::MAX]),
+            _ => self.pick(&near),
         }
     }
 
@@ -766,6 +797,7 @@ pub struct Scales {
     pub a: Vec<i64>,
     pub factor: Vec<i64>,
     pub temperatures: Vec<i64>,
+    pub carried: Vec<i64>,
 }
 
 impl Scales {
@@ -789,6 +821,7 @@ impl Scales {
             a: vec![16, 0, 16, 0, 0, 16, 0, 0, 0, 0],
             factor: vec![16, 0, 16, 0, 0, 16, 0, 0, 0, 1 << 20],
             temperatures: vec![Scales::WARM, Scales::WARM, Scales::WARM, 1],
+            carried: vec![0; 4],
         }
     }
 
@@ -834,18 +867,23 @@ pub struct Lent {
     pub factor: Vec<i64>,
     pub work: Vec<i64>,
     pub temperatures: Vec<i64>,
+    pub carried: Vec<i64>,
 }
 
 pub const MARK: i64 = i64::MIN + 77;
 pub const EXTRA: usize = 3;
 
 impl Lent {
+    /// Every node at D's start, and nothing carried.
     pub fn new(table: Vec<u32>) -> Lent {
         let n = nodes_of(&table);
         let matrix = vec![MARK; triangle(n) + EXTRA];
         let start = i64::from(table[2]);
-        let mut temperatures = vec![start; n];
-        temperatures.extend([MARK; EXTRA]);
+        let [temperatures, carried] = [start, 0].map(|number| {
+            let mut numbers = vec![number; n];
+            numbers.extend([MARK; EXTRA]);
+            numbers
+        });
         Lent {
             table,
             p: matrix.clone(),
@@ -853,6 +891,7 @@ impl Lent {
             factor: matrix.clone(),
             work: matrix,
             temperatures,
+            carried,
         }
     }
 
@@ -892,6 +931,7 @@ impl Lent {
             &self.a,
             &self.factor,
             &mut self.temperatures,
+            &mut self.carried,
         )
     }
 
@@ -902,6 +942,7 @@ impl Lent {
             &self.a,
             &self.factor,
             &mut self.temperatures,
+            &mut self.carried,
         )
     }
 

@@ -13,6 +13,7 @@ pub fn table_refused(table: &[u32], number: u8, place: u32) {
         factor: matrix.clone(),
         work: matrix,
         temperatures: vec![MARK; 96],
+        carried: vec![MARK; 96],
     };
     let mut lent = before.clone();
     assert_eq!(lent.build(), refused(number, place));

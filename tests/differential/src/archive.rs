@@ -59,6 +59,7 @@ pub fn call(call: Call, lent: &mut Lent) -> u64 {
     let mut bytes = Fenced::new(&lent.bytes, 0xA5);
     let mut table = Fenced::new(&lent.table, 0xA5A5_A5A5);
     let mut temperatures = Fenced::new(&lent.temperatures, MARK);
+    let mut carried = Fenced::new(&lent.carried, MARK);
     let [mut p, mut a, mut factor, mut work] = lent
         .matrices
         .each_ref()
@@ -127,6 +128,8 @@ pub fn call(call: Call, lent: &mut Lent) -> u64 {
                 factor.length(),
                 temperatures.pointer(),
                 temperatures.length(),
+                carried.pointer(),
+                carried.length(),
             ),
         }
     };
@@ -134,6 +137,7 @@ pub fn call(call: Call, lent: &mut Lent) -> u64 {
     bytes.open("bytes", &mut lent.bytes);
     table.open("table", &mut lent.table);
     temperatures.open("temperatures", &mut lent.temperatures);
+    carried.open("carried", &mut lent.carried);
     let fenced = [p, a, factor, work].into_iter();
     for ((matrix, slice), name) in fenced.zip(&mut lent.matrices).zip(crate::case::MATRICES) {
         matrix.open(name, slice);

@@ -34,6 +34,8 @@ pub struct Lent {
     /// P, A, the factor and the work slice.
     pub matrices: [Vec<i64>; 4],
     pub temperatures: Vec<i64>,
+    /// The residuals that a step adds and leaves.
+    pub carried: Vec<i64>,
     /// Where the reader tells the bounds of the deck.
     pub part: [u64; 2],
 }
@@ -57,7 +59,8 @@ impl Case {
     pub fn by_reference(&self) -> Outcome {
         let mut lent = self.lent.clone();
         let [p, a, factor, work] = &mut lent.matrices;
-        let (table, temperatures) = (&mut lent.table, &mut lent.temperatures);
+        let (temperatures, carried) = (&mut lent.temperatures, &mut lent.carried);
+        let table = &mut lent.table;
         let answer = match self.call {
             Call::Read => {
                 let (answer, start, end) = reference::read(&lent.bytes, table);
@@ -69,7 +72,7 @@ impl Case {
             Call::Replace { card, new } => {
                 reference::replace(table, p, a, factor, work, card, new).packed()
             }
-            Call::Step => reference::step(table, p, a, factor, temperatures).packed(),
+            Call::Step => reference::step(table, p, a, factor, temperatures, carried).packed(),
         };
         Outcome { answer, lent }
     }

@@ -57,5 +57,7 @@ extern "C" {
         factor_length: usize,
         temperatures: *mut i64,
         temperatures_length: usize,
+        carried: *mut i64,
+        carried_length: usize,
     ) -> u64;
 }

@@ -1,4 +1,4 @@
-//! The checked numbers, P1 to P12, those of the edge film and those of the tetrahedron, out of the archive alone.
+//! The checked numbers, P1 to P12, those of the edge film, of the tetrahedron and of what a step carries, out of the archive alone.
 
 use crate::archive;
 use crate::case::{Call, Lent};
@@ -12,12 +12,16 @@ const PAST: i64 = 77;
 /// A deck with slices one longer than it asks.
 fn lend(groups: &Groups) -> Lent {
     let nodes = groups.nodes.len();
-    let mut temperatures = vec![START; nodes];
-    temperatures.push(PAST);
+    let numbers = |number: i64| {
+        let mut numbers = vec![number; nodes];
+        numbers.push(PAST);
+        numbers
+    };
     Lent {
         table: groups.table(),
         matrices: [0; 4].map(|_| vec![PAST; triangle(nodes) + 1]),
-        temperatures,
+        temperatures: numbers(START),
+        carried: numbers(0),
         ..Lent::default()
     }
 }
@@ -40,14 +44,19 @@ fn refused(number: u64, place: u64) -> (u64, [Vec<i64>; 3]) {
     (number + 65_536 * place, [0; 3].map(|_| vec![PAST; 6]))
 }
 
-/// The base built and stepped once: the packed answer and the temperatures.
-fn stepped(change: fn(&mut Groups)) -> (u64, Vec<i64>) {
+/// The base built and stepped once: the packed answer, the temperatures and what is carried.
+fn stepped(change: fn(&mut Groups)) -> (u64, Vec<i64>, Vec<i64>) {
     let mut groups = Groups::base();
     change(&mut groups);
     let mut lent = lend(&groups);
     archive::call(Call::Build, &mut lent);
     let answer = archive::call(Call::Step, &mut lent);
-    (answer, lent.temperatures)
+    (answer, lent.temperatures, lent.carried)
+}
+
+/// The same number at each of three nodes, and the one past them.
+fn alike(number: i64) -> Vec<i64> {
+    vec![number, number, number, PAST]
 }
 
 fn film(groups: &mut Groups, film: u32) {
@@ -81,17 +90,43 @@ fn matrices() {
 }
 
 fn steps() {
-    let warmer = START + 7;
     assert_eq!(
         stepped(|groups| groups.heats.push([1, 3])),
-        (256, vec![warmer, warmer, warmer, PAST]),
+        (256, alike(START + 7), alike(-4_464)),
         "P6"
     );
-    assert_eq!(
-        stepped(|_| {}),
-        (256, vec![START, START, START, PAST]),
-        "P7"
-    );
+    assert_eq!(stepped(|_| {}), (256, alike(START), alike(0)), "P7");
+}
+
+/// P6 goes on: 65,536 at each node and step, 10,000 to the tick.
+fn carried() {
+    let mut groups = Groups::base();
+    groups.heats.push([1, 3]);
+    let mut lent = lend(&groups);
+    archive::call(Call::Build, &mut lent);
+    for (ticks, residual) in [(7, -4_464), (13, 1_072), (20, -3_392), (26, 2_144)] {
+        assert_eq!(archive::call(Call::Step, &mut lent), 256, "P6 carried");
+        assert_eq!(lent.temperatures, alike(START + ticks), "P6 carried");
+        assert_eq!(lent.carried, alike(residual), "P6 carried");
+    }
+    // 2^33 passes by either sign, one more doesn't, and nothing is then written.
+    let most = 1 << 33;
+    for residual in [most, -most] {
+        let mut large = lent.clone();
+        large.carried[1] = residual;
+        let answer = archive::call(Call::Step, &mut large);
+        assert_eq!(answer & 255, 0, "carried {residual}");
+    }
+    for residual in [most + 1, -most - 1, i64::MIN, i64::MAX] {
+        let mut wrong = lent.clone();
+        wrong.carried[1] = residual;
+        let before = wrong.clone();
+        let answer = archive::call(Call::Step, &mut wrong);
+        assert!(answer == 10 && wrong == before, "carried {residual}");
+    }
+    let mut short = lent.clone();
+    short.carried.truncate(2);
+    assert_eq!(archive::call(Call::Step, &mut short), 9, "carried short");
 }
 
 fn refusals() {
@@ -158,7 +193,7 @@ fn edges() {
     assert_eq!(p, [0; 6], "G aslant");
     // As warm as the frame, the plate stays as it is: each end's load is 3g·ambient.
     let still = stepped(|groups| groups.edges.push([2, 3, 100_000, START as u32, 4_000]));
-    assert_eq!(still, (256, vec![START, START, START, PAST]), "G's load");
+    assert_eq!(still, (256, alike(START), alike(0)), "G's load");
     // A replacement of it leaves what the new card would have given.
     let mut groups = Groups::base();
     groups.edges.push([2, 3, 1, 0, 1]);
@@ -216,7 +251,7 @@ fn tetrahedra() {
         (groups.d[0], groups.materials[0][2]) = (1, 961);
     };
     assert_eq!(cornered(thicker).0, 6 + 65_536, "V's u");
-    // 40 µW in quarters, over 5u at each corner.
+    // 40 µW in quarters, 655,360 each, over 5u = 12,500 at each corner.
     let mut groups = Groups::corner();
     groups.heats.push([1, 40]);
     let mut lent = lend(&groups);
@@ -225,6 +260,7 @@ fn tetrahedra() {
     let warmer = START + 52;
     let after = vec![warmer, warmer, warmer, warmer, PAST];
     assert_eq!((answer, lent.temperatures), (256, after), "V's heat");
+    assert_eq!(lent.carried[..4], [5_360; 4], "V's residuals");
     // A replacement leaves what the new card would have given.
     let mut groups = Groups::corner();
     groups.materials.insert(0, [9, 9, 9]);
@@ -247,6 +283,7 @@ pub fn all() {
     tetrahedra();
     matrices();
     steps();
+    carried();
     refusals();
     replacement();
     edges();

@@ -35,12 +35,13 @@ pub fn quarters(trial: &mut Trial) {
     }
 }
 
-fn weigh(trial: &mut Trial, it: Scales) {
+pub fn weigh(trial: &mut Trial, it: Scales) {
     let work = vec![7; it.p.len()];
     let mut lent = Lent {
         table: it.table,
         matrices: [it.p, it.a, it.factor, work],
         temperatures: it.temperatures,
+        carried: it.carried,
         ..Lent::default()
     };
     trial.call(&mut lent, Call::Step);

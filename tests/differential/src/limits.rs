@@ -15,6 +15,7 @@ pub fn built(trial: &mut Trial, table: Vec<u32>) -> Lent {
         bytes: vec![b'?'; bytes],
         matrices: [0; 4].map(|_| vec![7; triangle(nodes)]),
         temperatures: vec![i64::from(table[2]); nodes],
+        carried: vec![0; nodes],
         table,
         ..Lent::default()
     };
@@ -43,6 +44,9 @@ pub fn short_buffers(trial: &mut Trial) {
         }
         let mut lent = whole.clone();
         lent.temperatures.pop();
+        trial.call(&mut lent, Call::Step);
+        let mut lent = whole.clone();
+        lent.carried.pop();
         trial.call(&mut lent, Call::Step);
         let mut lent = whole.clone();
         lent.bytes.pop();
@@ -154,6 +158,7 @@ pub fn each_call(trial: &mut Trial, table: &[u32]) {
         table: table.to_vec(),
         matrices: [0; 4].map(|_| vec![7; triangle(nodes)]),
         temperatures: vec![19_660_800; nodes],
+        carried: vec![0; nodes],
         ..Lent::default()
     };
     let mut lent = whole.clone();

@@ -8,6 +8,7 @@
 mod decks;
 
 mod archive;
+mod carried;
 mod case;
 mod edges;
 mod face;
@@ -15,6 +16,7 @@ mod figures;
 mod heats;
 mod limits;
 mod met;
+mod met_carried;
 mod met_solids;
 mod plan;
 mod show;
@@ -38,7 +40,7 @@ fn main() -> ExitCode {
         }
     };
     figures::all();
-    println!("P1 to P12, the edge film's figures and the tetrahedron's out of the archive: as the papers have them");
+    println!("P1 to P12, the figures of the edge film, the tetrahedron and the residuals out of the archive: as the papers have them");
     println!("seed {seed}");
     let mut trial = trial::Trial::new(seed, MOST);
     for (name, part) in plan::LENT.into_iter().chain(plan::DAMAGED) {

@@ -1,7 +1,9 @@
-//! What was met of G cards, of heats and of solid decks: counts that must not stay at zero. `tests/kernel` takes this file too.
+//! What was met of G cards, of heats, of carried residuals and of solid decks: counts that must not stay at zero. `tests/kernel`
+//! takes this file too.
 
 use crate::case::{Call, Lent};
 use crate::decks::{E, G, H, N};
+use crate::met_carried::{Carried, Stepped};
 use crate::met_solids::{Seen, Solids};
 
 /// Acceptance, and the refusals that a G card can be the cause of, or stand in the way of.
@@ -45,6 +47,7 @@ pub struct Met {
     things: [u64; 15],
     /// Heats in accepted steps, by the remainder of their units by three and by the order of the corners.
     heats: [[u64; 7]; 3],
+    carried: Carried,
     solids: Solids,
 }
 
@@ -63,6 +66,13 @@ impl Met {
             }
             _ => &before.table[..],
         };
+        if call == Call::Step {
+            self.carried.see(&Stepped {
+                before,
+                after,
+                answer,
+            });
+        }
         self.solids.see(&Seen {
             call,
             bytes: &before.bytes,
@@ -174,6 +184,7 @@ impl Met {
         }
         let things = self.things.iter().zip(THINGS);
         lines.extend(things.map(|(count, thing)| format!("{count:>8} {thing}")));
+        lines.extend(self.carried.lines());
         lines.extend(self.solids.lines());
         lines
     }
@@ -199,6 +210,7 @@ impl Met {
                 .filter(|(count, _)| **count == 0)
                 .map(|(_, thing)| thing.to_string()),
         );
+        unmet.extend(self.carried.unmet());
         unmet.extend(self.solids.unmet());
         unmet
     }

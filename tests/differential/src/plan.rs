@@ -5,13 +5,13 @@ use crate::decks::{
     bytes_of, nodes_of, triangle, Chance, Groups, D, E, F, G, H, M, N, T, TOP, V, Z,
 };
 use crate::trial::Trial;
-use crate::{edges, heats, limits, solids};
+use crate::{carried, edges, heats, limits, solids};
 use reference::Card;
 
 pub type Part = (&'static str, fn(&mut Trial));
 
 /// Decks, own buffers and foreign ones.
-pub const LENT: [Part; 25] = [
+pub const LENT: [Part; 30] = [
     ("decks read and written back", valid_decks),
     ("builds over slices short, exact and long", builds),
     ("the paper's checked decks", checked_decks),
@@ -34,6 +34,11 @@ pub const LENT: [Part; 25] = [
     ("tables at the limits of length and count", limits::lengths),
     ("heats weighed at each corner", heats::shares),
     ("heats weighed in quarters", heats::quarters),
+    ("residuals at the bound of 10 and past it", carried::bounds),
+    ("residuals, from none to more than enough", carried::lengths),
+    ("residuals weighed at each node", carried::weighed),
+    ("residuals left by one to four corrections", carried::left),
+    ("the heat book over some steps", carried::books),
     ("solid decks of each kind", solids::decks),
     (
         "the groups of a solid deck in and out of order",
@@ -120,10 +125,14 @@ fn lend(chance: &mut Chance, table: Vec<u32>) -> Lent {
     let length = roomy(chance, n);
     let mut temperatures = numbers(chance, length);
     temperatures[..n].fill(i64::from(table[2]));
+    let length = roomy(chance, n);
+    let mut carried = numbers(chance, length);
+    carried[..n].fill(0);
     Lent {
         table,
         matrices,
         temperatures,
+        carried,
         ..Lent::default()
     }
 }
@@ -548,6 +557,7 @@ fn foreign_steps(trial: &mut Trial) {
             _ => warm(chance, &mut lent.temperatures[..n]),
         }
         shorten(chance, &mut lent.temperatures, n);
+        shorten(chance, &mut lent.carried, n);
         let which = chance.index(3);
         shorten(chance, &mut lent.matrices[which], triangle(n));
         trial.call(&mut lent, Call::Step);

@@ -26,6 +26,7 @@ pub fn disagreement(case: &Case) {
             numbers(name, matrix);
         }
         numbers("temperatures", &lent.temperatures);
+        numbers("carried", &lent.carried);
     }
     let (right, ours) = (case.by_reference(), case.by_archive());
     println!("reference answers {}", answer(&right));
@@ -78,6 +79,7 @@ fn differences(right: &Outcome, ours: &Outcome) {
         slice(name, &right.matrices[which], &ours.matrices[which]);
     }
     slice("temperatures", &right.temperatures, &ours.temperatures);
+    slice("carried", &right.carried, &ours.carried);
     slice("bounds of the part", &right.part, &ours.part);
 }
 

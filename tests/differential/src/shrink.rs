@@ -54,6 +54,7 @@ impl Small {
             }
             if index < 4 {
                 case.lent.temperatures.clear();
+                case.lent.carried.clear();
             }
             if index < 2 {
                 case.lent.matrices.iter_mut().for_each(Vec::clear);
@@ -100,10 +101,9 @@ impl Small {
         if self.case.call == Call::Read {
             while self.attempt(|case| case.lent.table.pop().map(drop)) {}
         }
-        for which in 0..4 {
-            while self.attempt(|case| case.lent.matrices[which].pop().map(drop)) {}
+        for which in 0..6 {
+            while self.attempt(|case| slice(case, which).pop().map(drop)) {}
         }
-        while self.attempt(|case| case.lent.temperatures.pop().map(drop)) {}
     }
 
     /// Fields of the cards and of the new one, to smaller numbers.
@@ -135,7 +135,7 @@ impl Small {
 
     /// The lent numbers: whole slices to zero, then one by one.
     fn numbers(&mut self) {
-        for which in 0..5 {
+        for which in 0..6 {
             self.attempt(|case| {
                 slice(case, which).fill(0);
                 Some(())
@@ -158,10 +158,11 @@ impl Small {
     }
 }
 
-/// The four matrices and the temperatures, by number.
+/// The four matrices, the temperatures and what is carried, by number.
 fn slice(case: &mut Case, which: usize) -> &mut Vec<i64> {
     match which {
         4 => &mut case.lent.temperatures,
+        5 => &mut case.lent.carried,
         _ => &mut case.lent.matrices[which],
     }
 }
@@ -283,8 +284,10 @@ fn without(case: &mut Case, row: usize) -> Option<()> {
         for matrix in &mut case.lent.matrices {
             without_node(matrix, nodes, node);
         }
-        if node < case.lent.temperatures.len() {
-            case.lent.temperatures.remove(node);
+        for numbers in [&mut case.lent.temperatures, &mut case.lent.carried] {
+            if node < numbers.len() {
+                numbers.remove(node);
+            }
         }
     }
     Some(())

@@ -209,6 +209,7 @@ fn lend(table: &[u32]) -> Lent {
         table: table.to_vec(),
         matrices: [0; 4].map(|_| vec![7; 10]),
         temperatures: vec![i64::from(FRAME); 4],
+        carried: vec![0; 4],
         ..Lent::default()
     }
 }

@@ -1,5 +1,6 @@
 //! Runs cases on both programs, counts them, and stops at the first that disagrees.
 
+use crate::carried;
 use crate::case::{Call, Case, Lent, MATRICES};
 use crate::decks::{nodes_of, triangle, Chance};
 use crate::met::Met;
@@ -40,8 +41,19 @@ impl Trial {
         (0..EFFORT * count).take_while(move |_| began.elapsed() < most)
     }
 
-    /// Runs one case on both. They agree, or the program ends here.
+    /// Runs one case on both; a step, where its deck is one, also with residuals of any number and size in the place of its own.
     pub fn call(&mut self, lent: &mut Lent, call: Call) -> u64 {
+        let mut other = lent.clone();
+        let answer = self.once(lent, call);
+        if call == Call::Step && !(1..=4).contains(&(answer & 255)) {
+            other.carried = carried::any(&mut self.chance, &other);
+            self.once(&mut other, call);
+        }
+        answer
+    }
+
+    /// They agree, or the program ends here.
+    fn once(&mut self, lent: &mut Lent, call: Call) -> u64 {
         lent.part = [u64::MAX, 5];
         let case = Case {
             call,
@@ -104,7 +116,7 @@ impl Trial {
         self.met.iter().flatten().sum()
     }
 
-    /// Prints what was met. Was every refusal, and all of G, of heats and of V?
+    /// Prints what was met. Was every refusal, and all of G, of heats, of residuals and of V?
     pub fn report(&self) -> bool {
         print!("{:8} {:>8} {:>8}", "call", "cases", "done");
         (1..14).for_each(|number| print!(" {number:>6}"));

@@ -15,13 +15,13 @@
 #define ROOM (8 << 20)
 
 enum { CALL_READ, CALL_WRITE, CALL_BUILD, CALL_REPLACE, CALL_STEP };
-enum { P, A, FACTOR, WORK, TEMPERATURES, TABLE, BYTES, BUFFERS };
+enum { P, A, FACTOR, WORK, TEMPERATURES, CARRIED, TABLE, BYTES, BUFFERS };
 
 /* Then the buffers in their order, the last one filled up to a multiple of 8 bytes. */
 struct lent {
 	uint64_t answer, start, end;
 	uint32_t call, card, new[GORMULAST_CARD_NUMBERS];
-	uint32_t lengths[BUFFERS], nothing;
+	uint32_t lengths[BUFFERS];
 };
 
 static uint8_t *bytes;
@@ -48,7 +48,7 @@ static uint64_t answer_of(struct lent *lent, void **at)
 					 lent->card, new[0], new[1], new[2], new[3], new[4], new[5]);
 	case CALL_STEP:
 		return gormulast_step(at[TABLE], n[TABLE], at[P], n[P], at[A], n[A], at[FACTOR], n[FACTOR],
-				      at[TEMPERATURES], n[TEMPERATURES]);
+				      at[TEMPERATURES], n[TEMPERATURES], at[CARRIED], n[CARRIED]);
 	}
 	return U64_MAX;
 }

@@ -5,6 +5,8 @@
 //! Writes DIR/plan/commands, DIR/plan/ with the decks and cases that they name, and DIR/expected. With the same seed, always the
 //! same.
 
+#[path = "../../differential/src/carried.rs"]
+mod carried;
 #[path = "../../differential/src/case.rs"]
 #[allow(dead_code)]
 mod case;
@@ -22,6 +24,9 @@ mod limits;
 #[path = "../../differential/src/met.rs"]
 #[allow(dead_code)]
 mod met;
+#[path = "../../differential/src/met_carried.rs"]
+#[allow(dead_code)]
+mod met_carried;
 #[path = "../../differential/src/met_solids.rs"]
 #[allow(dead_code)]
 mod met_solids;

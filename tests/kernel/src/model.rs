@@ -10,6 +10,7 @@ pub struct Model {
     factor: Vec<i64>,
     work: Vec<i64>,
     pub temperatures: Vec<i64>,
+    pub carried: Vec<i64>,
 }
 
 impl Model {
@@ -22,6 +23,7 @@ impl Model {
             factor: matrix.clone(),
             work: matrix,
             temperatures: vec![],
+            carried: vec![],
         }
     }
 
@@ -39,6 +41,7 @@ impl Model {
         let answer = build(&table, p, a, factor, work);
         if answer == Answer::Done {
             self.temperatures = vec![i64::from(table[2]); nodes_of(&table)];
+            self.carried = vec![0; nodes_of(&table)];
             self.table = table;
         }
         answer
@@ -66,9 +69,10 @@ impl Model {
                 a,
                 factor,
                 temperatures,
+                carried,
                 ..
             } = self;
-            let answer = step(table, p, a, factor, temperatures);
+            let answer = step(table, p, a, factor, temperatures, carried);
             if let Stepped::Refused(_) = answer {
                 return (answer, done);
             }

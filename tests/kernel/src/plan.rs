@@ -14,6 +14,7 @@ pub fn all(record: &mut Record) {
     refusing_replacements(record);
     refused_steps(record);
     boards(record);
+    closed_board(record);
     largest(record);
     wild_decks(record);
     edges(record);
@@ -231,6 +232,21 @@ fn boards(record: &mut Record) {
         record.steps(20);
         record.back();
     }
+}
+
+/// Heat that no film, edge or held node lets out, over many steps: what is carried then tells. It stays when a heat or a
+/// thickness is replaced, and a new deck starts with none.
+fn closed_board(record: &mut Record) {
+    let deck = include_bytes!("../../../decks/book.deck");
+    record.deck(deck);
+    record.steps(1_000);
+    record.replace(28, [H, 9, 100, 0, 0, 0]);
+    record.steps(500);
+    record.replace(16, [E, 1, 2, 6, 1, 1_601]);
+    record.steps(500);
+    record.back();
+    record.deck(deck);
+    record.steps(1);
 }
 
 /// As many cards of each kind as there may be; then one more, which no trailer allows.

@@ -52,11 +52,13 @@ impl Record {
         self.commands.push(line);
     }
 
-    /// After every command but `back`: the answer and the temperatures.
+    /// After every command but `back`: the answer, the temperatures and what is carried.
     fn show(&mut self) {
-        let ticks: Vec<String> = self.model.temperatures.iter().map(i64::to_string).collect();
         self.shown.push(self.answer.clone());
-        self.shown.push(ticks.join(" "));
+        for numbers in [&self.model.temperatures, &self.model.carried] {
+            let numbers: Vec<String> = numbers.iter().map(i64::to_string).collect();
+            self.shown.push(numbers.join(" "));
+        }
     }
 
     pub fn deck(&mut self, bytes: &[u8]) {

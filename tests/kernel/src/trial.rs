@@ -1,5 +1,6 @@
 //! Cases of the differential test as bytes for the module tests/kernel/lent, and the bytes that it must leave.
 
+use crate::carried;
 use crate::case::{Call, Case, Lent};
 use crate::decks::Chance;
 use crate::met::Met;
@@ -40,7 +41,19 @@ impl Trial {
         0..count.div_ceil(SHARE)
     }
 
+    /// A step in four, where its deck is one, also with residuals of any number and size in the place of its own.
     pub fn call(&mut self, lent: &mut Lent, call: Call) -> u64 {
+        let mut other = lent.clone();
+        let answer = self.once(lent, call);
+        let judged = call == Call::Step && !(1..=4).contains(&(answer & 255));
+        if judged && self.chance.one_in(4) {
+            other.carried = carried::any(&mut self.chance, &other);
+            self.once(&mut other, call);
+        }
+        answer
+    }
+
+    fn once(&mut self, lent: &mut Lent, call: Call) -> u64 {
         lent.part = [u64::MAX, 5];
         let case = Case {
             call,
@@ -94,7 +107,7 @@ fn write(to: &mut Vec<u8>, call: Call, lent: &Lent, answer: u64) {
         _ => (0, [0; 6]),
     };
     let [p, a, factor, work] = &lent.matrices;
-    let numbers = [p, a, factor, work, &lent.temperatures];
+    let numbers = [p, a, factor, work, &lent.temperatures, &lent.carried];
     let words = |to: &mut Vec<u8>, words: &[u32]| {
         to.extend(words.iter().flat_map(|word| word.to_le_bytes()))
     };
@@ -104,7 +117,7 @@ fn write(to: &mut Vec<u8>, call: Call, lent: &Lent, answer: u64) {
     words(to, &[call.index() as u32, card]);
     words(to, &new);
     words(to, &numbers.map(|buffer| buffer.len() as u32));
-    words(to, &[lent.table.len() as u32, lent.bytes.len() as u32, 0]);
+    words(to, &[lent.table.len() as u32, lent.bytes.len() as u32]);
     for number in numbers.into_iter().flatten() {
         to.extend(number.to_le_bytes());
     }

@@ -14,12 +14,16 @@ packed-step-requires c κs = search needs
 same-length : tie.Need-same-length
 same-length c = search needs
 
+same-length-2 : tie.Need-same-length-2
+same-length-2 c = search needs
+
 returns : tie.Need-returns
 returns c =
-    let e = c .before .before .step .ensures in
+    let e = c .before .before .before .step .ensures in
     let answer = c .packed-step .ensures ∙ ap (λ (x : StepExit). packed (toldStep (x .answer))) e in
     let rest = ap (λ (x : StepExit). x .lent) e in
     λ i. gave (answer i) (rest i)
 
 pub gormulast-step-spec : {M : Type 1} → statement M
-gormulast-step-spec = tie.close (tie.spec step-requires packed-step-requires same-length returns)
+gormulast-step-spec =
+    tie.close (tie.spec step-requires packed-step-requires same-length same-length-2 returns)

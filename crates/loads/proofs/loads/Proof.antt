@@ -1,49 +1,48 @@
--- The invariant: each node has what the rows so far add. No row before the walk adds anything.
+-- The invariant: each node has what it carries and what the rows so far add. No row before the walk adds anything.
+use borrow.Author.Needs.{needs}
 use Rattle.loads.proofs.loads.Statement.{statement}
 use Rattle.loads.proofs.loads.Tie as tie
-use borrow.Author.Needs.{needs}
 use mathlib.Core.Path.{sym, _∙_}
 use Prim.Native.Nat.{_-_, _/_}
 use native.Mathlib.Omega.{arith}
 use lib.ListN.{length}
-use Rattle.whole.proofs.Sums.{table-same}
 use Rattle.loads.proofs.Walk.{LoadInv, load-start, load-long, load-room, load-next, load-end}
 
 abbrev Inv-loop : tie.InvT-loop
-Inv-loop table r₀ row₀ end r row = LoadInv table r row
+Inv-loop table carried r₀ row₀ end r row = LoadInv table carried r row
 
 abbrev μ-loop : tie.MeasureT-loop
-μ-loop table r₀ row₀ end r row = length table / 6 - row
+μ-loop table carried r₀ row₀ end r row = length table / 6 - row
 
-fill-requires : tie.Need-fill-requires Inv-loop μ-loop
-fill-requires c κs = search needs
+copy-requires : tie.Need-copy-requires Inv-loop μ-loop
+copy-requires c κs = c .before .before .pre .0 .long ∙ sym (c .before .before .pre .1 .long)
 
 first-row-requires : tie.Need-first-row-requires Inv-loop μ-loop
-first-row-requires c κs = c .before .before .before .before .pre .deck
+first-row-requires c κs = c .before .before .before .before .pre .0 .deck
 
 sub-end : tie.Need-sub-end Inv-loop μ-loop
-sub-end c = omega (arith, c .before .before .before .before .before .pre .deck .all)
+sub-end c = omega (arith, c .before .before .before .before .before .pre .0 .deck .all)
 
 loop-holds : tie.Need-loop-holds Inv-loop μ-loop
-loop-holds c = load-start (c .before .before .before .before .before .pre .deck) _ _ (c .first-row .result) (c .before .before .before .before .before .pre .long) (c .before .before .fill .ensures ∙ sym (table-same _ _)) (c .first-row .ensures)
+loop-holds c = load-start (c .before .before .before .before .before .pre .0 .deck) (c .before .before .before .before .before .pre .1) _ (c .first-row .result) (c .before .before .copy .ensures) (c .first-row .ensures)
 
 add-card-requires : tie.Need-add-card-requires Inv-loop μ-loop
-add-card-requires c κs = load-room (c .before .before .before .before .before .before .before .before .pre .deck) (c .before .before .loop .inv) (omega arith)
+add-card-requires c κs = load-room (c .before .before .before .before .before .before .before .before .pre .0 .deck) (c .before .before .before .before .before .before .before .before .pre .1) (c .before .before .loop .inv) (omega arith)
 
 add-row : tie.Need-add-row Inv-loop μ-loop
-add-row c = omega (arith, c .before .before .before .before .before .before .before .before .before .before .pre .deck .few)
+add-row c = omega (arith, c .before .before .before .before .before .before .before .before .before .before .pre .0 .deck .few)
 
 loop-less : tie.Need-loop-less Inv-loop μ-loop
 loop-less c = search needs
 
 loop-again : tie.Need-loop-again Inv-loop μ-loop
-loop-again c = load-next (c .before .before .before .before .before .before .before .before .before .before .pre .deck) (c .before .before .before .before .loop .inv) (omega arith) (c .before .add-card .ensures)
+loop-again c = load-next (c .before .before .before .before .before .before .before .before .before .before .pre .0 .deck) (c .before .before .before .before .before .before .before .before .before .before .pre .1) (c .before .before .before .before .loop .inv) (omega arith) (c .before .add-card .ensures)
 
 same-length : tie.Need-same-length Inv-loop μ-loop
-same-length c = omega (arith, load-long (c .before .before .before .before .before .before .before .pre .deck) (c .before .loop .inv), c .before .before .before .before .before .before .before .pre .long)
+same-length c = omega (arith, load-long (c .before .before .before .before .before .before .before .pre .0 .deck) (c .before .before .before .before .before .before .before .pre .1) (c .before .loop .inv), c .before .before .before .before .before .before .before .pre .0 .long)
 
 returns : tie.Need-returns Inv-loop μ-loop
-returns c = load-end (c .before .before .before .before .before .before .before .pre .deck) (c .before .loop .inv) (omega arith)
+returns c = load-end (c .before .before .before .before .before .before .before .pre .0 .deck) (c .before .before .before .before .before .before .before .pre .1) (c .before .loop .inv) (omega arith)
 
 pub loads-spec : {M : Type 1} → statement M
 loads-spec =
@@ -51,7 +50,7 @@ loads-spec =
     (tie.spec
     Inv-loop
     μ-loop
-    fill-requires
+    copy-requires
     first-row-requires
     sub-end
     loop-holds

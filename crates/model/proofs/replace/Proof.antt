@@ -69,7 +69,7 @@ same-length-10 c = search needs
 returns-2 : tie.Need-returns-2
 returns-2 c =
     let h = allowed (c .before .before .before .before .before .before .before .before .before .before .before .before .before .before .before .args .table .now) (c .before .before .before .before .before .before .before .before .before .before .before .before .before .before .before .args .p .now) (c .before .before .before .before .before .before .before .before .before .before .before .before .before .before .before .args .a .now) (c .before .before .before .before .before .before .before .before .before .before .before .before .before .before .before .args .factor .now) (c .before .before .before .before .before .before .before .before .before .before .before .before .before .before .before .args .work .now) (c .before .before .before .before .before .before .before .before .before .before .before .before .before .before .before .args .card) (c .before .before .before .before .before .before .before .before .before .before .before .before .before .before .before .args .t7) (c .before .before .before .before .before .before .before .before .before .before .before .before .before .before .before .good .1 .1 .1 .1 .1 .1 .0 .1 .0 .1) (c .before .before .before .before .before .before .before .before .judge .ensures) (c .before .before .before .before .before .before .enum-told .given .1) in
-    ap (λ (x : List ℕ). left _ (lent x (c .before .before .before .before .before .before .before .before .before .before .before .before .before .before .before .args .p .now) (c .before .before .before .before .before .before .before .before .before .before .before .before .before .before .before .args .a .now) (c .before .before .before .before .before .before .before .before .before .before .before .before .before .before .before .args .factor .now) (c .before .before .before .before .before .before .before .before .before .before .before .before .before .before .before .args .work .now) [])) (c .before .before .put .ensures) ∙ replace-alone (c .before .before .before .before .before .before .before .before .before .before .before .before .before .before .before .args .table .now) (c .before .before .before .before .before .before .before .before .before .before .before .before .before .before .before .args .p .now) (c .before .before .before .before .before .before .before .before .before .before .before .before .before .before .before .args .a .now) (c .before .before .before .before .before .before .before .before .before .before .before .before .before .before .before .args .factor .now) (c .before .before .before .before .before .before .before .before .before .before .before .before .before .before .before .args .work .now) (c .before .before .before .before .before .before .before .before .before .before .before .before .before .before .before .args .card) (c .before .before .before .before .before .before .before .before .before .before .before .before .before .before .before .args .t7) h (stirring (c .before .before .before .before .before .before .before .before .before .before .before .before .before .before .before .args .table .now) (c .before .before .before .before .before .before .before .before .before .before .before .before .before .before .before .args .card - 1) (c .before .before .before .before .before .before .before .before .before .before .before .before .before .before .before .args .t7) (h .changes) (c .before .before .before .before .before .stirs .ensures) (not-true (c .before .before .before .before .before .stirs .result) (c .before .before .before .before .if1 .taken)))
+    ap (λ (x : List ℕ). left _ (lent x (c .before .before .before .before .before .before .before .before .before .before .before .before .before .before .before .args .p .now) (c .before .before .before .before .before .before .before .before .before .before .before .before .before .before .before .args .a .now) (c .before .before .before .before .before .before .before .before .before .before .before .before .before .before .before .args .factor .now) (c .before .before .before .before .before .before .before .before .before .before .before .before .before .before .before .args .work .now) [] [])) (c .before .before .put .ensures) ∙ replace-alone (c .before .before .before .before .before .before .before .before .before .before .before .before .before .before .before .args .table .now) (c .before .before .before .before .before .before .before .before .before .before .before .before .before .before .before .args .p .now) (c .before .before .before .before .before .before .before .before .before .before .before .before .before .before .before .args .a .now) (c .before .before .before .before .before .before .before .before .before .before .before .before .before .before .before .args .factor .now) (c .before .before .before .before .before .before .before .before .before .before .before .before .before .before .before .args .work .now) (c .before .before .before .before .before .before .before .before .before .before .before .before .before .before .before .args .card) (c .before .before .before .before .before .before .before .before .before .before .before .before .before .before .before .args .t7) h (stirring (c .before .before .before .before .before .before .before .before .before .before .before .before .before .before .before .args .table .now) (c .before .before .before .before .before .before .before .before .before .before .before .before .before .before .before .args .card - 1) (c .before .before .before .before .before .before .before .before .before .before .before .before .before .before .before .args .t7) (h .changes) (c .before .before .before .before .before .stirs .ensures) (not-true (c .before .before .before .before .before .stirs .result) (c .before .before .before .before .if1 .taken)))
 
 nodes-requires : tie.Need-nodes-requires
 nodes-requires c κs = (allowed (c .before .before .before .before .before .before .before .before .before .before .before .before .args .table .now) (c .before .before .before .before .before .before .before .before .before .before .before .before .args .p .now) (c .before .before .before .before .before .before .before .before .before .before .before .before .args .a .now) (c .before .before .before .before .before .before .before .before .before .before .before .before .args .factor .now) (c .before .before .before .before .before .before .before .before .before .before .before .before .args .work .now) (c .before .before .before .before .before .before .before .before .before .before .before .before .args .card) (c .before .before .before .before .before .before .before .before .before .before .before .before .args .t7) (c .before .before .before .before .before .before .before .before .before .before .before .before .good .1 .1 .1 .1 .1 .1 .0 .1 .0 .1) (c .before .before .before .before .before .judge .ensures) (c .before .before .before .enum-told .given .1)) .changes .deck

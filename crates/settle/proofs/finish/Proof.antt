@@ -1,20 +1,21 @@
--- A refusal leaves the old temperatures as they were.
+-- A refusal leaves the old temperatures and what was carried as they were.
 use borrow.Author.Needs.{needs}
 use Rattle.settle.proofs.finish.Statement.{statement}
 use Rattle.settle.proofs.finish.Tie as tie
-use mathlib.Core.Path.{sym, subst, _∙_}
+use mathlib.Core.Path.{sym, subst, ap, _∙_}
 use mathlib.Core.List.{List}
 use Prim.Native.Nat.{ℕ}
 use lib.IntN.{ℤ}
+use lib.ListN.{length}
 use Rattle.lent.specs.Rows.{Mild}
-use Rattle.settle.proofs.Boards.{again}
-use Rattle.settle.proofs.Ends.{exits-refused, exits-settled, from-old}
+use Rattle.settle.proofs.Boards.{again, keep-asks}
+use Rattle.settle.proofs.Ends.{ends-refused, ends-settled}
 
 narrow-requires : tie.Need-narrow-requires
 narrow-requires c κs = subst (λ (m : ℕ). Mild (c .before .before .before .args .old .now) m) (sym (c .before .before .before .pre .2)) (c .before .before .before .pre .0 .u-mild)
 
 attempts-requires : tie.Need-attempts-requires
-attempts-requires c κs = (again (c .before .before .before .before .before .before .before .before .pre .0) (subst (λ (x : List ℤ). Mild x (c .before .before .before .before .before .before .before .before .args .n)) (sym (c .before .before .before .before .narrow .ensures)) (c .before .before .before .before .before .before .before .before .pre .0 .u-mild)) (c .before .before .before .before .before .before .before .before .pre .0 .r-long), c .before .before .before .before .before .before .before .before .pre .1)
+attempts-requires c κs = (again (c .before .before .before .before .before .before .before .before .before .pre .0) (subst (λ (x : List ℤ). Mild x (c .before .before .before .before .before .before .before .before .before .args .n)) (sym (c .before .before .before .before .before .narrow .ensures)) (c .before .before .before .before .before .before .before .before .before .pre .0 .u-mild)) (c .before .before .before .before .before .before .before .before .before .pre .0 .r-long), c .before .before .before .before .before .before .before .before .before .pre .1)
 
 enum-known-e : tie.Need-enum-known-e
 enum-known-e c = search needs
@@ -31,16 +32,17 @@ same-length-2 c = search needs
 same-length-3 : tie.Need-same-length-3
 same-length-3 c = search needs
 
-returns : tie.Need-returns
-returns c =
-    let s = c .before .before .before .before .before .before .before .before .before .before .before .before .before .args in
-    exits-refused (c .before .before .before .before .attempts .result) (c .before .before .before .before .attempts .last .1 .1 .1 .1 .1 .1 .0) (c .before .before .before .before .attempts .ensures ∙ from-old (s .table .now) (s .p .now) (s .a .now) (s .l .now) (s .old .now) (c .before .before .before .before .before .before .before .before .before .narrow .last .1 .0) (c .before .before .before .before .before .before .before .before .before .narrow .ensures)) _ (c .enum-told .given .1)
-
-widen-requires : tie.Need-widen-requires
-widen-requires c κs = search needs
-
 same-length-4 : tie.Need-same-length-4
 same-length-4 c = search needs
+
+returns : tie.Need-returns
+returns c =
+    let s = c .before .before .before .before .before .before .before .before .before .before .before .before .before .before .args in
+    ends-refused (s .table .now) (s .p .now) (s .a .now) (s .l .now) (s .old .now) (s .carried .now) (c .before .before .before .before .before .before .before .before .before .before .narrow .last .1 .0) (c .before .before .before .before .before .before .before .before .before .before .narrow .ensures)
+    (c .before .before .before .before .attempts .result) (c .before .before .before .before .attempts .last .1 .1 .1 .1 .1 .1 .1 .0) (c .before .before .before .before .attempts .last .1 .1 .1 .1 .1 .1 .1 .1 .0) (c .before .before .before .before .attempts .ensures) _ (c .enum-told .given .1)
+
+keep-requires : tie.Need-keep-requires
+keep-requires c κs = keep-asks (c .before .before .before .before .before .before .before .before .before .before .before .before .before .before .before .before .before .before .before .pre .0) (c .before .before .before .before .before .before .before .before .before .attempts .last .1 .1 .1 .1 .1 .1 .1 .0) (c .before .before .before .before .before .before .before .before .before .attempts .last .1 .1 .1 .1 .1 .1 .1 .1 .0) (c .before .before .before .before .before .before .before .before .before .attempts .kept .1 .1 .1 .1 .1 .1 .1 .0 ∙ ap length (c .before .before .before .before .before .before .before .before .before .before .before .before .before .before .before .narrow .ensures)) (c .before .before .before .before .before .before .before .before .before .attempts .kept .1 .1 .1 .1 .1 .1 .1 .1 .0)
 
 same-length-5 : tie.Need-same-length-5
 same-length-5 c = search needs
@@ -48,10 +50,18 @@ same-length-5 c = search needs
 same-length-6 : tie.Need-same-length-6
 same-length-6 c = search needs
 
+same-length-7 : tie.Need-same-length-7
+same-length-7 c = search needs
+
+same-length-8 : tie.Need-same-length-8
+same-length-8 c = search needs
+
 returns-2 : tie.Need-returns-2
 returns-2 c =
-    let s = c .before .before .before .before .before .before .before .before .before .before .before .before .before .before .before .before .before .before .args in
-    exits-settled (c .before .before .before .before .before .before .before .before .before .attempts .result) (c .before .before .before .before .before .before .before .before .before .attempts .last .1 .1 .1 .1 .1 .1 .0) (c .before .before .before .before .before .before .before .before .before .attempts .ensures ∙ from-old (s .table .now) (s .p .now) (s .a .now) (s .l .now) (s .old .now) (c .before .before .before .before .before .before .before .before .before .before .before .before .before .before .narrow .last .1 .0) (c .before .before .before .before .before .before .before .before .before .before .before .before .before .before .narrow .ensures)) _ (c .before .before .before .before .before .e .given .1) (c .before .widen .ensures)
+    let s = c .before .before .before .before .before .before .before .before .before .before .before .before .before .before .before .before .before .before .before .before .before .before .args in
+    ends-settled (s .table .now) (s .p .now) (s .a .now) (s .l .now) (s .old .now) (s .carried .now) (c .before .before .before .before .before .before .before .before .before .before .before .before .before .before .before .before .before .before .narrow .last .1 .0) (c .before .before .before .before .before .before .before .before .before .before .before .before .before .before .before .before .before .before .narrow .ensures)
+    (c .before .before .before .before .before .before .before .before .before .before .before .before .attempts .result) (c .before .before .before .before .before .before .before .before .before .before .before .before .attempts .last .1 .1 .1 .1 .1 .1 .1 .0) (c .before .before .before .before .before .before .before .before .before .before .before .before .attempts .last .1 .1 .1 .1 .1 .1 .1 .1 .0) (c .before .before .before .before .before .before .before .before .before .before .before .before .attempts .ensures)
+    (c .before .before .before .before .before .before .before .before .before .before .before .before .before .before .before .before .before .before .before .before .before .before .pre .0) (c .before .before .before .before .before .before .before .before .before .before .before .before .attempts .kept .1 .1 .1 .1 .1 .1 .1 .1 .0 ∙ c .before .before .before .before .before .before .before .before .before .before .before .before .before .before .before .before .before .before .before .before .before .before .pre .0 .r-long) _ (c .before .before .before .before .before .before .before .before .e .given .1) (c .before .before .keep .ensures .0) (c .before .before .keep .ensures .1)
 
 pub finish-spec : {M : Type 1} → statement M
 finish-spec =
@@ -64,9 +74,11 @@ finish-spec =
     same-length
     same-length-2
     same-length-3
-    returns
-    widen-requires
     same-length-4
+    returns
+    keep-requires
     same-length-5
     same-length-6
+    same-length-7
+    same-length-8
     returns-2)

@@ -1,12 +1,12 @@
+use borrow.Author.Needs.{needs}
 use Rattle.settle.proofs.widen.Statement.{statement}
 use Rattle.settle.proofs.widen.Tie as tie
-use borrow.Author.Needs.{needs}
 use Prim.Native.Nat.{_-_}
 use native.Mathlib.Omega.{arith}
 use lib.ListN.{length}
 use Rattle.whole.specs.Packed.{cell}
 use Rattle.lent.proofs.Narrow.{wide-fits, wide-is}
-use Rattle.settle.proofs.Copying.{CopyInv, copy-start, copy-long, copy-next, copy-end}
+use Rattle.settle.proofs.Copying.{CopyInv, fill-start, fill-long, fill-next, copy-end}
 
 abbrev Inv-loop : tie.InvT-loop
 Inv-loop from to₀ k₀ to k = CopyInv from to₀ to k
@@ -15,7 +15,7 @@ abbrev μ-loop : tie.MeasureT-loop
 μ-loop from to₀ k₀ to k = length from - k
 
 loop-holds : tie.Need-loop-holds Inv-loop μ-loop
-loop-holds c = copy-start (c .args .from .now) (c .args .to .now) (c .pre)
+loop-holds c = fill-start (cell (c .args .from .now)) (length (c .args .from .now)) (c .args .to .now) (c .pre)
 
 mul-v : tie.Need-mul-v Inv-loop μ-loop
 mul-v c = search needs
@@ -27,10 +27,10 @@ cast-v : tie.Need-cast-v Inv-loop μ-loop
 cast-v c = wide-fits {x = cell (c .before .before .before .args .from .now) (c .before .before .loop .k)} (record { sfits = c .v .given })
 
 mul-v-2 : tie.Need-mul-v-2 Inv-loop μ-loop
-mul-v-2 c = omega (arith, copy-long (c .before .before .loop .inv), c .before .before .before .pre, c .before .before .before .good)
+mul-v-2 c = omega (arith, fill-long (c .before .before .loop .inv), c .before .before .before .pre, c .before .before .before .good)
 
 slice-set-from-v : tie.Need-slice-set-from-v Inv-loop μ-loop
-slice-set-from-v c = omega (arith, copy-long (c .before .before .loop .inv), c .before .before .before .pre)
+slice-set-from-v c = omega (arith, fill-long (c .before .before .loop .inv), c .before .before .before .pre)
 
 add-k : tie.Need-add-k Inv-loop μ-loop
 add-k c = search needs
@@ -39,10 +39,10 @@ loop-less : tie.Need-loop-less Inv-loop μ-loop
 loop-less c = search needs
 
 loop-again : tie.Need-loop-again Inv-loop μ-loop
-loop-again c = copy-next (c .before .before .loop .inv) (c .before .loop-test .taken) _ (wide-is {x = cell (c .before .before .before .args .from .now) (c .before .before .loop .k)} (record { sfits = c .v .given }))
+loop-again c = fill-next (c .before .before .loop .inv) (c .before .loop-test .taken) _ (wide-is {x = cell (c .before .before .before .args .from .now) (c .before .before .loop .k)} (record { sfits = c .v .given }))
 
 same-length : tie.Need-same-length Inv-loop μ-loop
-same-length c = copy-long (c .before .loop .inv)
+same-length c = fill-long (c .before .loop .inv)
 
 returns : tie.Need-returns Inv-loop μ-loop
 returns c = copy-end (c .before .loop .inv) (omega arith)

@@ -36,11 +36,14 @@ part-r-end c = search needs
 
 prepared-requires : tie.Need-prepared-requires
 prepared-requires c κs =
-    let n = c .before .before .before .before .before .args .n in let few = c .before .before .before .before .before .pre .1 .rows .few in
-    (c .before .before .before .before .before .pre .0, c .before .before .before .before .before .pre .1, part-long (replicate 96 (pos 0)) n refl few, part-long (replicate 96 (pos 0)) n refl few, part-long (replicate 96 (pos 0)) n refl few)
+    let n = c .before .before .before .before .before .before .args .n in let few = c .before .before .before .before .before .before .pre .1 .rows .few in
+    (c .before .before .before .before .before .before .pre .0, c .before .before .before .before .before .before .pre .1, part-long (replicate 96 (pos 0)) n refl few, part-long (replicate 96 (pos 0)) n refl few, part-long (replicate 96 (pos 0)) n refl few)
 
 same-length : tie.Need-same-length
 same-length c = search needs
+
+same-length-2 : tie.Need-same-length-2
+same-length-2 c = search needs
 
 returns : tie.Need-returns
 returns c = search needs
@@ -60,4 +63,5 @@ work-spec =
     part-r-end
     prepared-requires
     same-length
+    same-length-2
     returns)
