@@ -10,7 +10,7 @@
  *     where that length is 0;
  *   - no two buffers of one call overlap, and no one else touches them while the call runs.
  *
- * An answer is number + 256 * corrections + 65536 * place. Number 0 is acceptance, 1 to 13 a refusal; place says where;
+ * An answer is number + 256 * corrections + 65536 * place. Number 0 is acceptance, 1 to 14 a refusal; place says where;
  * corrections is how often a step corrected, 1 to 4, and 0 on a refusal and in every other call.
  */
 #ifndef GORMULAST_H
@@ -45,7 +45,8 @@ extern "C" {
 	row(FOREIGN, 10, "the lent P, A, factor or carried has numbers that no call gives") \
 	row(OFF_SCALE, 11, "node %u has a temperature off the scale") \
 	row(UNSETTLED, 12, "row %u is not settled after four corrections") \
-	row(REPLACEMENT, 13, "card %u can't become that card, or there is no such card")
+	row(REPLACEMENT, 13, "card %u can't become that card, or there is no such card") \
+	row(THIN, 14, "element %u is too thin for its longest side")
 
 #define GORMULAST_NUMBERED(name, number, words) GORMULAST_##name = number,
 enum gormulast_refusal { GORMULAST_REFUSALS(GORMULAST_NUMBERED) GORMULAST_ACCEPTED = 0 };
@@ -99,7 +100,7 @@ uint64_t gormulast_write(const uint32_t *table, size_t table_length,
  *   0        p, a and factor hold the deck's matrices; work is zero
  *   7, 8     work is zero; p, a and factor stay
  *   else     all stay
- * Each over the matrix length: numbers past it stay. Refuses with 1 to 9. */
+ * Each over the matrix length: numbers past it stay. Refuses with 1 to 9 and 14. */
 uint64_t gormulast_build(const uint32_t *table, size_t table_length,
 			 int64_t *p, size_t p_length,
 			 int64_t *a, size_t a_length,

@@ -13,6 +13,7 @@ pub const LENT: u8 = 10;
 pub const SCALE: u8 = 11;
 pub const UNSETTLED: u8 = 12;
 pub const REPLACEMENT: u8 = 13;
+pub const THIN: u8 = 14;
 
 /// A row of the paper's table of refusals, with its place.
 #[derive(Clone, Copy, Debug, PartialEq, Eq)]

@@ -264,7 +264,7 @@ fn judge_new(deck: &Deck, card: u32, new: &Card) -> Result<usize, Refusal> {
     Ok(index)
 }
 
-/// The old and new form of the element that an E or F names: 5, and 6 of the new one.
+/// The old and new form of the element that an E or F names: 5 and 14, which both have or neither, and 6 of the new one.
 /// An E leaves the film as it is, so its film is left out of both.
 fn forms_of_change(
     deck: &Deck,

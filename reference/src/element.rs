@@ -28,12 +28,30 @@ fn twice_area(b: [i64; 3], c: [i64; 3]) -> i64 {
     (b[0] * c[1] - b[1] * c[0]).abs()
 }
 
+/// 64·S less than the square of the longest side. The side across from a corner goes by its b and c.
+fn thin(b: [i64; 3], c: [i64; 3]) -> bool {
+    let squares = [0, 1, 2].map(|corner| b[corner] * b[corner] + c[corner] * c[corner]);
+    squares.iter().any(|&square| 64 * twice_area(b, c) < square)
+}
+
+/// S of an element, or 5, or 14. `element` is counted from 0 and only names the place.
+fn area(b: [i64; 3], c: [i64; 3], element: usize) -> Result<i64, Refusal> {
+    let s = twice_area(b, c);
+    if s == 0 {
+        return Err(Refusal::at_index(FLAT, element));
+    }
+    if thin(b, c) {
+        return Err(Refusal::at_index(THIN, element));
+    }
+    Ok(s)
+}
+
 /// v of a film over an element; 0 where the element is flat.
 fn film_share(film: u32, s: i64) -> i64 {
     nearest(i64::from(film) * s, 9_600_000)
 }
 
-/// What a film brings to each corner of its element.
+/// What a film brings to each corner of its element, which a step doesn't judge.
 pub fn film_load(deck: &Deck, corners: [usize; 3], film: u32, ambient: u32) -> i64 {
     let (b, c) = sides(corners.map(|node| deck.point(node)));
     4 * film_share(film, twice_area(b, c)) * i64::from(ambient)
@@ -59,14 +77,11 @@ pub struct Form<const K: usize> {
     v: i64,
 }
 
-/// The form of an E card without film, or 5. `element` is counted from 0 and only names the place.
+/// The form of an E card without film, or 5 or 14. `element` is counted from 0 and only names the place.
 pub fn triangle(deck: &Deck, element: usize, card: &Card) -> Result<Form<3>, Refusal> {
     let corners = corners(card);
     let (b, c) = sides(corners.map(|node| deck.point(node)));
-    let s = twice_area(b, c);
-    if s == 0 {
-        return Err(Refusal::at_index(FLAT, element));
-    }
+    let s = area(b, c, element)?;
     let [kx, ky, capacity, _] = deck.material(card[4] as usize - 1);
     let t = i64::from(card[5]);
     let pair = |i: usize, j: usize| nearest(t * (kx * b[i] * b[j] + ky * c[i] * c[j]), 2_000 * s);
@@ -175,7 +190,7 @@ pub enum Element {
 impl Element {
     pub const EMPTY: Element = Element::Triangle(Form::EMPTY);
 
-    /// Of an element, counted from 0, without film; or 5.
+    /// Of an element, counted from 0, without film; or 5 or, of a triangle, 14.
     pub fn of(deck: &Deck, number: usize) -> Result<Element, Refusal> {
         let card = deck.element(number);
         Ok(match card[0] {
@@ -227,6 +242,35 @@ mod tests {
         assert_eq!(s([[0, 0, 0], [100, 0, 0], [0, 100, 0]]), 10_000);
         assert_eq!(s([[0, 0, 7], [0, 100, 7], [100, 0, 7]]), 10_000);
         assert_eq!(s([[0, 0, 0], [50, 50, 0], [100, 100, 0]]), 0);
+    }
+
+    /// A side of squared length 2,048, of 65 and of 61, S being 32, 1 and 1: 64·S is the same, one less, three more. Nothing is
+    /// nearer from above, since no two squares sum to 3 mod 4 or to 6 mod 8.
+    #[test]
+    fn thin_by_the_longest_side() {
+        for (points, refused) in [
+            ([[0, 0, 0], [32, 32, 0], [16, 17, 0]], false),
+            ([[0, 0, 0], [8, 1, 0], [7, 1, 0]], true),
+            ([[0, 0, 0], [6, 5, 0], [1, 1, 0]], false),
+        ] {
+            let [p, q, r] = points;
+            for order in [
+                [p, q, r],
+                [q, r, p],
+                [r, p, q],
+                [r, q, p],
+                [q, p, r],
+                [p, r, q],
+            ] {
+                let (b, c) = sides(order);
+                assert_eq!(thin(b, c), refused);
+                assert_eq!(area(b, c, 6).is_err(), refused);
+            }
+        }
+        let (b, c) = sides([[0, 0, 0], [101, 1, 0], [100, 0, 0]]);
+        assert_eq!(area(b, c, 6), Err(Refusal::at(THIN, 7)));
+        let (b, c) = sides([[0, 0, 0], [0, 0, 0], [100, 0, 0]]);
+        assert_eq!(area(b, c, 6), Err(Refusal::at(FLAT, 7)));
     }
 
     #[test]

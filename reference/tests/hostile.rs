@@ -57,7 +57,7 @@ fn unwritten(before: &Lent, after: &Lent, number: u8, redone: bool) {
 #[test]
 fn spoiled_buffers() {
     let mut chance = Chance::seeded(10);
-    let mut met = [0; 14];
+    let mut met = [0; NUMBERS];
     for _ in 0..10_000 {
         let table = if chance.one_in(2) {
             Groups::wild(&mut chance).table()

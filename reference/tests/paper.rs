@@ -1,4 +1,4 @@
-//! The paper's checked numbers, P1 to P12, those of the edge film, and the program.
+//! The papers' checked numbers, P1 to P12, those of the edge film, and the program.
 
 mod common;
 
@@ -75,10 +75,17 @@ fn p8_pivot() {
 }
 
 #[test]
-fn p9_bound() {
+fn p9_thin() {
     let mut groups = Groups::base();
     groups.nodes[2] = [101, 1];
     groups.materials[0] = [10_000, 10_000, 1];
+    assert_eq!(Lent::new(groups.table()).build(), refused(14, 1));
+}
+
+/// What P9 showed before a thin element was named.
+#[test]
+fn p9_bound() {
+    let groups = Groups::leaning();
     assert_eq!(Lent::new(groups.table()).build(), refused(8, 2));
 }
 

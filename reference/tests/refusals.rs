@@ -355,11 +355,12 @@ fn r5_and_r6_elements() {
     full.materials[0][2] = 1_885;
     full.elements[0][4] = 2_143;
     build_refused(&full, 6, 1);
-    // Of the other sign: nodes 1 and 2 on one side of 3, in line with it but for a hair.
-    let mut needle = Groups::base();
-    needle.nodes = vec![[4_000, 0], [2_000, 1], [0, 0]];
-    needle.materials[0] = [500_000, 500_000, 1];
-    build_refused(&needle, 6, 1);
+    // Of the other sign: the corner between is blunt.
+    let mut blunt = Groups::base();
+    blunt.nodes = vec![[200, 0], [100, 10], [0, 0]];
+    blunt.materials[0] = [500_000, 500_000, 1];
+    blunt.elements[0][4] = 4_000;
+    build_refused(&blunt, 6, 1);
 }
 
 #[test]
@@ -371,11 +372,8 @@ fn r7_and_r8_factor() {
     build_refused(&groups, 7, 2);
     groups.fixed.push([2, 5]);
     assert_eq!(Lent::built(groups.table()).factor[1..3], [0, 1 << 20]);
-    // P9: l past its bound.
-    let mut groups = Groups::base();
-    groups.nodes[2] = [101, 1];
-    groups.materials[0] = [10_000, 10_000, 1];
-    build_refused(&groups, 8, 2);
+    // l past its bound.
+    build_refused(&Groups::leaning(), 8, 2);
 }
 
 #[test]
@@ -390,22 +388,28 @@ fn r7_and_r8_of_replacements() {
     let mut lent = base.clone();
     lent.a[1] = 1 << 32;
     lent.answers(7, thicker, refused(8, 2));
-    // Under 16, but first past the bound on w: A is 0 and the old element a long sliver, which the
-    // test of 6 never met. Its pair 12 is 4,000·500,000·(4,094·-4,093 + ..)/(2,000·1), near -2^45.
+}
+
+/// At a row's end under 16, and past the bound on w: at -2^38 it is 7, at one less 8. With the rows above it kept, w(3,1) = 2^30,
+/// w(3,2) = -16·2^30, and what is taken from A(3,3) is w(3,1)²/d(1) + w(3,2)²/d(2) = 2^22 + 2^38.
+#[test]
+fn r8_before_r7() {
     let mut groups = Groups::base();
-    groups.nodes = vec![[4_095, 4_094], [4_094, 4_093], [0, 0]];
-    groups.materials = vec![[500_000, 500_000, 1], [1, 1, 1]];
-    groups.elements[0] = [1, 2, 3, 1, 4_000];
-    let mut lent = Lent::new(groups.table());
-    lent.p[..6].fill(0);
-    lent.a[..6].fill(0);
-    lent.factor[..6].copy_from_slice(&[16, 0, 16, 0, 0, 16]);
-    lent.answers(7, card(E, &[1, 2, 3, 2, 1]), refused(8, 1));
-    // Thin before and after, the change is small, and the diagonal of 0 is under 16.
-    groups.materials[0] = [2, 2, 1];
-    groups.elements[0][4] = 1;
-    lent.table = groups.table();
-    lent.answers(7, card(E, &[1, 2, 3, 2, 1]), refused(7, 1));
+    groups.nodes.extend([[100, 100], [0, 200]]);
+    groups.elements[0] = [4, 5, 3, 1, 1_000];
+    for (more, number) in [(0, 7), (-1, 8)] {
+        let mut lent = Lent::new(groups.table());
+        for matrix in [&mut lent.p, &mut lent.a, &mut lent.factor] {
+            matrix[..15].fill(0);
+        }
+        lent.a[3] = 1 << 30;
+        lent.a[5] = (1 << 22) + more;
+        lent.factor[..3].copy_from_slice(&[1 << 38, 1 << 24, 1 << 30]);
+        for end in [5, 9, 14] {
+            lent.factor[end] = 16;
+        }
+        lent.answers(8, card(E, &[4, 5, 3, 1, 1_000]), refused(number, 3));
+    }
 }
 
 #[test]

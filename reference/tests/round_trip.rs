@@ -51,7 +51,7 @@ fn a_written_table_is_read_again() {
 fn read_bytes_are_written_again() {
     let mut chance = Chance::seeded(2);
     // Of flat decks and of solid ones.
-    let (mut accepted, mut refusals) = ([0; 2], [[0; 14]; 2]);
+    let (mut accepted, mut refusals) = ([0; 2], [[0; NUMBERS]; 2]);
     for turn in 0..40 {
         let solid = turn % 2;
         let bytes = bytes_of(&Groups::wild_of(&mut chance, solid == 1).table());

@@ -61,11 +61,27 @@ impl Body {
         determinant(&self.rows).abs()
     }
 
-    /// Conductance, then u; None if it is flat. The b, c and d of each corner are cofactors of its x, y and z.
-    fn form(&self) -> Option<(Matrix, i128)> {
+    /// The square of the longest side.
+    fn longest(&self) -> i128 {
+        let square = |from: &[i128], to: &[i128]| -> i128 {
+            from.iter().zip(to).map(|(a, b)| (a - b) * (a - b)).sum()
+        };
+        let pairs = self
+            .rows
+            .iter()
+            .flat_map(|a| self.rows.iter().map(|b| square(a, b)));
+        pairs.max().unwrap()
+    }
+
+    /// Conductance, then u; 5 if it is flat, 14 if it is a triangle and thin. The b, c and d of each corner are cofactors of its
+    /// x, y and z.
+    fn form(&self) -> Result<(Matrix, i128), u8> {
         let (s, count) = (self.s(), self.corners.len());
         if s == 0 {
-            return None;
+            return Err(5);
+        }
+        if count == 3 && 64 * s < self.longest() {
+            return Err(14);
         }
         let (over, over_time) = if count == 3 {
             (2_000, 9_600)
@@ -90,7 +106,7 @@ impl Body {
             square[i][i] = -square[i].iter().sum::<i128>();
         }
         let u = rounded(self.capacity * self.thickness * s, over_time * self.step);
-        Some((square, u))
+        Ok((square, u))
     }
 }
 
@@ -188,7 +204,7 @@ impl Words<'_> {
         let (mut p, mut a) = (vec![vec![0; n]; n], vec![vec![0; n]; n]);
         for (number, body) in self.bodies().iter().enumerate() {
             let place = number as u32 + 1;
-            let (square, u) = body.form().ok_or((5, place))?;
+            let (square, u) = body.form().map_err(|number| (number, place))?;
             if stiff(&square, u) {
                 return Err((6, place));
             }
@@ -264,7 +280,9 @@ impl Words<'_> {
                 .find(|f| f[0] as usize == element + 1)
                 .map_or(0, |f| words.v(f))
         };
-        let (square, u) = after.bodies()[element].form().ok_or((5, place))?;
+        let (square, u) = after.bodies()[element]
+            .form()
+            .map_err(|number| (number, place))?;
         if stiff(&square, u) {
             return Err((6, place));
         }
@@ -519,7 +537,7 @@ fn ten(squares: &[Matrix; 3]) -> Result<(), Refused> {
 fn builds() {
     let mut chance = Chance::seeded(6);
     // Of flat decks and of solid ones.
-    let mut met = [[0; 14]; 2];
+    let mut met = [[0; NUMBERS]; 2];
     for _ in 0..2_000 {
         let before = Lent::new(any_deck(&mut chance));
         let met = &mut met[usize::from(is_solid(&before.table))];
@@ -543,15 +561,16 @@ fn builds() {
         }
         assert_eq!(lent, expected);
     }
-    let enough = |met: &[u32; 14]| [0, 5, 6, 7, 8].iter().all(|&number| met[number] > 20);
+    let enough = |met: &[u32; NUMBERS]| [0, 5, 6, 7, 8, 14].iter().all(|&number| met[number] > 20);
     assert!(met.iter().all(enough), "{met:?}");
 }
 
 #[test]
 fn replacements() {
     let mut chance = Chance::seeded(7);
-    // Of V cards last, of the others first.
-    let mut met = [[0; 14]; 2];
+    // Of V cards last, of the others first; and 14 of E and of F.
+    let mut met = [[0; NUMBERS]; 2];
+    let mut thin = [0; 2];
     for _ in 0..6_000 {
         let mut before = Lent::new(any_deck(&mut chance));
         lend(&mut chance, &mut before);
@@ -588,6 +607,9 @@ fn replacements() {
             Err((number, place)) => {
                 assert_eq!(answer, refused(number, place));
                 met[number as usize] += 1;
+                if number == 14 {
+                    thin[usize::from(new[0] == F)] += 1;
+                }
                 if number == 7 || number == 8 {
                     expected = expected.with_zeroed_work();
                 }
@@ -595,14 +617,16 @@ fn replacements() {
         }
         assert_eq!(lent, expected);
     }
-    let enough = |met: &[u32; 14]| [0, 5, 6, 7, 8, 10].iter().all(|&number| met[number] > 10);
+    let enough = |met: &[u32; NUMBERS]| [0, 5, 6, 7, 8, 10].iter().all(|&number| met[number] > 10);
     assert!(met.iter().all(enough), "{met:?}");
+    assert!(thin.iter().all(|&times| times > 10), "{thin:?}");
+    assert_eq!(met[1][14], 0);
 }
 
 #[test]
 fn steps() {
     let mut chance = Chance::seeded(8);
-    let (mut met, mut corrected) = ([0; 14], [0; 5]);
+    let (mut met, mut corrected) = ([0; NUMBERS], [0; 5]);
     for _ in 0..2_500 {
         let mut before = Lent::new(any_deck(&mut chance));
         lend(&mut chance, &mut before);

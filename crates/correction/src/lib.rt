@@ -3,7 +3,7 @@ use paper::Answer;
 use paper::Refusal;
 use paper::Ticks;
 ghost use mathlib.Core.Path.{_≡_};
-ghost use Prim.Native.Nat.{suc, _+_, _-_, _^_, _≤_, _<_, max};
+ghost use Prim.Native.Nat.{suc, _+_, _-_, _^_, _≤_, _<_};
 ghost use lib.IntN.{ℤ, pos, natAbs, _+ℤ_, _*ℤ_};
 ghost use lib.Signed.{_<ℤ_};
 ghost use Rattle.whole.specs.Nearest.{nearest};
@@ -60,12 +60,6 @@ fn y_at(l: &[i64], y: &[i64], i: usize, n: usize, most: u64) -> i64
     whole::minus(y[i], left_under(l, whole::start(i), y, i, most))
 }
 
-fn larger(a: u64, b: u64) -> u64
-    ensures { λ r. ⌜ r ≡ max a b ⌝ }
-{
-    if a < b { b } else { a }
-}
-
 // y in place of r. The row whose y passes 2^52, from 1, or 0.
 fn forward(l: &[i64], y: &mut [i64], n: usize) -> u32
     requires { ⌜ Factored (now l) n × Forth (now y) 0 n ⌝ }
@@ -78,7 +72,7 @@ fn forward(l: &[i64], y: &mut [i64], n: usize) -> u32
         if 4_503_599_627_370_496 < whole::size(v) {
             return (i + 1) as u32;
         }
-        most = larger(most, whole::size(v));
+        most = whole::larger(most, whole::size(v));
         y[i] = v;
         i += 1;
     }

@@ -18,9 +18,6 @@ use Rattle.edge.specs.Asks.{Small}
 
 -- ---- the length
 
-pub apart-is : (a b : ℕ) → natAbs (pos b -ℤ pos a) ≡ (a - b) + (b - a)
-apart-is a b = omega (zarith, minusL (pos b) (pos a), split (pos b -ℤ pos a))
-
 -- what three differences make
 pub record Legs (s : Space) (x y z : ℕ) : Type 0 where
   pub sum-is : squared x + squared y + squared z ≡ length² s

@@ -2,9 +2,7 @@
 use paper::Node;
 ghost use mathlib.Core.Path.{_≡_};
 ghost use Prim.Native.Nat.{_*_, _/_, _^_, _<_};
-ghost use lib.IntN.{natAbs};
 ghost use Rattle.whole.specs.Largest.{squared, root};
-ghost use Rattle.paper.specs.Corners.{from};
 ghost use Rattle.paper.specs.Edge.{length², edgeFilm};
 ghost use Rattle.laws.proofs.Edge.{OnGrid, Ranges};
 ghost use Rattle.edge.specs.Forms.{asSpace};
@@ -20,14 +18,6 @@ pub struct Edge {
 
 // ---- its length
 
-fn apart(axis: [u32; 2]) -> u32
-    ensures { λ r. ⌜ r ≡ natAbs (from axis 0 1) ⌝ }
-{
-    let a = axis[0];
-    let b = axis[1];
-    if a < b { b - a } else { a - b }
-}
-
 fn squared_length(e: Edge) -> u32
     requires { ⌜ OnGrid (asSpace e) ⌝ }
     ensures { λ r. ⌜ r ≡ length² (asSpace e) ⌝ }
@@ -35,9 +25,9 @@ fn squared_length(e: Edge) -> u32
     let xs = e.x;
     let ys = e.y;
     let zs = e.z;
-    let x = apart(xs);
-    let y = apart(ys);
-    let z = apart(zs);
+    let x = whole::distance(xs[0], xs[1]);
+    let y = whole::distance(ys[0], ys[1]);
+    let z = whole::distance(zs[0], zs[1]);
     x * x + y * y + z * z
 }
 

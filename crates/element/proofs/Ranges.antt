@@ -16,7 +16,7 @@ use Rattle.paper.specs.Corners.{Body, shapeOf, square}
 use Rattle.paper.specs.Triangle.{S, pair, u}
 use Rattle.paper.specs.Tetrahedron.{Tetrahedron, spaceOf}
 use Rattle.paper.specs.Tetrahedron as deep
-use Rattle.paper.specs.Elements.{Element, bodyOf, flatOf, tetrahedronOf, solidOf, elementOf, formJudged}
+use Rattle.paper.specs.Elements.{Element, bodyOf, madeOf, flatOf, tetrahedronOf, solidOf, elementOf, formJudged}
 use Rattle.paper.specs.Parts.{edgeSpace}
 use Rattle.paper.specs.declared.Answer.{Answer}
 use Rattle.paper.specs.declared.Kind.the-variants.{«V»}
@@ -28,7 +28,6 @@ use Rattle.laws.proofs.Edge.{OnGrid}
 use Rattle.laws.proofs.Spans.{Inside, side, height, cornersBy, materialBy, row-kind, is-solid, is-flat, solid-deck, coordinate, height-in, step-in, kx-in, ky-in, kz-in, capacity-in, body-corners, body-material, thickness-in, is-body}
 use Rattle.laws.proofs.Solids as solids
 use Rattle.triangle.specs.Asks.{Placed, Sized, Solid, Step}
-use Rattle.triangle.specs.Forms.{madeOf}
 use Rattle.triangle.proofs.Sizes.{u-size, conductance-size}
 use Rattle.solid.specs.Asks as solidAsks
 use Rattle.square.specs.Forms.{wide}

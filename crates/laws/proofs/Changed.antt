@@ -18,7 +18,7 @@ use Rattle.paper.specs.Corners.{Shape, shapeOf}
 use Rattle.paper.specs.Tetrahedron.{spaceOf}
 use Rattle.paper.specs.Triangle.{S, pair, u, faceFilm}
 use Rattle.paper.specs.Edge.{edgeFilm}
-use Rattle.paper.specs.Elements.{Element, bodyOf, flatOf, tetrahedronOf, solidOf, elementOf, elementAt, formJudged, elementJudged}
+use Rattle.paper.specs.Elements.{Element, bodyOf, madeOf, flatOf, tetrahedronOf, solidOf, elementOf, elementAt, formJudged, elementJudged}
 use Rattle.paper.specs.Parts.{Part, bulk, filmed, loaded, heatShare, namedShape, partOf, partFor, partAt}
 use Rattle.paper.specs.Matrices.{addsP, addsA, P, A, fixes, fixed}
 use Rattle.paper.specs.Replacing.{formOf}
@@ -137,7 +137,7 @@ module _ (t : List ℕ) (c : ℕ) (card : List ℕ) (d : Deck t) (g : Change t c
         go : (deep : Bool) → Inside (nodes t) (cornersBy deep x) → In 1 (materials t) (materialBy deep x)
             → cond deep (solidOf (stepOf t′) (tetrahedronOf t′ x)) (flatOf t′ x) ≡ cond deep (solidOf (stepOf t) (tetrahedronOf t x)) (flatOf t x)
         go true ns m = λ i. solidOf (step-same t c card d g i) (tetrahedron-same ns m i)
-        go false ns m = λ i. let e = body-same ns m i in record { shape = e .shape; size = S (e .shape); between = pair e; stored = u (step-same t c card d g i) e }
+        go false ns m = λ i. madeOf (step-same t c card d g i) (body-same ns m i)
 
   -- ---- elements: the shape stays, and all of it where another card is changed
   module _ (r : ℕ) (hr : r < rows t) (b : Body (kindIn t r)) where

@@ -1,4 +1,4 @@
--- One element that passes refusals 5 and 6: no two of its corners are the same, and its numbers are small.
+-- One element that passes refusals 5, 14 and 6: no two of its corners are the same, and its numbers are small.
 use mathlib.Core.Path.{_≡_, refl, sym, ap, subst, _∙_}
 use mathlib.Core.Bool.{Bool, true, false, not, cond}
 use mathlib.Core.List.{List, [], _∷_, map}
@@ -7,6 +7,7 @@ use native.Mathlib.Nat.{mul-zero}
 use native.Mathlib.Decide.{decLt}
 use native.Mathlib.Omega.{arith}
 use borrow.Author.Tests.{leb-true, le-leb, lt-leb, not-false, not-true}
+use lib.Dec.{leb}
 use lib.IntN.{ℤ, pos, natAbs, _-ℤ_, _*ℤ_, +ℤ-invr, zero-*ℤ, *ℤ-zero}
 use lib.ListN.{length, getD}
 use Rattle.whole.specs.Sums.{any}
@@ -15,18 +16,23 @@ use Rattle.whole.proofs.Sums.{any-each, any-none}
 use Rattle.whole.proofs.Tests.{and-told}
 use Rattle.paper.specs.Kinds.{about, isA}
 use Rattle.paper.specs.Cards.{field, rowAt, rows, nodes, materials, elements, elementRow, stepOf}
-use Rattle.paper.specs.Corners.{Shape, Body, shapeOf, area}
+use Rattle.paper.specs.Corners.{Shape, Body, shapeOf}
+use Rattle.paper.specs.Corners as corners
 use Rattle.paper.specs.Triangle.{S, pair, u}
 use Rattle.paper.specs.Tetrahedron.{Tetrahedron, spaceOf}
 use Rattle.paper.specs.Tetrahedron as solid
-use Rattle.paper.specs.Elements.{Element, bodyOf, flatOf, tetrahedronOf, solidOf, elementOf, elementAt, soft, fair, formJudged, elementJudged}
+use Rattle.paper.specs.Elements.{Element, bodyOf, flatOf, tetrahedronOf, solidOf, elementOf, elementAt, soft, fair, areaOf, withArea, formJudged, elementJudged}
 use Rattle.paper.specs.Parts.{namedRow, partOf, partAt}
 use Rattle.paper.specs.Building.{elementsFrom}
+use Rattle.paper.specs.declared.Area.{Area}
+use Rattle.paper.specs.declared.Area.the-variants as area
+use Rattle.paper.specs.declared.Answer.{Answer}
 use Rattle.paper.specs.declared.Answer.the-variants.{Done, Refused}
-use Rattle.paper.specs.declared.Refusal.the-variants.{Flat, Stiff}
+use Rattle.paper.specs.declared.Refusal.{Refusal}
+use Rattle.paper.specs.declared.Refusal.the-variants.{Flat, Stiff, Thin}
 use Rattle.paper.specs.declared.Kind.{Kind}
 use Rattle.paper.specs.declared.Kind.the-variants.{D, N, M, E, «V», H, F, G, T, Z, Other}
-use Rattle.laws.proofs.Outcomes.{cond-done}
+use Rattle.laws.proofs.Outcomes.{done-refused, cond-done}
 use Rattle.laws.proofs.Letters as kinds
 use Rattle.laws.proofs.Tables.{row-field}
 use Rattle.laws.proofs.Decks.{In, kindIn, Deck}
@@ -56,31 +62,31 @@ meet t ns a b ha hb e = record { x = ap pos (axis-same (λ n. field t n 1) ns a 
 
 -- ---- corners of which two meet make no area
 
-abbrev areaOf : (x₀ x₁ x₂ y₀ y₁ y₂ : ℤ) → ℤ
-areaOf x₀ x₁ x₂ y₀ y₁ y₂ = (x₁ -ℤ x₀) *ℤ (y₂ -ℤ y₀) -ℤ (x₂ -ℤ x₀) *ℤ (y₁ -ℤ y₀)
+abbrev doubled : (x₀ x₁ x₂ y₀ y₁ y₂ : ℤ) → ℤ
+doubled x₀ x₁ x₂ y₀ y₁ y₂ = (x₁ -ℤ x₀) *ℤ (y₂ -ℤ y₀) -ℤ (x₂ -ℤ x₀) *ℤ (y₁ -ℤ y₀)
 
-flat01 : (x x₂ y y₂ : ℤ) → areaOf x x x₂ y y y₂ ≡ pos 0
+flat01 : (x x₂ y y₂ : ℤ) → doubled x x x₂ y y y₂ ≡ pos 0
 flat01 x x₂ y y₂ = rw (+ℤ-invr x, +ℤ-invr y, zero-*ℤ (y₂ -ℤ y), *ℤ-zero (x₂ -ℤ x))
 
-flat02 : (x x₁ y y₁ : ℤ) → areaOf x x₁ x y y₁ y ≡ pos 0
+flat02 : (x x₁ y y₁ : ℤ) → doubled x x₁ x y y₁ y ≡ pos 0
 flat02 x x₁ y y₁ = rw (+ℤ-invr x, +ℤ-invr y, zero-*ℤ (y₁ -ℤ y), *ℤ-zero (x₁ -ℤ x))
 
-flat12 : (x x₁ y y₁ : ℤ) → areaOf x x₁ x₁ y y₁ y₁ ≡ pos 0
+flat12 : (x x₁ y y₁ : ℤ) → doubled x x₁ x₁ y y₁ y₁ ≡ pos 0
 flat12 x x₁ y y₁ = rw (+ℤ-invr ((x₁ -ℤ x) *ℤ (y₁ -ℤ y)))
 
 module _ (s : Shape) where
-  S-is : S s ≡ natAbs (areaOf (Xc s 0) (Xc s 1) (Xc s 2) (Yc s 0) (Yc s 1) (Yc s 2))
-  unfolding S area
+  S-is : S s ≡ natAbs (doubled (Xc s 0) (Xc s 1) (Xc s 2) (Yc s 0) (Yc s 1) (Yc s 2))
+  unfolding S corners.area
   S-is = refl
 
   S-01 : Meet s 0 1 → S s ≡ 0
-  S-01 m = S-is ∙ ap natAbs ((λ i. areaOf (m .x i) (Xc s 1) (Xc s 2) (m .y i) (Yc s 1) (Yc s 2)) ∙ flat01 (Xc s 1) (Xc s 2) (Yc s 1) (Yc s 2))
+  S-01 m = S-is ∙ ap natAbs ((λ i. doubled (m .x i) (Xc s 1) (Xc s 2) (m .y i) (Yc s 1) (Yc s 2)) ∙ flat01 (Xc s 1) (Xc s 2) (Yc s 1) (Yc s 2))
 
   S-02 : Meet s 0 2 → S s ≡ 0
-  S-02 m = S-is ∙ ap natAbs ((λ i. areaOf (m .x i) (Xc s 1) (Xc s 2) (m .y i) (Yc s 1) (Yc s 2)) ∙ flat02 (Xc s 2) (Xc s 1) (Yc s 2) (Yc s 1))
+  S-02 m = S-is ∙ ap natAbs ((λ i. doubled (m .x i) (Xc s 1) (Xc s 2) (m .y i) (Yc s 1) (Yc s 2)) ∙ flat02 (Xc s 2) (Xc s 1) (Yc s 2) (Yc s 1))
 
   S-12 : Meet s 1 2 → S s ≡ 0
-  S-12 m = S-is ∙ ap natAbs ((λ i. areaOf (Xc s 0) (m .x i) (Xc s 2) (Yc s 0) (m .y i) (Yc s 2)) ∙ flat12 (Xc s 0) (Xc s 2) (Yc s 0) (Yc s 2))
+  S-12 m = S-is ∙ ap natAbs ((λ i. doubled (Xc s 0) (m .x i) (Xc s 2) (Yc s 0) (m .y i) (Yc s 2)) ∙ flat12 (Xc s 0) (Xc s 2) (Yc s 0) (Yc s 2))
 
   no-area : (a b : ℕ) → a < b → b < 3 → Meet s a b → S s ≡ 0
   no-area zero zero h k m = absurd (omega arith)
@@ -125,38 +131,84 @@ fair-told it e =
       pairs = λ i j l k. leb-true _ _ (not-false (soft (natAbs (it .between i j))) (any-each i (λ j. not (soft (natAbs (it .between i j)))) (any-each n (λ i. any i (λ j. not (soft (natAbs (it .between i j))))) q i k) j l));
     }
 
--- ---- 5 and 6 as tests tell them
+-- ---- 5, 14 and 6 as tests tell them
+
+abbrev sized : Area → ℕ
+sized (area.Of s) = suc s
+sized (area.Refused r) = 0
+
+of-or-refused : {s : ℕ} {r : Refusal} → area.Of s ≡ area.Refused r → ⊥
+of-or-refused {s} e = let z : suc s ≡ 0 = ap sized e in omega arith
+
+of-inj : {s z : ℕ} → area.Of s ≡ area.Of z → s ≡ z
+of-inj {s} {z} e = let q : suc s ≡ suc z = ap sized e in omega arith
+
+module _ (size : ℕ) (thin : Bool) (n : ℕ) where
+  pub is-flat : size ≡ 0 → area.Refused (Flat n) ≡ areaOf size thin n
+  unfolding areaOf
+  is-flat h = rw (lt-leb 1 size (omega arith))
+
+  pub is-thin : 1 ≤ size → thin ≡ true → area.Refused (Thin n) ≡ areaOf size thin n
+  unfolding areaOf
+  is-thin h q = rw (le-leb 1 size h, q)
+
+  pub is-area : 1 ≤ size → thin ≡ false → area.Of size ≡ areaOf size thin n
+  unfolding areaOf
+  is-area h q = rw (le-leb 1 size h, q)
 
 module _ (it : Element) (n : ℕ) where
-  pub is-flat : it .size ≡ 0 → Refused (Flat n) ≡ formJudged it n
-  unfolding formJudged
-  is-flat h = rw (lt-leb 1 (it .size) (omega arith))
+  -- an area that the routine hands on
+  pub area-known : {s : ℕ} → area.Of s ≡ areaOf (it .size) (it .thin) n → (s ≡ it .size) × (1 ≤ s)
+  unfolding areaOf
+  area-known {s} = go (leb 1 (it .size)) (it .thin) refl
+    where
+      go : (b c : Bool) → leb 1 (it .size) ≡ b → area.Of s ≡ cond b (cond c (area.Refused (Thin n)) (area.Of (it .size))) (area.Refused (Flat n)) → (s ≡ it .size) × (1 ≤ s)
+      go true true h q = absurd (of-or-refused q)
+      go true false h q = let is = of-inj q in (is, omega (arith, is, leb-true 1 (it .size) h))
+      go false c h q = absurd (of-or-refused q)
 
-  pub is-fair : 1 ≤ it .size → fair it ≡ true → Done ≡ formJudged it n
+  -- what the area routine gave decides it, or leaves it to 6
+  of-area : {r : Area} → r ≡ areaOf (it .size) (it .thin) n → withArea r (cond (fair it) Done (Refused (Stiff n))) ≡ formJudged it n
   unfolding formJudged
-  is-fair h q = rw (le-leb 1 (it .size) h, q)
+  of-area e = ap (λ (r : Area). withArea r (cond (fair it) Done (Refused (Stiff n)))) e
 
-  pub is-stiff : 1 ≤ it .size → fair it ≡ false → Refused (Stiff n) ≡ formJudged it n
-  unfolding formJudged
-  is-stiff h q = rw (le-leb 1 (it .size) h, q)
+  pub no-area-left : {r : Refusal} → area.Refused r ≡ areaOf (it .size) (it .thin) n → Refused r ≡ formJudged it n
+  no-area-left e = of-area e
+
+  pub is-fair : {s : ℕ} → area.Of s ≡ areaOf (it .size) (it .thin) n → fair it ≡ true → Done ≡ formJudged it n
+  is-fair e q = ap (λ (b : Bool). cond b Done (Refused (Stiff n))) (sym q) ∙ of-area e
+
+  pub is-stiff : {s : ℕ} → area.Of s ≡ areaOf (it .size) (it .thin) n → fair it ≡ false → Refused (Stiff n) ≡ formJudged it n
+  is-stiff e q = ap (λ (b : Bool). cond b Done (Refused (Stiff n))) (sym q) ∙ of-area e
 
 pub stiff-u : (it : Element) → 4000000 < it .stored → false ≡ fair it
 unfolding fair
 stiff-u it h = rw (lt-leb (it .stored) 4000000 h)
 
--- what 5 and 6 leave
+-- what 5, 14 and 6 leave
 pub record Formed (it : Element) : Type 0 where
   pub some : 1 ≤ it .size
+  pub wide : it .thin ≡ false
   pub fair : Fair it
+
+-- a size that is judged with an element that passes
+some-area : (size : ℕ) (thin : Bool) (e : ℕ) (rest : Answer) → withArea (areaOf size thin e) rest ≡ Done → (1 ≤ size) × (thin ≡ false) × (rest ≡ Done)
+unfolding areaOf
+some-area size thin e rest p = go (leb 1 size) thin refl p
+  where
+    go : (b c : Bool) → leb 1 size ≡ b → withArea (cond b (cond c (area.Refused (Thin e)) (area.Of size)) (area.Refused (Flat e))) rest ≡ Done
+        → (1 ≤ size) × (c ≡ false) × (rest ≡ Done)
+    go true true h q = done-refused q
+    go true false h q = (leb-true 1 size h, refl, q)
+    go false c h q = done-refused q
 
 pub sound-one : (it : Element) (e : ℕ) → formJudged it e ≡ Done → Formed it
 unfolding formJudged
 sound-one it e p =
-    let (a, p₁) = cond-done _ _ (Flat e) p in
-    let (b, _) = cond-done _ Done (Stiff e) p₁ in
-    record { some = leb-true 1 (it .size) a; fair = fair-told it b }
+    let (some, wide, rest) = some-area (it .size) (it .thin) e (cond (fair it) Done (Refused (Stiff e))) p in
+    record { some = some; wide = wide; fair = fair-told it (cond-done (fair it) Done (Stiff e) rest .0) }
 
--- THEOREM. In a deck whose elements pass 5 and 6, each element is of some area, its u and its pairs within 4,000,000.
+-- THEOREM. In a deck whose elements pass 5, 14 and 6, each element is of some area, its u and its pairs within 4,000,000.
 pub sound : (t : List ℕ) (row : ℕ) → Deck t → elementsFrom (elements t) 1 t ≡ Done → row < rows t → kinds.Body (kindIn t row) → Formed (elementAt t row)
 unfolding elementJudged
 sound t row d p h b =

@@ -24,6 +24,7 @@ pub mod Kept
 pub mod NewCard
 pub mod InTurn
 pub mod Elements
+pub mod Thin
 pub mod Weights
 pub mod Built
 pub mod Lent

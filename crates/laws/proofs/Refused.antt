@@ -12,14 +12,15 @@ use Rattle.paper.specs.Refusals.{Outcome, refused, done, when, then, andThen}
 use Rattle.paper.specs.Kinds.{about, aboutOf, kindAt}
 use Rattle.paper.specs.Cards.{columnsOf, inRange, orderOf, rank, countsAt, mostRows, rowAt, rows, elementRow}
 use Rattle.paper.specs.Judge.{clean, full, formed, ranged, judgeOne, asks, judgeCard, judgeFrom, trailer, judgeRows, judged, answers, newJudged}
-use Rattle.paper.specs.Elements.{Element, elementAt, fair, formJudged, elementJudged}
+use Rattle.paper.specs.Elements.{Element, elementAt, fair, areaOf, withArea, formJudged, elementJudged}
 use Rattle.paper.specs.Factor.{w, l, small, rowFrom, rowsFrom}
 use Rattle.paper.specs.Building.{elementsFrom}
 use Rattle.paper.specs.Calls.{inFactor}
+use Rattle.paper.specs.declared.Area.the-variants as area
 use Rattle.paper.specs.declared.Answer.{Answer}
 use Rattle.paper.specs.declared.Answer.the-variants.{Done, Refused}
 use Rattle.paper.specs.declared.Refusal.{Refusal}
-use Rattle.paper.specs.declared.Refusal.the-variants.{Pivot, Bound}
+use Rattle.paper.specs.declared.Refusal.the-variants.{Flat, Pivot, Bound, Thin}
 use Rattle.paper.specs.declared.Kind.the-variants.{Other}
 use Rattle.paper.specs.declared.Counts.{Counts}
 
@@ -67,8 +68,13 @@ new-plain t card new =
     refl
 
 pub form-plain : (it : Element) (e : ℕ) → Plain (formJudged it e)
-unfolding formJudged
-form-plain it e = either (leb 1 (it .size)) _ _ (either (fair it) _ _ tt refl) refl
+unfolding formJudged areaOf
+form-plain it e = with-area (leb 1 (it .size)) (it .thin) _ (either (fair it) _ _ tt refl)
+  where
+    with-area : (b c : Bool) (rest : Answer) → Plain rest → Plain (withArea (cond b (cond c (area.Refused (Thin e)) (area.Of (it .size))) (area.Refused (Flat e))) rest)
+    with-area true true rest p = refl
+    with-area true false rest p = p
+    with-area false c rest p = refl
 
 pub element-plain : (t : List ℕ) (e : ℕ) → Plain (elementJudged t e)
 unfolding elementJudged

@@ -5,7 +5,7 @@ use paper::Refusal;
 use paper::Ticks;
 ghost use mathlib.Core.Path.{_≡_};
 ghost use mathlib.Core.Bool.{not, _&&_};
-ghost use Prim.Native.Nat.{_+_, _^_, _≤_, _<_, max};
+ghost use Prim.Native.Nat.{_+_, _^_, _≤_, _<_};
 ghost use lib.Dec.{leb};
 ghost use lib.ListN.{length};
 ghost use Rattle.paper.specs.Building.{slices};
@@ -15,12 +15,6 @@ ghost use Rattle.lent.specs.Rows.{InRow, Rows, largest, capped, cappedTo
 
 // ---- the largest
 
-fn larger(a: u64, b: u64) -> u64
-    ensures { λ r. ⌜ r ≡ max a b ⌝ }
-{
-    if a < b { b } else { a }
-}
-
 // The largest size: one pass over a slice as it lies, with no branch that leaves it.
 fn largest(m: &[i64]) -> u64
     ensures { λ r. ⌜ r ≡ largest (length (now (m .entry))) (now (m .entry)) ⌝ }
@@ -28,7 +22,7 @@ fn largest(m: &[i64]) -> u64
     let mut most: u64 = 0;
     let mut j = 0;
     while j < m.len() {
-        most = larger(most, whole::size(m[j]));
+        most = whole::larger(most, whole::size(m[j]));
         j += 1;
     }
     most

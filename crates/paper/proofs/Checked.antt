@@ -14,10 +14,10 @@ use Rattle.paper.specs.Kinds.{about, kindOf, letterOf}
 use Rattle.paper.specs.Cards.{before, columns, used, zeros, inRange, agree, ranked, field, rows, nodes, materials, elements, put}
 use Rattle.paper.specs.Judge.{stands, clean, rises, ordered, full, nameAt, formed, ranged, judgeOne, asks, judgeCard, judgeFrom, trailer, judgeRows, judged, answers, newJudged}
 use Rattle.paper.specs.Corners.{square, mass, spread, share, shapeOf, area}
-use Rattle.paper.specs.Triangle.{b, c, S, pair, u, faceFilm}
+use Rattle.paper.specs.Triangle.{b, c, S, side², longest², thin, pair, u, faceFilm}
 use Rattle.paper.specs.Tetrahedron.{spaceOf}
 use Rattle.paper.specs.Edge.{length², reaches, edgeFilm}
-use Rattle.paper.specs.Elements.{bodyOf, flatOf, elementOf, fair, formJudged, elementJudged, elementAt}
+use Rattle.paper.specs.Elements.{bodyOf, flatOf, elementOf, fair, areaOf, formJudged, elementJudged, elementAt}
 use Rattle.paper.specs.Parts.{heatShare, partOf, least, partAt}
 use Rattle.paper.specs.Matrices.{addsP, addsA, addsLoad, P, A, loadOf, fixed, held, cleared}
 use Rattle.paper.specs.Factor.{w, l, rowFrom, rowsFrom}
@@ -125,6 +125,10 @@ factor s = s .factor
 abbrev far : ℕ → ℤ
 far n = pos (edgeFilm 100000 4000 (spaceOf (deck 1000 (node 0 0 ++ node 4095 4095 ++ node 0 0) 1 1 (element 1 2 3 1) [] 0) (1 ∷ n ∷ [])))
 
+-- P9, which is thin since [6], and beside it what is wide enough and yet past the factor's bound
+abbrev pub slanted : List ℕ → List ℕ
+slanted third = deck 1000 (node 0 0 ++ node 100 0 ++ third) 10000 1 (element 1 2 3 1000) [] 0
+
 pub record Case : Type 0 where
   pub name : ℕ
   pub got : List ℤ
@@ -148,7 +152,7 @@ cases =
     (numbers (256 ∷ 19660807 ∷ 19660807 ∷ 19660807 ∷ 77 ∷ []) ++ replicate 3 (negsuc 4463) ++ pos 99 ∷ replicate 3 (negsuc 4463) ++ numbers (10000 ∷ 10000 ∷ 10000 ∷ []))
     ∷ case 7 (stepOn base) (numbers (256 ∷ 19660800 ∷ 19660800 ∷ 19660800 ∷ 77 ∷ 0 ∷ 0 ∷ 0 ∷ 99 ∷ []))
     ∷ case 8 (seen (built (deck 60000 right 1000 1 (element 1 2 3 1000) [] 0)) a) (numbers (7 ∷ 3 ∷ []))
-    ∷ case 9 (seen (built (deck 1000 (node 0 0 ++ node 100 0 ++ node 101 1) 10000 1 (element 1 2 3 1000) [] 0)) a) (numbers (8 ∷ 2 ∷ []))
+    ∷ case 9 (seen (built (slanted (node 101 1))) a ++ seen (built (slanted (node 104 3))) a) (numbers (14 ∷ 1 ∷ 8 ∷ 2 ∷ []))
     ∷ case 10 (pos (elementAt (deck 1 right 1000 960 (element 1 2 3 4000) [] 0) 5 .stored) ∷ seen (built (deck 1 right 1000 961 (element 1 2 3 4000) [] 0)) a)
     (numbers (4000000 ∷ 6 ∷ 1 ∷ []))
     ∷ case 11 (seen (built (deck 1000 (node 0 0 ++ node 50 50 ++ node 100 100) 1000 2400 (element 1 2 3 1000) [] 0)) a) (numbers (5 ∷ 1 ∷ []))
@@ -169,7 +173,7 @@ cases =
     ∷ []
 
 run : same (same eqZ) (map (λ (k : Case). k .got) cases) (map (λ (k : Case). k .want) cases) ≡ true
-unfolding cases same eqZ nearestN nearest sum sumN any firstFrom table tri place lower toldStep packed about kindOf before columns used zeros inRange agree ranked field nodes materials elements put stands clean rises ordered full nameAt formed ranged judgeOne asks judgeCard judgeFrom trailer judgeRows judged answers newJudged square mass spread share shapeOf spaceOf area b c S pair u faceFilm climb length² reaches edgeFilm bodyOf flatOf elementOf fair formJudged elementJudged heatShare partOf least addsP addsA addsLoad P A loadOf fixed held cleared w l rowFrom rowsFrom elementsFrom build formOf moved redone replaced rowSize heavy badRow noFactor foreign laden enough opened lentJudged boardOf rightSide residual residuals rowBound yAt forwardFrom xAt backFrom warmed addFrom correct unsettled attempts stepped carriedOn offScale closed leaves buildCall replaceCall stepCall
+unfolding cases same eqZ nearestN nearest sum sumN any firstFrom table tri place lower toldStep packed about kindOf before columns used zeros inRange agree ranked field nodes materials elements put stands clean rises ordered full nameAt formed ranged judgeOne asks judgeCard judgeFrom trailer judgeRows judged answers newJudged square mass spread share shapeOf spaceOf area b c S pair u faceFilm climb length² reaches edgeFilm bodyOf flatOf elementOf fair formJudged elementJudged heatShare partOf least addsP addsA addsLoad P A loadOf fixed held cleared w l rowFrom rowsFrom elementsFrom build formOf moved redone replaced rowSize heavy badRow noFactor foreign laden enough opened lentJudged boardOf rightSide residual residuals rowBound yAt forwardFrom xAt backFrom warmed addFrom correct unsettled attempts stepped carriedOn offScale closed leaves buildCall replaceCall stepCall side² longest² thin areaOf
 run = refl
 
 pub all-checked : map (λ (k : Case). k .got) cases ≡ map (λ (k : Case). k .want) cases

@@ -12,8 +12,8 @@ use Rattle.paper.specs.Kinds.{about, kindOf}
 use Rattle.paper.specs.Cards.{before, columns, used, zeros, inRange, ranked, field, nodes, materials, elements}
 use Rattle.paper.specs.Judge.{stands, clean, rises, ordered, full, formed, ranged, judgeOne, asks, judgeCard, judgeFrom, trailer, judgeRows, judged}
 use Rattle.paper.specs.Corners.{square, mass, spread, share, shapeOf, area}
-use Rattle.paper.specs.Triangle.{b, c, S, pair, u}
-use Rattle.paper.specs.Elements.{bodyOf, flatOf, elementOf, fair, formJudged, elementJudged, elementAt}
+use Rattle.paper.specs.Triangle.{b, c, S, side², longest², thin, pair, u}
+use Rattle.paper.specs.Elements.{bodyOf, flatOf, elementOf, fair, areaOf, formJudged, elementJudged, elementAt}
 use Rattle.paper.specs.Factor.{w, l, rowFrom, rowsFrom}
 use Rattle.paper.specs.Lent.{rowSize, heavy, badRow, noFactor, laden}
 use Rattle.paper.specs.Refusals.{Outcome, refused, done, numberOf}
@@ -44,12 +44,16 @@ abbrev edge : ℕ → ℕ → ℕ → Edge
 edge p f n = record { passes = p; fails = f; number = n }
 
 -- a deck of one element whose first node is one step off the others' line, or on it
-abbrev thin : ℕ → List ℕ
-thin y = deck 1000 (node 0 y ++ node 50 50 ++ node 100 100) 1 1 (element 1 2 3 1) [] 0
+abbrev bent : ℕ → List ℕ
+bent y = deck 1000 (node 0 y ++ node 1 1 ++ node 2 2) 1 1 (element 1 2 3 1) [] 0
 
 -- corners in the other turning sense, or one of them named twice
 abbrev turned : ℕ → List ℕ
 turned last = deck 1000 right 1 1 (element 2 1 last 1) [] 0
+
+-- S is x and the longest side's square x·x, across from one corner or another; k 500,000 would be stiff
+abbrev pub sliver : ℕ → ℕ → List ℕ → List ℕ
+sliver x k card = deck 1000 (node 0 0 ++ node x 0 ++ node 30 1) k 1 card [] 0
 
 -- u: of the doubled area 9,600,000 and of 9,600,002
 abbrev stored : ℕ → List ℕ
@@ -88,8 +92,11 @@ edges =
     ∷ edge (reach 0 0 1 500000) (reach 0 0 1 500001) 4
     ∷ edge (reach 0 0 1 1) (reach 0 0 1 0) 4
     ∷ edge (number (crowd 165)) (number (crowd 166)) 3
-    ∷ edge (number (elementJudged (thin 1) 1)) (number (elementJudged (thin 0) 1)) 5
+    ∷ edge (number (elementJudged (bent 1) 1)) (number (elementJudged (bent 0) 1)) 5
     ∷ edge (number (elementJudged (turned 3) 1)) (number (elementJudged (turned 1) 1)) 5
+    ∷ edge (number (elementJudged (sliver 64 1 (element 1 2 3 1)) 1)) (number (elementJudged (sliver 65 1 (element 1 2 3 1)) 1)) 14
+    ∷ edge (number (elementJudged (sliver 64 1 (element 3 1 2 1)) 1)) (number (elementJudged (sliver 65 1 (element 3 1 2 1)) 1)) 14
+    ∷ edge (number (elementJudged (sliver 64 1 (element 1 3 2 1)) 1)) (number (elementJudged (sliver 65 1 (element 1 3 2 1)) 1)) 14
     ∷ edge (number (elementJudged (stored 3200) 1)) (number (elementJudged (stored 3198) 1)) 6
     ∷ edge (number (elementJudged (tight 100000 40) 1)) (number (elementJudged (tight 97561 41) 1)) 6
     ∷ edge (foreign (heavy 1 (pos (2 ^ 33) ∷ []))) (foreign (heavy 1 (pos (2 ^ 33 + 1) ∷ []))) 10
@@ -101,7 +108,7 @@ edges =
     ∷ []
 
 run : same (same eqb) (map (λ (e : Edge). e .passes ∷ e .fails ∷ []) edges) (map (λ (e : Edge). 0 ∷ e .number ∷ []) edges) ≡ true
-unfolding edges same about kindOf before columns used zeros inRange ranked stands clean rises ordered full formed ranged judgeOne asks judgeCard judgeFrom trailer judgeRows judged nearestN nearest sum sumN any firstFrom table tri place lower field nodes materials elements square mass spread share shapeOf area b c S pair u bodyOf flatOf elementOf fair formJudged elementJudged w l rowFrom rowsFrom rowSize heavy badRow noFactor laden
+unfolding edges same about kindOf before columns used zeros inRange ranked stands clean rises ordered full formed ranged judgeOne asks judgeCard judgeFrom trailer judgeRows judged nearestN nearest sum sumN any firstFrom table tri place lower field nodes materials elements square mass spread share shapeOf area b c S pair u bodyOf flatOf elementOf fair formJudged elementJudged w l rowFrom rowsFrom rowSize heavy badRow noFactor laden side² longest² thin areaOf
 run = refl
 
 pub at-the-edges : map (λ (e : Edge). e .passes ∷ e .fails ∷ []) edges ≡ map (λ (e : Edge). 0 ∷ e .number ∷ []) edges
@@ -109,5 +116,5 @@ at-the-edges = numbers-told (map (λ (e : Edge). e .passes ∷ e .fails ∷ []) 
 
 -- the decks above that limit 6 tells apart have just these values
 pub limit-6 : map storedIn (stored 3200 ∷ stored 3198 ∷ []) ++ map betweenIn (tight 100000 40 ∷ tight 97561 41 ∷ []) ≡ 4000000 ∷ 4000001 ∷ 4000000 ∷ 4000001 ∷ []
-unfolding about kindOf nearestN nearest sum sumN any firstFrom table tri place lower field nodes materials elements square mass spread share shapeOf area b c S pair u bodyOf flatOf elementOf fair formJudged elementJudged
+unfolding about kindOf nearestN nearest sum sumN any firstFrom table tri place lower field nodes materials elements square mass spread share shapeOf area b c S side² longest² thin pair u bodyOf flatOf elementOf fair areaOf formJudged elementJudged
 limit-6 = refl

@@ -14,8 +14,8 @@ use Rattle.paper.specs.Kinds.{about, kindOf, letterOf}
 use Rattle.paper.specs.Cards.{before, columns, used, zeros, inRange, agree, ranked, field, nodes, materials, elements, put}
 use Rattle.paper.specs.Judge.{stands, clean, rises, ordered, full, nameAt, formed, ranged, judgeOne, asks, judgeCard, judgeFrom, trailer, judgeRows, judged, answers, newJudged}
 use Rattle.paper.specs.Corners.{square, mass, spread, share, shapeOf, area}
-use Rattle.paper.specs.Triangle.{b, c, S, pair, u, faceFilm}
-use Rattle.paper.specs.Elements.{bodyOf, flatOf, elementOf, fair, formJudged, elementJudged}
+use Rattle.paper.specs.Triangle.{b, c, S, side², longest², thin, pair, u, faceFilm}
+use Rattle.paper.specs.Elements.{bodyOf, flatOf, elementOf, fair, areaOf, formJudged, elementJudged}
 use Rattle.paper.specs.Parts.{partOf, least}
 use Rattle.paper.specs.Matrices.{addsP, addsA, P, A, fixed, cleared}
 use Rattle.paper.specs.Factor.{w, l, rowFrom, rowsFrom}
@@ -29,6 +29,7 @@ use Rattle.paper.specs.declared.Stepped.{Stepped}
 use Rattle.paper.specs.declared.Kind.the-variants.{D, N, M, H, F, Z}
 use Rattle.paper.proofs.Cases.{same, numbers-told}
 use Rattle.paper.proofs.Checked.{deck, node, element, right, rim, base, heated, point, material, tetra, cube, counted}
+use Rattle.paper.proofs.Edges.{sliver}
 
 -- number and place, 0 and 0 for none
 abbrev shown : Told → List ℕ
@@ -144,6 +145,10 @@ cases =
     ∷ both (builds (two stiff flat) 6) 6 1
     ∷ both (builds (two flat stiff) 6) 5 1
     ∷ both (builds (two flat stiff) 5) 9 0
+    -- an element: 5, 14, 6
+    ∷ both (builds (sliver 0 500000 (element 1 2 3 4000)) 6) 5 1
+    ∷ both (builds (sliver 65 500000 (element 1 2 3 4000)) 6) 14 1
+    ∷ both (builds (sliver 64 500000 (element 1 2 3 4000)) 6) 6 1
     -- the factor, at a row's end: the bound on w, then 7
     ∷ both (factors (negsuc (2 ^ 38))) 8 1
     ∷ both (factors (negsuc (2 ^ 38 - 1))) 7 1
@@ -164,7 +169,7 @@ cases =
     ∷ []
 
 run : same (same eqb) (map (λ (x : Both). x .got) cases) (map (λ (x : Both). x .want) cases) ≡ true
-unfolding cases same nearestN nearest sum sumN any firstFrom table tri place lower told toldStep about kindOf before columns used zeros inRange agree ranked field nodes materials elements put stands clean rises ordered full nameAt formed ranged judgeOne asks judgeCard judgeFrom trailer judgeRows judged answers newJudged square mass spread share shapeOf area b c S pair u faceFilm bodyOf flatOf elementOf fair formJudged elementJudged partOf least addsP addsA P A fixed cleared w l rowFrom rowsFrom elementsFrom build formOf moved redone replaced rowSize heavy badRow noFactor foreign laden enough opened lentJudged offScale closed leaves buildCall replaceCall stepCall
+unfolding cases same nearestN nearest sum sumN any firstFrom table tri place lower told toldStep about kindOf before columns used zeros inRange agree ranked field nodes materials elements put stands clean rises ordered full nameAt formed ranged judgeOne asks judgeCard judgeFrom trailer judgeRows judged answers newJudged square mass spread share shapeOf area b c S pair u faceFilm bodyOf flatOf elementOf fair formJudged elementJudged partOf least addsP addsA P A fixed cleared w l rowFrom rowsFrom elementsFrom build formOf moved redone replaced rowSize heavy badRow noFactor foreign laden enough opened lentJudged offScale closed leaves buildCall replaceCall stepCall side² longest² thin areaOf
 run = refl
 
 pub in-order : map (λ (x : Both). x .got) cases ≡ map (λ (x : Both). x .want) cases

@@ -17,7 +17,7 @@ use Rattle.paper.specs.Judge.{stands, clean, rises, ordered, full, forme
 use Rattle.paper.specs.Corners.{square, mass, spread, share, shapeOf, area}
 use Rattle.paper.specs.Tetrahedron.{Space, spaceOf, Tetrahedron, face, b, c, d, sixfold, S, pair, u}
 use Rattle.paper.specs.Edge.{length², reaches, edgeFilm}
-use Rattle.paper.specs.Elements.{tetrahedronOf, solidOf, elementOf, fair, formJudged, elementJudged}
+use Rattle.paper.specs.Elements.{tetrahedronOf, solidOf, elementOf, fair, areaOf, formJudged, elementJudged}
 use Rattle.paper.specs.Parts.{heatShare, partOf}
 use Rattle.paper.specs.Matrices.{addsP, addsA, addsLoad, P, A, loadOf, fixed, cleared}
 use Rattle.paper.specs.Factor.{w, l, rowFrom, rowsFrom}
@@ -103,7 +103,7 @@ cases =
     ∷ []
 
 run : same (same eqZ) (map (λ (k : Case). k .got) cases) (map (λ (k : Case). k .want) cases) ≡ true
-unfolding cases same eqZ nearestN nearest sum sumN any table tri place lower climb about kindOf before columns used zeros inRange ranked field nodes materials elements stands clean rises ordered full formed ranged judgeOne asks judgeCard judgeFrom trailer judgeRows deck.judged square mass spread share shapeOf spaceOf area face b c d sixfold S pair u length² reaches edgeFilm tetrahedronOf elementOf fair formJudged elementJudged heatShare partOf addsP addsA addsLoad P A loadOf fixed cleared w l rowFrom rowsFrom elementsFrom build enough closed leaves buildCall
+unfolding cases same eqZ nearestN nearest sum sumN any table tri place lower climb about kindOf before columns used zeros inRange ranked field nodes materials elements stands clean rises ordered full formed ranged judgeOne asks judgeCard judgeFrom trailer judgeRows deck.judged square mass spread share shapeOf spaceOf area face b c d sixfold S pair u length² reaches edgeFilm tetrahedronOf elementOf fair formJudged elementJudged heatShare partOf addsP addsA addsLoad P A loadOf fixed cleared w l rowFrom rowsFrom elementsFrom build enough closed leaves buildCall areaOf
 run = refl
 
 pub all-checked : map (λ (k : Case). k .got) cases ≡ map (λ (k : Case). k .want) cases

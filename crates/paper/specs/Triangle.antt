@@ -1,7 +1,10 @@
--- "Matrices", a triangle: S, conductance, capacity, film.
-use Prim.Native.Nat.{ℕ, zero, suc, _+_, _*_}
+-- "Matrices", a triangle: S, whether it is thin, conductance, capacity, film.
+use mathlib.Core.Bool.{Bool}
+use Prim.Native.Nat.{ℕ, zero, suc, _+_, _*_, max}
+use lib.Dec.{ltb}
 use lib.IntN.{ℤ, pos, natAbs, _+ℤ_, _*ℤ_}
 use Rattle.whole.specs.Nearest.{nearest, nearestN}
+use Rattle.whole.specs.Largest.{squared}
 use Rattle.paper.specs.Corners.{Shape, Body, from, area}
 
 -- the corner after a
@@ -20,6 +23,16 @@ c s a = from (s .xs) (next a) (next (next a))
 -- the magnitude of twice the signed area
 unfoldable pub S : Shape → ℕ
 S s = natAbs (area (s .xs) (s .ys) 0 1 2)
+
+-- the square of the side across from corner a, and of the longest
+unfoldable pub side² : Shape → ℕ → ℕ
+side² s a = squared (natAbs (b s a)) + squared (natAbs (c s a))
+
+unfoldable pub longest² : Shape → ℕ
+longest² s = max (side² s 0) (max (side² s 1) (side² s 2))
+
+unfoldable pub thin : Shape → Bool
+thin s = ltb (64 * S s) (longest² s)
 
 unfoldable pub pair : Body → ℕ → ℕ → ℤ
 pair e i j =

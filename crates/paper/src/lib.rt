@@ -88,12 +88,19 @@ pub enum Refusal {
     OffScale(u32),
     Unsettled(u32),
     Replacement(u32),
+    Thin(u32),
 }
 
 // A refusal's number and place.
 pub struct Given {
     pub number: u32,
     pub place: u32,
+}
+
+// What the area routine gives: S, or a refusal.
+pub enum Area {
+    Of(u64),
+    Refused(Refusal),
 }
 
 // What read, write, build and replace answer.
@@ -141,6 +148,7 @@ pub fn given_by(r: Refusal) -> Given
         Refusal::OffScale(node) => row(11, node),
         Refusal::Unsettled(line) => row(12, line),
         Refusal::Replacement(card) => row(13, card),
+        Refusal::Thin(element) => row(14, element),
     }
 }
 

@@ -2,23 +2,29 @@
 use mathlib.Core.Path.{_≡_}
 use mathlib.Core.Bool.{false}
 use mathlib.Core.List.{List}
-use Prim.Native.Nat.{ℕ, _<_}
-use lib.IntN.{ℤ, pos, _+ℤ_}
+use Prim.Native.Nat.{ℕ, _*_, max, _≤_, _<_}
+use lib.IntN.{ℤ, pos, natAbs, _+ℤ_}
 use lib.ListN.{length, getD}
+use Rattle.whole.specs.Nearest.{nearestN}
 use Rattle.whole.specs.Sums.{sum}
 use Rattle.paper.specs.Refusals.{done}
-use Rattle.paper.specs.Cards.{rows, nodes}
+use Rattle.paper.specs.Kinds.{kindOf}
+use Rattle.paper.specs.Cards.{rowAt, letter, rows, nodes}
 use Rattle.paper.specs.Judge.{judged}
 use Rattle.paper.specs.Corners.{square}
+use Rattle.paper.specs.Triangle.{pair}
+use Rattle.paper.specs.Elements.{bodyOf}
 use Rattle.paper.specs.Parts.{partAt}
 use Rattle.paper.specs.Matrices.{P, A, K, Film}
 use Rattle.paper.specs.Building.{Slices, build}
 use Rattle.paper.specs.Lent.{foreign}
 use Rattle.paper.specs.declared.Answer.the-variants.{Done}
+use Rattle.paper.specs.declared.Kind.the-variants.{E}
 use Rattle.laws.proofs.Square.{square-symmetric, square-rows, P-symmetric, A-symmetric}
 use Rattle.laws.proofs.Assembled.{three-kinds, K-symmetric, conducted}
 use Rattle.laws.proofs.Judged.{deck}
 use Rattle.laws.proofs.Elements.{part-distinct}
+use Rattle.laws.proofs.Thin.{deck-wide}
 use Rattle.laws.proofs.Built.{own}
 use Rattle.laws.proofs.Lent.{own-pass}
 
@@ -60,3 +66,8 @@ own-slices-pass t s ok b = own-pass t s (deck t ok) (own t s b)
 pub corners-apart : (t : List ℕ) (s : Slices) (row : ℕ) → judged t ≡ Done → build t ≡ done s → row < rows t
     → let ns = partAt t row .corners in (a b : ℕ) → a < length ns → b < length ns → getD ns a 0 ≡ getD ns b 0 → a ≡ b
 corners-apart t s row ok b = part-distinct t (deck t ok) (own t s b .passed) row
+
+-- no pair of a triangle is more than 32·t·k/1,000, rounded, k being the larger of its kx and ky: its form adds nothing, so no sliver reaches the factor
+pub pairs-by-material : (t : List ℕ) (s : Slices) (row : ℕ) → judged t ≡ Done → build t ≡ done s → row < rows t → kindOf (letter t row) ≡ E
+    → let e = bodyOf t (rowAt t row) in (i j : ℕ) → natAbs (pair e i j) ≤ nearestN (32 * (e .thickness * max (e .kx) (e .ky))) 1000
+pairs-by-material t s row ok b = deck-wide t row (deck t ok) (own t s b .passed)

@@ -8,14 +8,15 @@ use Rattle.paper.specs.Refusals.{numberOf, placeOf}
 use Rattle.paper.specs.Calls.{readCall, writeCall, Lent, buildCall, replaceCall, stepCall}
 use Rattle.paper.specs.Running.{runCall}
 use Rattle.paper.specs.declared.Refusal.{Refusal}
-use Rattle.paper.specs.declared.Refusal.the-variants.{Length, Trailer, Form, Range, Flat, Stiff, Pivot, Bound, Short, Foreign, OffScale, Unsettled, Replacement}
+use Rattle.paper.specs.declared.Refusal.the-variants.{Length, Trailer, Form, Range, Flat, Stiff, Pivot, Bound, Short, Foreign, OffScale, Unsettled, Replacement, Thin}
 
 -- the paper's number and place tell each refusal: this one has them
 abbrev pub refusalOf : ℕ → ℕ → Refusal
 refusalOf n place =
     cond (eqb n 1) Length (cond (eqb n 2) Trailer (cond (eqb n 3) (Form place) (cond (eqb n 4) (Range place)
     (cond (eqb n 5) (Flat place) (cond (eqb n 6) (Stiff place) (cond (eqb n 7) (Pivot place) (cond (eqb n 8) (Bound place)
-    (cond (eqb n 9) Short (cond (eqb n 10) Foreign (cond (eqb n 11) (OffScale place) (cond (eqb n 12) (Unsettled place) (Replacement place))))))))))))
+    (cond (eqb n 9) Short (cond (eqb n 10) Foreign (cond (eqb n 11) (OffScale place) (cond (eqb n 12) (Unsettled place)
+    (cond (eqb n 13) (Replacement place) (Thin place)))))))))))))
 
 pub number-and-place-tell : (r : Refusal) → refusalOf (numberOf r) (placeOf r) ≡ r
 number-and-place-tell Length = refl
@@ -31,6 +32,7 @@ number-and-place-tell Foreign = refl
 number-and-place-tell (OffScale k) = refl
 number-and-place-tell (Unsettled k) = refl
 number-and-place-tell (Replacement k) = refl
+number-and-place-tell (Thin k) = refl
 
 -- every outcome that keeps the promise is this one
 abbrev pub Only : {X : Type 0} → X → Type 0

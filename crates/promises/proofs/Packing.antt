@@ -8,7 +8,7 @@ use Rattle.paper.specs.Calls.{Lent, stepCall}
 use Rattle.paper.specs.declared.Answer.{Answer}
 use Rattle.paper.specs.declared.Answer.the-variants.{Done, Refused}
 use Rattle.paper.specs.declared.Refusal.{Refusal}
-use Rattle.paper.specs.declared.Refusal.the-variants.{Length, Trailer, Form, Range, Flat, Stiff, Pivot, Bound, Short, Foreign, OffScale, Unsettled, Replacement}
+use Rattle.paper.specs.declared.Refusal.the-variants.{Length, Trailer, Form, Range, Flat, Stiff, Pivot, Bound, Short, Foreign, OffScale, Unsettled, Replacement, Thin}
 use Rattle.paper.specs.declared.Stepped.{Stepped}
 use Rattle.paper.specs.declared.Stepped.the-variants as stepAnswer
 use Rattle.paper.specs.declared.Ran.{Ran}
@@ -16,21 +16,22 @@ use Rattle.paper.specs.declared.Ran.the-variants as runAnswer
 use Rattle.promises.proofs.Outcomes.{refusalOf, number-and-place-tell}
 use Rattle.promises.proofs.Step.{at-most-four}
 
--- the paper's numbers are 1 to 13
-pub one-to-thirteen : (r : Refusal) → (1 ≤ numberOf r) × (numberOf r ≤ 13)
-one-to-thirteen Length = (omega arith, omega arith)
-one-to-thirteen Trailer = (omega arith, omega arith)
-one-to-thirteen (Form k) = (omega arith, omega arith)
-one-to-thirteen (Range k) = (omega arith, omega arith)
-one-to-thirteen (Flat k) = (omega arith, omega arith)
-one-to-thirteen (Stiff k) = (omega arith, omega arith)
-one-to-thirteen (Pivot k) = (omega arith, omega arith)
-one-to-thirteen (Bound k) = (omega arith, omega arith)
-one-to-thirteen Short = (omega arith, omega arith)
-one-to-thirteen Foreign = (omega arith, omega arith)
-one-to-thirteen (OffScale k) = (omega arith, omega arith)
-one-to-thirteen (Unsettled k) = (omega arith, omega arith)
-one-to-thirteen (Replacement k) = (omega arith, omega arith)
+-- the numbers of the table of refusals are 1 to 14
+pub number-in-table : (r : Refusal) → (1 ≤ numberOf r) × (numberOf r ≤ 14)
+number-in-table Length = (omega arith, omega arith)
+number-in-table Trailer = (omega arith, omega arith)
+number-in-table (Form k) = (omega arith, omega arith)
+number-in-table (Range k) = (omega arith, omega arith)
+number-in-table (Flat k) = (omega arith, omega arith)
+number-in-table (Stiff k) = (omega arith, omega arith)
+number-in-table (Pivot k) = (omega arith, omega arith)
+number-in-table (Bound k) = (omega arith, omega arith)
+number-in-table Short = (omega arith, omega arith)
+number-in-table Foreign = (omega arith, omega arith)
+number-in-table (OffScale k) = (omega arith, omega arith)
+number-in-table (Unsettled k) = (omega arith, omega arith)
+number-in-table (Replacement k) = (omega arith, omega arith)
+number-in-table (Thin k) = (omega arith, omega arith)
 
 -- number and place tell a refusal
 tells : (r q : Refusal) → numberOf r ≡ numberOf q → placeOf r ≡ placeOf q → r ≡ q
@@ -49,7 +50,7 @@ unfolding packed
 out x few small = record { number-in = omega (arith, few, small); value-in = omega (arith, few, small); place-in = omega (arith, few, small) }
 
 refusal-out : (r : Refusal) → Holds (packed (refusal r)) (refusal r)
-refusal-out r = out (refusal r) (omega (arith, one-to-thirteen r .1)) (omega arith)
+refusal-out r = out (refusal r) (omega (arith, number-in-table r .1)) (omega arith)
 
 refusal-tells : (r q : Refusal) → packed (refusal r) ≡ packed (refusal q) → r ≡ q
 refusal-tells r q e =
@@ -67,8 +68,8 @@ answer-out (Refused r) = refusal-out r
 pub answer-told : (a b : Answer) → packed (told a) ≡ packed (told b) → a ≡ b
 unfolding told packed
 answer-told Done Done e = refl
-answer-told Done (Refused q) e = absurd (omega (arith, e, one-to-thirteen q .0))
-answer-told (Refused r) Done e = absurd (omega (arith, e, one-to-thirteen r .0))
+answer-told Done (Refused q) e = absurd (omega (arith, e, number-in-table q .0))
+answer-told (Refused r) Done e = absurd (omega (arith, e, number-in-table r .0))
 answer-told (Refused r) (Refused q) e = ap Refused (refusal-tells r q e)
 
 -- ---- step
@@ -84,8 +85,8 @@ step-call-out z = go (stepCall z .answer) refl
 pub step-told : (s z : Stepped) → packed (toldStep s) ≡ packed (toldStep z) → s ≡ z
 unfolding toldStep packed
 step-told (stepAnswer.Settled c) (stepAnswer.Settled d) e = let same : c ≡ d = omega (arith, e) in ap stepAnswer.Settled same
-step-told (stepAnswer.Settled c) (stepAnswer.Refused q) e = absurd (omega (arith, e, one-to-thirteen q .0, one-to-thirteen q .1))
-step-told (stepAnswer.Refused r) (stepAnswer.Settled d) e = absurd (omega (arith, e, one-to-thirteen r .0, one-to-thirteen r .1))
+step-told (stepAnswer.Settled c) (stepAnswer.Refused q) e = absurd (omega (arith, e, number-in-table q .0, number-in-table q .1))
+step-told (stepAnswer.Refused r) (stepAnswer.Settled d) e = absurd (omega (arith, e, number-in-table r .0, number-in-table r .1))
 step-told (stepAnswer.Refused r) (stepAnswer.Refused q) e = ap stepAnswer.Refused (refusal-tells r q e)
 
 -- ---- a run's answer is not packed; number, steps and place tell it
@@ -93,6 +94,6 @@ step-told (stepAnswer.Refused r) (stepAnswer.Refused q) e = ap stepAnswer.Refuse
 pub run-told : (x y : Ran) → toldRun x ≡ toldRun y → x ≡ y
 unfolding toldRun
 run-told (runAnswer.Finished m) (runAnswer.Finished n) e = ap runAnswer.Finished (ap (λ (u : Told). u .value) e)
-run-told (runAnswer.Finished m) (runAnswer.Refused q) e = absurd (omega (arith, ap (λ (u : Told). u .number) e, one-to-thirteen q .0))
-run-told (runAnswer.Refused r) (runAnswer.Finished n) e = absurd (omega (arith, ap (λ (u : Told). u .number) e, one-to-thirteen r .0))
+run-told (runAnswer.Finished m) (runAnswer.Refused q) e = absurd (omega (arith, ap (λ (u : Told). u .number) e, number-in-table q .0))
+run-told (runAnswer.Refused r) (runAnswer.Finished n) e = absurd (omega (arith, ap (λ (u : Told). u .number) e, number-in-table r .0))
 run-told (runAnswer.Refused r) (runAnswer.Refused q) e = ap runAnswer.Refused (tells r q (ap (λ (u : Told). u .number) e) (ap (λ (u : Told). u .place) e))

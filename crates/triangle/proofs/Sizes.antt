@@ -1,4 +1,5 @@
 -- Sizes of one element's numbers, before the test of 6.
+use mathlib.Core.Path.{_≡_}
 use mathlib.Core.List.{List}
 use Prim.Native.Nat.{ℕ, zero, suc, _*_, _^_, _≤_, _<_}
 use native.Mathlib.Nat.{mul-le-mul}
@@ -17,6 +18,10 @@ use Rattle.triangle.specs.Asks.{OnGrid, Placed, Sized, Step}
 
 pub grid-apart : (z : List ℕ) (i j : ℕ) → OnGrid z → i < 3 → j < 3 → natAbs (pos (getD z i 0) -ℤ pos (getD z j 0)) ≤ 4095
 grid-apart z i j h k l = apart-size (getD z i 0) (getD z j 0) 4095 (h i k) (h j l)
+
+-- the square of a distance along an axis
+pub leg-small : (z : List ℕ) (i j : ℕ) {n : ℕ} → OnGrid z → i < 3 → j < 3 → n ≡ natAbs (pos (getD z i 0) -ℤ pos (getD z j 0)) → n * n ≤ 4095 * 4095
+leg-small z i j h k l e = let small = grid-apart z i j h k l in mul-le-mul {n₂ = 4095} {m₂ = 4095} (omega (arith, e, small)) (omega (arith, e, small))
 
 pub b-size : (s : Shape) (a : ℕ) → Placed s → a < 3 → natAbs (b s a) ≤ 4095
 unfolding b

@@ -2,8 +2,6 @@
 use mathlib.Core.List.{List, map}
 use Prim.Native.Nat.{ℕ}
 use Rattle.paper.specs.Corners as paper
-use Rattle.paper.specs.Triangle.{S, pair, u}
-use Rattle.paper.specs.Elements.{Element}
 use Rattle.paper.specs.declared.Node.{Node}
 use Rattle.triangle.specs.declared.Shape.{Shape}
 use Rattle.triangle.specs.declared.Triangle.{Triangle}
@@ -16,7 +14,3 @@ asShape s = record { corners = numbers (s .corners); xs = s .x; ys = s .y }
 
 abbrev pub asBody : Triangle → paper.Body
 asBody e = record { shape = asShape (e .shape); kx = e .kx; ky = e .ky; capacity = e .capacity; thickness = e .thickness }
-
--- the element that a body makes, over a step of so many ms
-abbrev pub madeOf : ℕ → paper.Body → Element
-madeOf ms e = record { shape = e .shape; size = S (e .shape); between = pair e; stored = u ms e }

@@ -1,18 +1,20 @@
-// A triangle: S, conductance, capacity, film, and refusals 5 and 6.
+// A triangle: S, conductance, capacity, film, and refusals 5, 14 and 6.
 use paper::Answer;
+use paper::Area;
 use paper::Element;
 use paper::Node;
 use paper::Refusal;
 ghost use mathlib.Core.Path.{_≡_};
-ghost use Prim.Native.Nat.{_<_, _≤_};
+ghost use Prim.Native.Nat.{_+_, _<_, _≤_};
 ghost use lib.IntN.{pos, natAbs, _-ℤ_};
 ghost use lib.ListN.{getD};
 ghost use Rattle.whole.specs.Sums.{table};
 ghost use Rattle.whole.specs.Squares.{squareOf};
-ghost use Rattle.paper.specs.Corners.{square};
-ghost use Rattle.paper.specs.Triangle.{b, c, S, pair, u, faceFilm};
-ghost use Rattle.paper.specs.Elements.{fair, formJudged};
-ghost use Rattle.triangle.specs.Forms.{asShape, asBody, madeOf};
+ghost use Rattle.whole.specs.Largest.{squared};
+ghost use Rattle.paper.specs.Corners.{from, square};
+ghost use Rattle.paper.specs.Triangle.{b, c, S, longest², thin, pair, u, faceFilm};
+ghost use Rattle.paper.specs.Elements.{madeOf, fair, areaOf, formJudged};
+ghost use Rattle.triangle.specs.Forms.{asShape, asBody};
 ghost use Rattle.triangle.specs.Asks.{OnGrid, Placed, Sized, Solid, Step};
 
 // An element's place: its corners and their coordinates.
@@ -74,6 +76,42 @@ fn c(s: Shape) -> [i64; 3]
     [apart(x, 2, 1), apart(x, 0, 2), apart(x, 1, 0)]
 }
 
+// ---- refusals 5 and 14
+
+// The square of the side from corner i to corner j.
+fn side(s: Shape, i: usize, j: usize) -> u64
+    requires { ⌜ Placed (asShape s) × (i < 3) × (j < 3) ⌝ }
+    ensures { λ r. ⌜ r ≡ squared (natAbs (from (s .y) i j)) + squared (natAbs (from (s .x) j i)) ⌝ }
+{
+    let x = s.x;
+    let y = s.y;
+    let up = whole::distance(y[i], y[j]) as u64;
+    let along = whole::distance(x[j], x[i]) as u64;
+    up * up + along * along
+}
+
+fn longest(s: Shape) -> u64
+    requires { ⌜ Placed (asShape s) ⌝ }
+    ensures { λ r. ⌜ r ≡ longest² (asShape s) ⌝ }
+{
+    whole::larger(side(s, 2, 1), whole::larger(side(s, 0, 2), side(s, 1, 0)))
+}
+
+// S, or a refusal. A step, which judges no element, takes twice_area.
+pub fn area(s: Shape, number: Element) -> Area
+    requires { ⌜ Placed (asShape s) ⌝ }
+    ensures { λ r. ⌜ r ≡ areaOf (S (asShape s)) (thin (asShape s)) (number .0) ⌝ }
+{
+    let size = twice_area(s);
+    if size == 0 {
+        return Area::Refused(Refusal::Flat(number.0 as u32));
+    }
+    if 64 * size < longest(s) {
+        return Area::Refused(Refusal::Thin(number.0 as u32));
+    }
+    Area::Of(size)
+}
+
 // ---- conductance
 
 // Of corners i and j, where s is S.
@@ -127,7 +165,7 @@ pub fn film(film: u32, s: Shape) -> u64
     whole::rounded(film as u64 * twice_area(s), 9_600_000)
 }
 
-// ---- refusals 5 and 6
+// ---- refusal 6, after 5 and 14
 
 const SOFT: u64 = 4_000_000;
 
@@ -151,10 +189,10 @@ pub fn judge(e: Triangle, ms: u32, number: Element) -> Answer
     requires { ⌜ Sized (asBody e) × Step ms ⌝ }
     ensures { λ r. ⌜ r ≡ formJudged (madeOf ms (asBody e)) (number .0) ⌝ }
 {
-    let s = twice_area(e.shape);
-    if s == 0 {
-        return Answer::Refused(Refusal::Flat(number.0 as u32));
-    }
+    let s = match area(e.shape, number) {
+        Area::Of(s) => s,
+        Area::Refused(refusal) => return Answer::Refused(refusal),
+    };
     if fair(e, s, ms) {
         return Answer::Done;
     }

@@ -1,7 +1,7 @@
 -- Laws of the nearest: how near it is, its size, and the code's ways to it.
 use mathlib.Core.Path.{_≡_, refl, sym, ap, subst, _∙_}
 use Prim.Native.Nat.{ℕ, zero, suc, _+_, _*_, _-_, _/_, _%_, _^_, _≤_, _<_}
-use native.Mathlib.Nat.{le-refl, mul-le-mul, mul-left-comm, div-add-mod, mul-add, zero-mul, le-mul-of-pos-right, div-lt-iff-lt-mul, suc-mul, le-of-suc-le-suc, mul-assoc, mul-comm, mod-lt, div-zero}
+use native.Mathlib.Nat.{le-refl, mul-le-mul, mul-left-comm, div-add-mod, mul-add, zero-mul, le-mul-of-pos-right, div-lt-iff-lt-mul, suc-mul, le-of-suc-le-suc, le-of-mul-le-mul-right, le-div-iff-mul-le, add-mul, mul-assoc, mul-comm, mod-lt, div-zero}
 use native.Mathlib.Decide.{decLt}
 use native.Mathlib.Omega.{arith}
 use lib.IntN.{ℤ, pos, negsuc, negℤ, natAbs, _+ℤ_, _-ℤ_, _*ℤ_, negℤ-negℤ}
@@ -156,3 +156,16 @@ nearestN-by a p q h l = go (nearestN a q) (nearN a q (omega arith))
     go : (r : ℕ) → Near a q r → 2 * (r * p) ≤ 2 * a + p
     go zero k = omega (arith, zero-mul p)
     go (suc r) k = omega (arith, suc-mul r q, suc-mul r p, mul-le-mul (le-refl r) l)
+
+-- the nearest to a / (q s) is no more than that to b / q, where a is at most b s
+pub nearestN-most : (a b q s : ℕ) → 0 < q → 0 < s → a ≤ b * s → nearestN a (q * s) ≤ nearestN b q
+unfolding nearestN
+nearestN-most a b q s h k l = le-div-iff-mul-le {k = 2 * q} (omega arith) .1 (le-of-mul-le-mul-right {k = s} whole k)
+  where
+    r : ℕ
+    r = (2 * a + q * s) / (2 * (q * s))
+
+    whole : r * (2 * q) * s ≤ (2 * b + q) * s
+    whole =
+        let near = le-div-iff-mul-le {k = 2 * (q * s)} {x = r} {y = 2 * a + q * s} (omega (arith, mul-le-mul {n₁ = 1} {m₁ = 1} h k)) .0 (le-refl r) in
+        omega (arith, l, near, mul-assoc r (2 * q) s, mul-assoc 2 q s, add-mul (2 * b) q s, mul-assoc 2 b s)

@@ -2,7 +2,7 @@
 pub mod slices;
 
 ghost use mathlib.Core.Path.{_≡_};
-ghost use Prim.Native.Nat.{ℕ, _+_, _*_, _^_, _<_, _≤_};
+ghost use Prim.Native.Nat.{ℕ, _+_, _*_, _^_, _<_, _≤_, max};
 ghost use lib.IntN.{ℤ, pos, natAbs, _+ℤ_, _-ℤ_, _*ℤ_};
 ghost use lib.Signed.{_<ℤ_};
 ghost use Rattle.whole.specs.Nearest.{signed, nearestN, nearest};
@@ -13,6 +13,19 @@ pub fn size(x: i64) -> u64
     ensures { λ r. ⌜ r ≡ natAbs x ⌝ }
 {
     if x < 0 { (-1 - x) as u64 + 1 } else { x as u64 }
+}
+
+// How far apart two numbers are.
+pub fn distance(a: u32, b: u32) -> u32
+    ensures { λ r. ⌜ r ≡ natAbs (pos b -ℤ pos a) ⌝ }
+{
+    if a < b { b - a } else { a - b }
+}
+
+pub fn larger(a: u64, b: u64) -> u64
+    ensures { λ r. ⌜ r ≡ max a b ⌝ }
+{
+    if a < b { b } else { a }
 }
 
 // n with the sign of x.

@@ -20,6 +20,9 @@ pub const TOP: u32 = 33_554_432;
 /// The greatest magnitude of a carried residual.
 pub const MOST_CARRIED: i64 = 1 << 33;
 
+/// Acceptance, 0, and each refusal.
+pub const NUMBERS: usize = 15;
+
 /// Xorshift, 64 bits.
 pub struct Chance(u64);
 
@@ -146,6 +149,32 @@ impl Groups {
         groups.edges.push([1, 2, 1_800, 19_660_800, 1_000]);
         groups.fixed.push([3, 19_000_000]);
         groups
+    }
+
+    /// As hard to factor as the paper's P9, and not thin: 64·S is 19,200, the longest side's square 10,825. The side across from
+    /// node 1 is short, 5 long, so that d(1) is small beside w(2,1): l(2,1) is over 17·2^20, past 2^24.
+    pub fn leaning() -> Groups {
+        Groups {
+            nodes: vec![[0, 0], [100, 0], [104, 3]],
+            materials: vec![[10_000, 10_000, 1]],
+            ..Groups::base()
+        }
+    }
+
+    /// One triangle with heat, film and an edge, and so much capacity that it builds, however narrow, where it is not thin:
+    /// D, three N, two M, E, H, F, G, Z.
+    pub fn narrow(points: [[u32; 2]; 3]) -> Groups {
+        Groups {
+            // u is 1,666 to 600,000, and no pair above 128·(kx + ky).
+            d: [(area(points) / 100).clamp(1, 60_000) as u32, 19_660_800, 1],
+            nodes: points.to_vec(),
+            materials: vec![[1, 1, 5_000], [2, 3, 4_000]],
+            elements: vec![[1, 2, 3, 1, 4_000]],
+            heats: vec![[1, 3]],
+            films: vec![[1, 480, 19_660_800]],
+            edges: vec![[1, 2, 1_800, 19_660_800, 1_000]],
+            ..Groups::base()
+        }
     }
 
     /// The request's tetrahedron: D, four N, M, V, Z.
@@ -513,9 +542,9 @@ impl Groups {
             .collect();
     }
 
-    /// Like the paper's P9: two long thin elements of little capacity, hard to factor.
+    /// Like the paper's P9: two long narrow elements of little capacity, hard to factor, and thin one time in two.
     pub fn slivers(chance: &mut Chance) -> Groups {
-        let long = chance.within(20, 200);
+        let long = long(chance);
         let k = chance.within(1_000, 20_000);
         let mut groups = Groups::base();
         groups.nodes = vec![
@@ -526,13 +555,21 @@ impl Groups {
         ];
         groups.materials = vec![[k, k, chance.within(1, 200)]];
         groups.elements = vec![[1, 2, 3, 1, 1_000], [4, 2, 1, 1, chance.within(1, 1_000)]];
+        groups.film(chance);
         groups.tie(chance);
         groups
     }
 
-    /// Two long thin tetrahedra of little capacity, hard to factor.
+    /// A weak film on the first triangle, one time in two.
+    fn film(&mut self, chance: &mut Chance) {
+        if chance.one_in(2) {
+            self.films.push([1, chance.within(1, 1_000), 20_000_000]);
+        }
+    }
+
+    /// Two long narrow tetrahedra of little capacity, hard to factor.
     pub fn needles(chance: &mut Chance) -> Groups {
-        let long = chance.within(20, 200);
+        let long = long(chance);
         let k = chance.within(1_000, 20_000);
         let mut groups = Groups::corner();
         groups.nodes = vec![
@@ -548,6 +585,7 @@ impl Groups {
         groups.solids = vec![[1, 2, 3, 4, 1], [5, 4, 2, 1, 1]];
         if chance.one_in(2) {
             groups.elements = vec![[1, 2, 3, 1, chance.within(1, 1_000)]];
+            groups.film(chance);
         }
         groups.tie(chance);
         groups
@@ -678,6 +716,14 @@ impl Groups {
     }
 }
 
+/// How long a narrow triangle is: with a height of 1 it is not yet thin up to 57, and thin from 64 on.
+fn long(chance: &mut Chance) -> u32 {
+    match chance.one_in(2) {
+        true => chance.within(36, 57),
+        false => chance.within(58, 200),
+    }
+}
+
 /// All places of so many floors, rows and columns, as nodes are numbered.
 fn grid(floors: u32, rows: u32, columns: u32) -> impl Iterator<Item = (u32, u32, u32)> {
     (0..floors * rows * columns)
@@ -690,6 +736,75 @@ fn shuffled<const K: usize>(chance: &mut Chance, mut corners: [u32; K]) -> [u32;
         corners.swap(at, chance.index(at + 1));
     }
     corners
+}
+
+/// S.
+pub fn area([p, q, r]: [[u32; 2]; 3]) -> u64 {
+    let side = |to: [u32; 2], axis: usize| i64::from(to[axis]) - i64::from(p[axis]);
+    (side(q, 0) * side(r, 1) - side(r, 0) * side(q, 1)).unsigned_abs()
+}
+
+/// The squares of the three sides, the longest last.
+pub fn squares([p, q, r]: [[u32; 2]; 3]) -> [u64; 3] {
+    let mut squares = [[p, q], [q, r], [r, p]].map(|[from, to]| {
+        let way = |axis: usize| u64::from(from[axis].abs_diff(to[axis]));
+        way(0) * way(0) + way(1) * way(1)
+    });
+    squares.sort_unstable();
+    squares
+}
+
+/// The longest sides of triangles that are tried about the limit of thinness, by their ways along x and y: one whose square is
+/// 64·S and one more, one whose square is three less, some whose squares are 64·S, and of every length. No square is one or two less
+/// than a 64·S: no two squares sum to 3 mod 4 or to 6 mod 8.
+pub const SIDES: [(u32, u32); 16] = [
+    (8, 1),
+    (6, 5),
+    (32, 32),
+    (64, 0),
+    (64, 64),
+    (9, 0),
+    (12, 1),
+    (63, 1),
+    (64, 1),
+    (65, 0),
+    (100, 1),
+    (1_000, 999),
+    (4_064, 4_064),
+    (4_095, 0),
+    (4_095, 4_094),
+    (4_095, 4_095),
+];
+
+/// Of the triangles with that longest side the largest that is thin, where there is one, and the least that is not.
+pub fn about_thin(side: (u32, u32)) -> (Option<[[u32; 2]; 3]>, [[u32; 2]; 3]) {
+    let square = u64::from(side.0).pow(2) + u64::from(side.1).pow(2);
+    let limit = square.div_ceil(64);
+    let thin = (1..limit).rev().find_map(|s| beside(side, s));
+    let fair = (limit..).find_map(|s| beside(side, s));
+    (thin, fair.expect("a triangle that is not thin"))
+}
+
+/// A triangle with that longest side, not upright, and that S; none where the grid has no third point for it.
+fn beside((a, b): (u32, u32), s: u64) -> Option<[[u32; 2]; 3]> {
+    let (wide, high) = (u64::from(a), u64::from(b));
+    (0..=wide)
+        .filter(|x| (s + high * x) % wide == 0)
+        .map(|x| [x as u32, ((s + high * x) / wide) as u32])
+        .map(|third| [[0, 0], [a, b], third])
+        .find(|&points| points[2][1] <= 4_095 && squares(points)[2] == wide * wide + high * high)
+}
+
+/// The three corners in every order: each side of them first, second and last, either way round.
+pub fn turned([p, q, r]: [[u32; 2]; 3]) -> [[[u32; 2]; 3]; 6] {
+    [
+        [p, q, r],
+        [q, r, p],
+        [r, p, q],
+        [r, q, p],
+        [q, p, r],
+        [p, r, q],
+    ]
 }
 
 /// Rows of `one_of_each_solid`.

@@ -177,9 +177,7 @@ pub fn alone(trial: &mut Trial) {
         trial.call(&mut lent, Call::Replace { card: 8, new });
         trial.as_built(&lent, [1, 0]);
     }
-    let mut groups = Groups::base();
-    groups.nodes[2] = [101, 1];
-    groups.materials[0] = [10_000, 10_000, 1];
+    let mut groups = Groups::leaning();
     for film in [1, 100_000] {
         groups.edges = vec![[2, 3, film, FRAME, 4_000]];
         each_call(trial, &groups.table());

@@ -1,8 +1,9 @@
-//! The checked numbers, P1 to P12, those of the edge film, of the tetrahedron and of what a step carries, out of the archive alone.
+//! The checked numbers, P1 to P12, those of the edge film, of the tetrahedron, of what a step carries and of thin triangles, out of the
+//! archive alone.
 
 use crate::archive;
 use crate::case::{Call, Lent};
-use crate::decks::{triangle, Groups, E, G, V};
+use crate::decks::{triangle, turned, Groups, E, F, G, V};
 
 const START: i64 = 19_660_800;
 
@@ -136,7 +137,9 @@ fn refusals() {
         groups.nodes[2] = [101, 1];
         groups.materials[0] = [10_000, 10_000, 1];
     };
-    assert_eq!(built(thin), refused(8, 2), "P9");
+    assert_eq!(built(thin), refused(14, 1), "P9");
+    let leaning = |groups: &mut Groups| *groups = Groups::leaning();
+    assert_eq!(built(leaning), refused(8, 2), "P9's point, not thin");
     let (answer, [p, ..]) = built(|groups| thick(groups, 960));
     assert_eq!((answer, &p[..2]), (0, &[8_000_000, 4_000_000][..]), "P10");
     assert_eq!(built(|groups| thick(groups, 961)), refused(6, 1), "P10");
@@ -279,7 +282,38 @@ fn tetrahedra() {
     );
 }
 
+/// Triangles whose 64·S is the square of the longest side, one less, and three more, the nearest that there is: 2,048 and 4,096;
+/// 65; 61. In every order of the corners, in a build and over the buffers of another deck by the E and the F put in their places.
+fn thin() {
+    for (points, number) in [
+        ([[0, 0], [32, 32], [16, 17]], 0),
+        ([[0, 0], [64, 0], [32, 1]], 0),
+        ([[0, 0], [8, 1], [7, 1]], 14),
+        ([[0, 0], [6, 5], [1, 1]], 0),
+    ] {
+        for points in turned(points) {
+            let answer = number + 65_536 * u64::from(number != 0);
+            let groups = Groups::narrow(points);
+            let mut lent = lend(&groups);
+            assert_eq!(archive::call(Call::Build, &mut lent), answer, "{points:?}");
+            let mut lent = lend(&Groups::base());
+            archive::call(Call::Build, &mut lent);
+            lent.table = groups.table();
+            for (card, new) in [
+                (7, [E, 1, 2, 3, 1, 4_000]),
+                (9, [F, 1, 480, 19_660_800, 0, 0]),
+            ] {
+                let call = Call::Replace { card, new };
+                assert_eq!(archive::call(call, &mut lent), answer, "{points:?}");
+            }
+            // A step judges no element.
+            assert_eq!(archive::call(Call::Step, &mut lent) & 255, 0, "{points:?}");
+        }
+    }
+}
+
 pub fn all() {
+    thin();
     tetrahedra();
     matrices();
     steps();

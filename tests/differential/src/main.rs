@@ -18,10 +18,12 @@ mod limits;
 mod met;
 mod met_carried;
 mod met_solids;
+mod met_thin;
 mod plan;
 mod show;
 mod shrink;
 mod solids;
+mod thin;
 mod trial;
 
 use std::process::ExitCode;
@@ -40,7 +42,7 @@ fn main() -> ExitCode {
         }
     };
     figures::all();
-    println!("P1 to P12, the figures of the edge film, the tetrahedron and the residuals out of the archive: as the papers have them");
+    println!("P1 to P12, the figures of the edge film, the tetrahedron, the residuals and thin triangles out of the archive: as the papers have them");
     println!("seed {seed}");
     let mut trial = trial::Trial::new(seed, MOST);
     for (name, part) in plan::LENT.into_iter().chain(plan::DAMAGED) {

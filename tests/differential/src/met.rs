@@ -1,10 +1,11 @@
-//! What was met of G cards, of heats, of carried residuals and of solid decks: counts that must not stay at zero. `tests/kernel`
-//! takes this file too.
+//! What was met of G cards, of heats, of carried residuals, of solid decks and of thin triangles: counts that must not stay at zero.
+//! `tests/kernel` takes this file too.
 
 use crate::case::{Call, Lent};
 use crate::decks::{E, G, H, N};
 use crate::met_carried::{Carried, Stepped};
 use crate::met_solids::{Seen, Solids};
+use crate::met_thin::Thin;
 
 /// Acceptance, and the refusals that a G card can be the cause of, or stand in the way of.
 const ANSWERS: [u64; 6] = [0, 3, 4, 7, 8, 13];
@@ -49,6 +50,7 @@ pub struct Met {
     heats: [[u64; 7]; 3],
     carried: Carried,
     solids: Solids,
+    thin: Thin,
 }
 
 impl Met {
@@ -73,13 +75,15 @@ impl Met {
                 answer,
             });
         }
-        self.solids.see(&Seen {
+        let seen = Seen {
             call,
             bytes: &before.bytes,
             table,
             number,
             place,
-        });
+        };
+        self.solids.see(&seen);
+        self.thin.see(&seen);
         let card = |number: usize| table.chunks_exact(6).nth(number.wrapping_sub(1));
         let letter = |number: usize| card(number).map_or(0, |card| card[0]);
         let concerned = match (call, number) {
@@ -186,6 +190,7 @@ impl Met {
         lines.extend(things.map(|(count, thing)| format!("{count:>8} {thing}")));
         lines.extend(self.carried.lines());
         lines.extend(self.solids.lines());
+        lines.extend(self.thin.lines());
         lines
     }
 
@@ -212,6 +217,7 @@ impl Met {
         );
         unmet.extend(self.carried.unmet());
         unmet.extend(self.solids.unmet());
+        unmet.extend(self.thin.unmet());
         unmet
     }
 }

@@ -1,7 +1,7 @@
 //! What was met of solid decks and V cards: counts that must not stay at zero. `tests/kernel` takes this file too.
 
 use crate::case::Call;
-use crate::decks::{is_solid, E, F, G, H, M, N, T, V};
+use crate::decks::{is_solid, E, F, G, H, M, N, NUMBERS, T, V};
 use crate::met::cards_in;
 
 /// A call, the cards that it was lent, and its answer.
@@ -18,8 +18,8 @@ pub struct Seen<'a> {
 const WANTED: [&[usize]; 5] = [
     &[0, 1, 2, 3, 4, 9],
     &[0, 1, 2, 3, 4, 9],
-    &[0, 1, 2, 3, 4, 5, 6, 7, 8, 9],
-    &[0, 1, 2, 3, 4, 5, 6, 7, 8, 9, 10, 13],
+    &[0, 1, 2, 3, 4, 5, 6, 7, 8, 9, 14],
+    &[0, 1, 2, 3, 4, 5, 6, 7, 8, 9, 10, 13, 14],
     &[0, 1, 2, 3, 4, 8, 9, 10, 11, 12],
 ];
 
@@ -204,23 +204,23 @@ fn largest(pairs: [i64; 6]) -> i64 {
 }
 
 impl<'a> Seen<'a> {
-    fn accepted(&self) -> bool {
+    pub fn accepted(&self) -> bool {
         self.number == 0
     }
 
-    fn stepped(&self) -> bool {
+    pub fn stepped(&self) -> bool {
         self.accepted() && self.call == Call::Step
     }
 
-    fn built_to(&self, number: u64) -> bool {
+    pub fn built_to(&self, number: u64) -> bool {
         self.call == Call::Build && self.number == number
     }
 
-    fn solid(&self) -> bool {
+    pub fn solid(&self) -> bool {
         is_solid(self.table)
     }
 
-    fn cards(&self, letter: u32) -> impl Iterator<Item = &'a [u32]> {
+    pub fn cards(&self, letter: u32) -> impl Iterator<Item = &'a [u32]> {
         let cards = self.table.chunks_exact(6);
         cards.filter(move |card| card[0] == letter)
     }
@@ -234,7 +234,7 @@ impl<'a> Seen<'a> {
     }
 
     /// A card by its number, D being 1.
-    fn card(&self, number: usize) -> Option<&'a [u32]> {
+    pub fn card(&self, number: usize) -> Option<&'a [u32]> {
         self.table.chunks_exact(6).nth(number.wrapping_sub(1))
     }
 
@@ -252,7 +252,7 @@ impl<'a> Seen<'a> {
         self.card(self.place).map_or(0, |card| card[field])
     }
 
-    fn new_card(&self) -> Option<[u32; 6]> {
+    pub fn new_card(&self) -> Option<[u32; 6]> {
         match self.call {
             Call::Replace { new, .. } => Some(new),
             _ => None,
@@ -270,7 +270,7 @@ impl<'a> Seen<'a> {
         self.card(1 + nodes + self.field(1) as usize)
     }
 
-    fn element(&self, number: usize) -> &'a [u32] {
+    pub fn element(&self, number: usize) -> &'a [u32] {
         let nodes = self.count(N) + self.count(M);
         self.card(1 + nodes + number).expect("an element")
     }
@@ -366,9 +366,9 @@ fn nearest(n: i64, d: i64) -> i64 {
 
 pub struct Solids {
     /// Calls that were lent a solid deck, by their answers.
-    answers: [[u64; 14]; 5],
+    answers: [[u64; NUMBERS]; 5],
     /// Replacements by a V card.
-    replaced: [u64; 14],
+    replaced: [u64; NUMBERS],
     things: [u64; THINGS.len()],
     as_built: u64,
 }
@@ -376,8 +376,8 @@ pub struct Solids {
 impl Default for Solids {
     fn default() -> Solids {
         Solids {
-            answers: [[0; 14]; 5],
-            replaced: [0; 14],
+            answers: [[0; NUMBERS]; 5],
+            replaced: [0; NUMBERS],
             things: [0; THINGS.len()],
             as_built: 0,
         }
@@ -402,13 +402,13 @@ impl Solids {
     }
 
     pub fn lines(&self) -> Vec<String> {
-        let counts = |met: &[u64; 14]| -> String {
+        let counts = |met: &[u64; NUMBERS]| -> String {
             met[1..]
                 .iter()
                 .map(|count| format!(" {count:>6}"))
                 .collect()
         };
-        let heads: String = (1..14).map(|number| format!(" {number:>6}")).collect();
+        let heads: String = (1..NUMBERS).map(|number| format!(" {number:>6}")).collect();
         let mut lines = vec![format!("{:14} accepted{heads}", "solid decks")];
         for (name, met) in Call::NAMES.iter().zip(&self.answers) {
             lines.push(format!("{name:14} {:>8}{}", met[0], counts(met)));

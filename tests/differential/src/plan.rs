@@ -5,13 +5,13 @@ use crate::decks::{
     bytes_of, nodes_of, triangle, Chance, Groups, D, E, F, G, H, M, N, T, TOP, V, Z,
 };
 use crate::trial::Trial;
-use crate::{carried, edges, heats, limits, solids};
+use crate::{carried, edges, heats, limits, solids, thin};
 use reference::Card;
 
 pub type Part = (&'static str, fn(&mut Trial));
 
 /// Decks, own buffers and foreign ones.
-pub const LENT: [Part; 30] = [
+pub const LENT: [Part; 34] = [
     ("decks read and written back", valid_decks),
     ("builds over slices short, exact and long", builds),
     ("the paper's checked decks", checked_decks),
@@ -54,6 +54,13 @@ pub const LENT: [Part; 30] = [
     ),
     ("every tetrahedron of a block replaced", solids::replaced),
     ("edges that rise", solids::edges),
+    ("triangles about the limit of thinness", thin::about),
+    (
+        "triangles near the limit, by chance and along each side",
+        thin::near,
+    ),
+    ("flat, thin and stiff elements in turn", thin::in_turn),
+    ("thin triangles of solid decks", thin::of_solids),
 ];
 
 /// Damages come last, so that a fault in the plain work is met as such.
@@ -310,6 +317,7 @@ fn checked_decks(trial: &mut Trial) {
         base(),
         base(),
         base(),
+        Groups::leaning(),
     ];
     decks[1].elements[0] = [1, 3, 2, 1, 1_000];
     decks[2].heats.push([1, 3]);

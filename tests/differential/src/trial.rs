@@ -2,7 +2,7 @@
 
 use crate::carried;
 use crate::case::{Call, Case, Lent, MATRICES};
-use crate::decks::{nodes_of, triangle, Chance};
+use crate::decks::{nodes_of, triangle, Chance, NUMBERS};
 use crate::met::Met;
 use crate::show;
 use crate::shrink::shrink;
@@ -15,7 +15,7 @@ const EFFORT: u32 = 8;
 pub struct Trial {
     pub chance: Chance,
     /// Cases by call and by number: 0 is acceptance.
-    met: [[u64; 14]; 5],
+    met: [[u64; NUMBERS]; 5],
     things: Met,
     /// Decks after replacements that were compared with a fresh build.
     fresh: u64,
@@ -27,7 +27,7 @@ impl Trial {
     pub fn new(seed: u64, most: Duration) -> Trial {
         Trial {
             chance: Chance::seeded(seed),
-            met: [[0; 14]; 5],
+            met: [[0; NUMBERS]; 5],
             things: Met::default(),
             fresh: 0,
             began: Instant::now(),
@@ -116,17 +116,17 @@ impl Trial {
         self.met.iter().flatten().sum()
     }
 
-    /// Prints what was met. Was every refusal, and all of G, of heats, of residuals and of V?
+    /// Prints what was met. Was every refusal, and all of G, of heats, of residuals, of V and of thin triangles?
     pub fn report(&self) -> bool {
         print!("{:8} {:>8} {:>8}", "call", "cases", "done");
-        (1..14).for_each(|number| print!(" {number:>6}"));
+        (1..NUMBERS).for_each(|number| print!(" {number:>6}"));
         println!();
         for (name, met) in Call::NAMES.iter().zip(&self.met) {
             print!("{name:8} {:>8} {:>8}", met.iter().sum::<u64>(), met[0]);
             met[1..].iter().for_each(|count| print!(" {count:>6}"));
             println!();
         }
-        let unmet: Vec<usize> = (1..14)
+        let unmet: Vec<usize> = (1..NUMBERS)
             .filter(|&number| self.met.iter().all(|met| met[number] == 0))
             .collect();
         if !unmet.is_empty() {

@@ -30,8 +30,13 @@ mod met_carried;
 #[path = "../../differential/src/met_solids.rs"]
 #[allow(dead_code)]
 mod met_solids;
+#[path = "../../differential/src/met_thin.rs"]
+#[allow(dead_code)]
+mod met_thin;
 #[path = "../../differential/src/solids.rs"]
 mod solids;
+#[path = "../../differential/src/thin.rs"]
+mod thin;
 
 mod model;
 mod plan;

@@ -1,7 +1,9 @@
 //! What is tried, part by part.
 
 use crate::cases;
-use crate::decks::{bytes_of, text_of, Chance, Groups, D, E, F, G, H, M, N, T, TOP, V, Z};
+use crate::decks::{
+    about_thin, bytes_of, text_of, turned, Chance, Groups, D, E, F, G, H, M, N, SIDES, T, TOP, V, Z,
+};
 use crate::record::Record;
 use crate::trial::Trial;
 use reference::{Card, MAX_BYTES};
@@ -19,6 +21,7 @@ pub fn all(record: &mut Record) {
     wild_decks(record);
     edges(record);
     limits(record);
+    thin(record);
     damaged_decks(record);
     random_bytes(record);
     lengths(record);
@@ -41,10 +44,10 @@ fn tried(record: &mut Record, groups: &Groups) {
     record.steps(1);
 }
 
-/// P6 to P11 of the paper.
+/// P6 to P11 of the paper, and what P9 showed before a thin element was named.
 fn checked_decks(record: &mut Record) {
     let base = Groups::base;
-    let mut decks = [base(), base(), base(), base(), base(), base(), base()];
+    let mut decks = [(); 8].map(|()| base());
     decks[0].heats.push([1, 3]);
     (decks[2].materials[0][2], decks[2].d[0]) = (1, 60_000);
     decks[3].nodes = vec![[0, 0], [100, 0], [101, 1]];
@@ -55,6 +58,7 @@ fn checked_decks(record: &mut Record) {
         decks[at].materials[0][2] = capacity;
     }
     decks[6].nodes = vec![[0, 0], [50, 50], [100, 100]];
+    decks[7] = Groups::leaning();
     for groups in &decks {
         tried(record, groups);
     }
@@ -185,14 +189,13 @@ fn fault(chance: &mut Chance, card: &mut u32, new: &mut Card, cards: u32) {
 /// A second material with which the one element is refused: by 6, by 7 at a row's end, by 8.
 fn refusing_replacements(record: &mut Record) {
     let base = Groups::base;
-    let mut decks = [base(), base(), base()];
+    let mut decks = [base(), base(), Groups::leaning()];
     (decks[0].d[0], decks[0].elements[0][4]) = (1, 4_000);
     decks[0].materials = vec![[1_000, 1_000, 960], [1_000, 1_000, 961]];
     decks[1].d[0] = 60_000;
     decks[1].materials.push([1_000, 1_000, 1]);
     decks[2].d[0] = 100;
-    decks[2].nodes = vec![[0, 0], [100, 0], [101, 1]];
-    decks[2].materials = vec![[10_000, 10_000, 5_000], [10_000, 10_000, 1]];
+    decks[2].materials.insert(0, [10_000, 10_000, 5_000]);
     for groups in &mut decks {
         groups.heats.push([1, 700]);
         tried(record, groups);
@@ -349,7 +352,7 @@ fn limits(record: &mut Record) {
         tried(record, &groups);
     }
     groups = Groups::base();
-    for (long, k, thickness) in [(4, 500_000, 4_000), (942, 499_563, 17)] {
+    for (long, k, thickness) in [(4, 500_000, 4_000), (5, 487_805, 3_280)] {
         groups.nodes = vec![[0, 0], [1, 0], [0, long]];
         groups.materials = vec![[k, 1, 1]];
         for [i, j, k] in [[1, 2, 3], [2, 3, 1], [3, 1, 2]] {
@@ -365,6 +368,18 @@ fn limits(record: &mut Record) {
     tried(record, &groups);
     groups.materials = vec![[10, 10, 375]];
     tried(record, &groups);
+}
+
+/// With some longest sides the largest triangle that is thin and the least that is not, in every order of the corners. A deck that
+/// is refused leaves the one before it, which has no thin triangle, so that no replacement meets one here.
+fn thin(record: &mut Record) {
+    for side in &SIDES[..4] {
+        let (thin, fair) = about_thin(*side);
+        for points in thin.into_iter().chain([fair]).flat_map(turned) {
+            tried(record, &Groups::narrow(points));
+            record.replace(7, [E, 1, 2, 3, 2, 3_000]);
+        }
+    }
 }
 
 /// The old deck goes on stepping under each. First the newline of Z, a letter and a range, then by chance.
@@ -451,7 +466,7 @@ fn nonsense(record: &mut Record) {
 fn enough(record: &Record) {
     let [decks, replacements, steps] = record.met;
     assert!(decks[0] >= 15 && replacements[0] >= 60 && steps[0] >= 150);
-    assert!((1..=8).all(|number| decks[number] > 0));
+    assert!((1..=8).chain([14]).all(|number| decks[number] > 0));
     assert!([3, 4, 6, 7, 8, 13]
         .iter()
         .all(|&number| replacements[number] > 0));
@@ -469,7 +484,7 @@ pub fn lent(trial: &mut Trial) {
     let met = trial.met;
     assert!(met.iter().all(|met| met[0] >= 5 && met[9] > 0));
     let [.., replace, step] = met;
-    assert!([7, 8, 10, 13].iter().all(|&number| replace[number] > 0));
+    assert!([7, 8, 10, 13, 14].iter().all(|&number| replace[number] > 0));
     assert!([8, 10, 11, 12].iter().all(|&number| step[number] > 0));
     let unmet = trial.things.unmet();
     assert!(unmet.is_empty(), "not met: {unmet:?}");

@@ -1,6 +1,6 @@
 //! The commands, one a line, and what the guest shows of each.
 
-use crate::decks::{Chance, G, V};
+use crate::decks::{Chance, G, NUMBERS, V};
 use crate::model::Model;
 use crate::trial::Trial;
 use crate::words;
@@ -19,11 +19,11 @@ pub struct Record {
     pub traced: [Vec<u8>; 2],
     shown: Vec<String>,
     /// Accepted calls, and refused ones by number: decks, replacements, writes of steps.
-    pub met: [[u32; 14]; 3],
+    pub met: [[u32; NUMBERS]; 3],
     /// Of the replacements, those by a G card.
-    pub edges: [u32; 14],
+    pub edges: [u32; NUMBERS],
     /// And those by a V card.
-    pub solids: [u32; 14],
+    pub solids: [u32; NUMBERS],
 }
 
 fn number_of(answer: Answer) -> usize {
@@ -40,9 +40,9 @@ impl Record {
             decks: vec![],
             traced: [vec![], vec![]],
             shown: vec![],
-            met: [[0; 14]; 3],
-            edges: [0; 14],
-            solids: [0; 14],
+            met: [[0; NUMBERS]; 3],
+            edges: [0; NUMBERS],
+            solids: [0; NUMBERS],
         }
     }
 

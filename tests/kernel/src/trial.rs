@@ -2,7 +2,7 @@
 
 use crate::carried;
 use crate::case::{Call, Case, Lent};
-use crate::decks::Chance;
+use crate::decks::{Chance, NUMBERS};
 use crate::met::Met;
 use std::path::Path;
 use std::{fs, io};
@@ -23,7 +23,7 @@ pub struct Trial {
     pub chance: Chance,
     files: Vec<Cases>,
     /// Cases by call and by number: 0 is acceptance.
-    pub met: [[u32; 14]; 5],
+    pub met: [[u32; NUMBERS]; 5],
     pub things: Met,
 }
 
@@ -32,7 +32,7 @@ impl Trial {
         Trial {
             chance: Chance::seeded(seed),
             files: vec![Cases::default()],
-            met: [[0; 14]; 5],
+            met: [[0; NUMBERS]; 5],
             things: Met::default(),
         }
     }

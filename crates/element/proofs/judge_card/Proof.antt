@@ -3,7 +3,7 @@ use Rattle.element.proofs.judge_card.Statement.{statement}
 use Rattle.element.proofs.judge_card.Tie as tie
 use mathlib.Core.Path.{_∙_, ap, sym}
 use Rattle.paper.specs.Elements as paper
-use Rattle.triangle.specs.Forms.{madeOf}
+use Rattle.paper.specs.Elements.{madeOf}
 use Rattle.element.proofs.Ranges.{flat-card, solid-card, flat-sized, solid-sized, flat-step, solid-step, is-made-flat, is-made-solid}
 
 field-requires : tie.Need-field-requires

@@ -6,7 +6,8 @@ use mathlib.Core.Path.{_∙_, ap}
 use Prim.Native.Nat.{ℕ}
 use native.Mathlib.Omega.{arith}
 use lib.Dec.{leb}
-use Rattle.triangle.specs.Forms.{asBody, madeOf}
+use Rattle.paper.specs.Elements.{madeOf}
+use Rattle.triangle.specs.Forms.{asBody}
 use Rattle.laws.proofs.Elements.{stiff-u}
 use Rattle.triangle.proofs.Refused.{size-of-call, stiff-10, stiff-20, last-21}
 
