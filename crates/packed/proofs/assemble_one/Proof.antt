@@ -13,10 +13,10 @@ use Rattle.packed.specs.Asks.{addsTo}
 use Rattle.packed.proofs.Assembling.{partly, walk-none, walk-more, walk-size, walk-card}
 
 abbrev Inv-loop : tie.InvT-loop
-Inv-loop table all xs₀ row₀ xs row = (row ≤ rows table) × (xs ≡ partly (nodes table) (λ r. addsTo all (partAt table r)) row)
+Inv-loop table xs₀ all row₀ xs row = (row ≤ rows table) × (xs ≡ partly (nodes table) (λ r. addsTo all (partAt table r)) row)
 
 abbrev μ-loop : tie.MeasureT-loop
-μ-loop table all xs₀ row₀ xs row = rows table - row
+μ-loop table xs₀ all row₀ xs row = rows table - row
 
 fill-requires : tie.Need-fill-requires Inv-loop μ-loop
 fill-requires c κs = search needs
