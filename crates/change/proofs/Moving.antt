@@ -59,12 +59,9 @@ module _ (t : List ℕ) (row : ℕ) (new : List ℕ) (h : Changes t row new) whe
         let is : q ≡ squareOf 4 (at own) = hq .is ∙ square-ext 4 _ _ (λ i j k l. none-at i j (at own i j) k l) in
         holds-same (holds-square (length (x′ .corners)) 4 (2 ^ 57) (at own) few is (λ i j _ _. hq .held .small .each i j)) (omega arith) (hq .held .each)
 
-    pub added-long : length q ≡ 4
+    pub added-fits : (length q ≡ 4) × Small (2 ^ 60) q
     unfolding rowsOf
-    added-long = ap length (hq .is)
-
-    pub added-small : Small (2 ^ 60) q
-    added-small = record { each = λ i j. omega (arith, added-held .small .each i j) }
+    added-fits = (ap length (hq .is), record { each = λ i j. omega (arith, added-held .small .each i j) })
 
     pub moved-A : {card : List ℕ} {r : List (List ℤ)} → card ≡ rowAt t row → Taken t card q r → Holds (length (x′ .corners)) (2 ^ 58) (λ i j. squareA x′ i j -ℤ squareA x i j) r
     moved-A ec hr = holds-same (holds-minus 4 few added-held old-held (hr .is)) (omega arith) (λ i j k l. refl)
