@@ -25,7 +25,7 @@ extern "C" {
 	row(IMPORT_RANGE, 4, "card or record %u has a field out of its range, or a key that does not rise") \
 	row(IMPORT_LOADED, 13, "card %u is an H, F or T, which the deck may not have yet") \
 	row(INFINITE, 15, "record %u has a value that is not finite") \
-	row(RECORD, 16, "record %u has a wrong kind or an unused field filled, or is no right last record")
+	row(GARBLED, 16, "record %u has a wrong kind or an unused field filled, or is no right last record")
 
 #define GORMULAST_NUMBERED(name, number, words) GORMULAST_##name = number,
 enum gormulast_import_refusal { GORMULAST_IMPORT_REFUSALS(GORMULAST_NUMBERED) GORMULAST_IMPORTED = 0 };

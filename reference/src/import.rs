@@ -45,10 +45,10 @@ impl Record {
 
     /// Its card where it is one: 16, then 15, then 4 where a field can't even be a number of a card.
     fn card(&self) -> Result<Card, u8> {
-        let (letter, times) = self.kind().ok_or(RECORD)?;
+        let (letter, times) = self.kind().ok_or(GARBLED)?;
         let (used, unused) = self.values.split_at(times.len());
         if unused.iter().any(|&bits| bits != 0) {
-            return Err(RECORD);
+            return Err(GARBLED);
         }
         if !used.iter().all(|&bits| is_finite(bits)) {
             return Err(INFINITE);
@@ -91,7 +91,7 @@ fn try_import(table: &[u32], records: &[u8], second: &mut [u32]) -> Result<(), R
     }
     let count = records().len();
     if !Record::of(tail).is_tail(count) {
-        return Err(Refusal::at_index(RECORD, count));
+        return Err(Refusal::at_index(GARBLED, count));
     }
 
     // Of each element one H, of each triangle one F, of each node one T at most, and the deck's own G: never too many.
