@@ -14,6 +14,8 @@ pub const SCALE: u8 = 11;
 pub const UNSETTLED: u8 = 12;
 pub const REPLACEMENT: u8 = 13;
 pub const THIN: u8 = 14;
+pub const INFINITE: u8 = 15;
+pub const GARBLED: u8 = 16;
 
 /// A row of the paper's table of refusals, with its place.
 #[derive(Clone, Copy, Debug, PartialEq, Eq)]
@@ -42,7 +44,7 @@ impl Refusal {
     }
 }
 
-/// Of reading, writing, building and replacing.
+/// Of reading, writing, building, replacing and importing.
 #[derive(Clone, Copy, Debug, PartialEq, Eq)]
 pub enum Answer {
     Done,

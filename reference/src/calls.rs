@@ -1,4 +1,4 @@
-//! The six calls.
+//! The calls but `import`.
 
 use crate::answer::*;
 use crate::card::*;

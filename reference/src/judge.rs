@@ -136,7 +136,7 @@ pub fn in_range(counts: &Counts, solid: bool, card: &Card) -> bool {
 }
 
 /// In H, F and T the first field rises strictly within the group, in G the two nodes as a pair.
-fn rising(before: &Card, card: &Card) -> bool {
+pub fn rising(before: &Card, card: &Card) -> bool {
     before[0] != card[0]
         || match card[0] {
             H | F | T => before[1] < card[1],
@@ -275,6 +275,12 @@ impl<'a> Deck<'a> {
     /// The E or V card of an element, counted from 0.
     pub fn element(&self, element: usize) -> Card {
         self.card(self.counts.first_element() + element)
+    }
+
+    /// The number of E cards.
+    pub fn triangles(&self) -> usize {
+        let elements = self.cards().skip(self.counts.first_element());
+        elements.take_while(|card| card[0] == E).count()
     }
 
     /// The H, F, G and T cards.

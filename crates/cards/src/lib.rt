@@ -170,7 +170,7 @@ fn on_triangle(counts: Counts, t: &[u32], card: &[u32]) -> bool
 }
 
 // What a card asks of those before it.
-fn asks_rows(counts: Counts, t: &[u32], k: Kind, card: &[u32]) -> bool
+pub fn asks_rows(counts: Counts, t: &[u32], k: Kind, card: &[u32]) -> bool
     requires { ⌜ length (now card) ≡ 6 ⌝ }
     ensures { λ r. ⌜ r ≡ asks counts (paper.rowAt (now (t .entry))) (now (card .entry)) k ⌝ }
 {

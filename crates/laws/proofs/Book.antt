@@ -31,7 +31,7 @@ use Rattle.paper.specs.Step.{boardOf, isFixed, A′, rightSide, residual}
 use Rattle.paper.specs.Calls.{Lent, Exit, boardAt, stepCall}
 use Rattle.paper.specs.Replacements.{present, Holds}
 use Rattle.paper.specs.Running.{runFrom, runCall}
-use Rattle.paper.specs.Book.{stored, carriedIn, power, book, Closed, OwnMatrices, lentTo, Account, accepted, stepOn, stepsOn, AllOwn}
+use Rattle.paper.specs.Book.{stored, carriedIn, power, book, Closed, OwnMatrices, lentTo, Account, counted, stepOn, stepsOn, AllOwn}
 use Rattle.paper.specs.declared.Answer.the-variants.{Done}
 use Rattle.paper.specs.declared.Kind.{Kind}
 use Rattle.paper.specs.declared.Kind.the-variants.{D, N, M, E, «V», H, F, G, T, Z, Other}
@@ -200,7 +200,7 @@ module _ (t : List ℕ) (c : Closed t) (start : ℤ) where
       z : Lent
       z = lentTo s (x .lent)
 
-      go : (a : Stepped) → stepCall z .answer ≡ a → book (stepCall z .lent) ≡ start +ℤ pos (x .steps + accepted a) *ℤ power t
+      go : (a : Stepped) → stepCall z .answer ≡ a → book (stepCall z .lent) ≡ start +ℤ pos (x .steps + counted a) *ℤ power t
       go (Settled k) e =
           one-step z (subst Closed (sym (h .deck-is)) c) (subst (λ (d : List ℕ). OwnMatrices d s) (sym (h .deck-is)) o) k e
           ∙ (λ i. h .shows i +ℤ power (h .deck-is i)) ∙ more start (power t) (x .steps)

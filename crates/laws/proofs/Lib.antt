@@ -46,3 +46,10 @@ pub mod Carried
 pub mod Running
 pub mod Balance
 pub mod Book
+pub mod Rounds
+pub mod Floats
+pub mod Recorded
+pub mod Second
+pub mod Passing
+pub mod Imported
+pub mod Importing

@@ -8,3 +8,4 @@ pub mod Edges
 pub mod Orders
 pub mod Redone
 pub mod Solids
+pub mod Recorded

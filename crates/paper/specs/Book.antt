@@ -51,12 +51,12 @@ pub record Account : Type 0 where
   pub lent : Lent
   pub steps : ℕ
 
-abbrev pub accepted : Stepped → ℕ
-accepted (Settled c) = 1
-accepted (Refused r) = 0
+abbrev pub counted : Stepped → ℕ
+counted (Settled c) = 1
+counted (Refused r) = 0
 
 unfoldable pub stepOn : Slices → Account → Account
-stepOn s x = let y = stepCall (lentTo s (x .lent)) in record { lent = y .lent; steps = x .steps + accepted (y .answer) }
+stepOn s x = let y = stepCall (lentTo s (x .lent)) in record { lent = y .lent; steps = x .steps + counted (y .answer) }
 
 unfoldable pub stepsOn : List Slices → Account → Account
 stepsOn [] x = x

@@ -89,6 +89,8 @@ pub enum Refusal {
     Unsettled(u32),
     Replacement(u32),
     Thin(u32),
+    Infinite(u32),
+    Garbled(u32),
 }
 
 // A refusal's number and place.
@@ -149,6 +151,8 @@ pub fn given_by(r: Refusal) -> Given
         Refusal::Unsettled(line) => row(12, line),
         Refusal::Replacement(card) => row(13, card),
         Refusal::Thin(element) => row(14, element),
+        Refusal::Infinite(record) => row(15, record),
+        Refusal::Garbled(record) => row(16, record),
     }
 }
 

@@ -10,3 +10,4 @@ pub mod Leaving
 pub mod Heat
 pub mod Step
 pub mod Book
+pub mod Records

@@ -1,8 +1,10 @@
 //! Decks, buffers and chance for the tests.
 #![allow(dead_code, unused_imports)]
 
+mod records;
 mod refusing;
 
+pub use records::*;
 use reference::{Answer, Card, Ran, Refusal, Stepped};
 pub use refusing::*;
 
@@ -20,7 +22,7 @@ pub const TOP: u32 = 33_554_432;
 /// The greatest magnitude of a carried residual.
 pub const MOST_CARRIED: i64 = 1 << 33;
 
-/// Acceptance, 0, and each refusal.
+/// Acceptance, 0, and each refusal of the model's own calls.
 pub const NUMBERS: usize = 15;
 
 /// Xorshift, 64 bits.

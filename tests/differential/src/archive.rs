@@ -2,46 +2,7 @@
 
 use crate::case::{Call, Case, Lent, Outcome};
 use crate::face::*;
-
-/// A slice with marks before and after it, to see a number written outside of what was lent.
-struct Fenced<A> {
-    numbers: Vec<A>,
-    mark: A,
-}
-
-const FENCE: usize = 8;
-
-impl<A: Copy + PartialEq> Fenced<A> {
-    fn new(slice: &[A], mark: A) -> Fenced<A> {
-        let mut numbers = vec![mark; FENCE];
-        numbers.extend_from_slice(slice);
-        numbers.extend([mark; FENCE]);
-        Fenced { numbers, mark }
-    }
-
-    fn length(&self) -> usize {
-        self.numbers.len() - 2 * FENCE
-    }
-
-    fn pointer(&mut self) -> *mut A {
-        self.numbers[FENCE..].as_mut_ptr()
-    }
-
-    /// Writes what is there now into the slice that it was made of.
-    fn open(&self, what: &str, slice: &mut [A]) {
-        let (before, rest) = self.numbers.split_at(FENCE);
-        let (now, after) = rest.split_at(slice.len());
-        if before
-            .iter()
-            .chain(after)
-            .any(|&number| number != self.mark)
-        {
-            println!("the archive wrote outside of the lent {what}");
-            std::process::exit(1);
-        }
-        slice.copy_from_slice(now);
-    }
-}
+use crate::fenced::Fenced;
 
 impl Case {
     pub fn by_archive(&self) -> Outcome {

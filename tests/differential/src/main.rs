@@ -12,6 +12,7 @@ mod carried;
 mod case;
 mod edges;
 mod face;
+mod fenced;
 mod figures;
 mod heats;
 mod limits;

@@ -1,0 +1,184 @@
+-- Request [7]: records of the bench tool, 12 bytes each, become the H, F and T cards of a second table.
+use mathlib.Core.Bool.{Bool, cond, _&&_, _||_}
+use mathlib.Core.List.{List, [], _∷_, _++_}
+use Prim.Native.Nat.{ℕ, zero, suc, _+_, _-_, _*_, _/_, _%_}
+use lib.Dec.{ltb, leb, eqb}
+use lib.ListN.{length, getD, take, drop}
+use Rattle.whole.specs.Sums.{firstFrom}
+use Rattle.paper.specs.Ticks.{kelvin}
+use Rattle.paper.specs.Refusals.{Outcome, refused, done, when, then, andThen, answerOf, told, packed}
+use Rattle.paper.specs.Kinds.{about, kindAt, letterOf, isA}
+use Rattle.paper.specs.Cards.{before, cards, columnsOf, inRange, countsAt, rowAt, rows}
+use Rattle.paper.specs.Text.{noCard}
+use Rattle.paper.specs.Judge.{asks, judged}
+use Rattle.paper.specs.Calls.{joined, whenDone, ToC, gave}
+use Rattle.paper.specs.Singles.{finite, scaled}
+use Rattle.paper.specs.declared.Answer.{Answer}
+use Rattle.paper.specs.declared.Answer.the-variants.{Done, Refused}
+use Rattle.paper.specs.declared.Refusal.the-variants.{Length, Range, Short, Replacement, Infinite, Garbled}
+use Rattle.paper.specs.declared.Counts.{Counts}
+use Rattle.paper.specs.declared.Kind.the-variants.{H, F, T, Z}
+
+-- ---- a record, little-endian: kind and number of 16 bits each, two single values
+
+-- 16 and 32 bits from byte k on
+unfoldable pub halfAt : List ℕ → ℕ → ℕ
+halfAt bs k = getD bs k 0 + 256 * getD bs (k + 1) 0
+
+unfoldable pub wordAt : List ℕ → ℕ → ℕ
+wordAt bs k = halfAt bs k + 65536 * halfAt bs (k + 2)
+
+abbrev pub recordKind : List ℕ → ℕ
+recordKind bs = halfAt bs 0
+
+abbrev pub recordNumber : List ℕ → ℕ
+recordNumber bs = halfAt bs 2
+
+-- the bits of its two values
+abbrev pub firstBits : List ℕ → ℕ
+firstBits bs = wordAt bs 4
+
+abbrev pub secondBits : List ℕ → ℕ
+secondBits bs = wordAt bs 8
+
+-- the cards: heat in W as µW; a film in W/(m² K) as mW/(m² K), and its ambient in kelvins as ticks; a fixed node's ticks
+abbrev pub heatCard : ℕ → ℕ → List ℕ
+heatCard number x = letterOf H ∷ number ∷ scaled 1000000 x ∷ 0 ∷ 0 ∷ 0 ∷ []
+
+abbrev pub filmCard : ℕ → ℕ → ℕ → List ℕ
+filmCard number x y = letterOf F ∷ number ∷ scaled 1000 x ∷ scaled kelvin y ∷ 0 ∷ 0 ∷ []
+
+abbrev pub fixedCard : ℕ → ℕ → List ℕ
+fixedCard number x = letterOf T ∷ number ∷ scaled kelvin x ∷ 0 ∷ 0 ∷ 0 ∷ []
+
+-- one value is used: the other is positive zero, all its bits 0, or it is 16; then a value that isn't finite is 15
+unfoldable pub oneUsed : ℕ → (ℕ → List ℕ) → ℕ → ℕ → Outcome (List ℕ)
+oneUsed place card x y = when (eqb y 0) (Garbled place) (when (finite x) (Infinite place) (done (card x)))
+
+unfoldable pub bothUsed : ℕ → (ℕ → ℕ → List ℕ) → ℕ → ℕ → Outcome (List ℕ)
+bothUsed place card x y = when (finite x && finite y) (Infinite place) (done (card x y))
+
+-- the card of a record at a place, or its refusal
+unfoldable pub recordCard : ℕ → List ℕ → Outcome (List ℕ)
+recordCard place bs =
+    let number = recordNumber bs in
+    let x = firstBits bs in
+    let y = secondBits bs in
+    cond (eqb (recordKind bs) 1) (oneUsed place (heatCard number) x y)
+    (cond (eqb (recordKind bs) 2) (bothUsed place (filmCard number) x y)
+    (cond (eqb (recordKind bs) 3) (oneUsed place (fixedCard number) x y) (refused (Garbled place))))
+
+-- ---- the records in turn
+
+abbrev pub recordAt : List ℕ → ℕ → List ℕ
+recordAt bs i = take 12 (drop (i * 12) bs)
+
+-- how many stand before the last
+abbrev pub recordCount : List ℕ → ℕ
+recordCount bs = length bs / 12 - 1
+
+-- refusal 1: none, more than 65,536 bytes, or not in twelves
+unfoldable pub inTwelves : List ℕ → Bool
+inTwelves bs = leb 1 (length bs) && leb (length bs) 65536 && eqb (length bs % 12) 0
+
+-- the last record: kind 0, the count of those before it, and two positive zeros
+unfoldable pub isTail : ℕ → List ℕ → Bool
+isTail n bs = eqb (recordKind bs) 0 && eqb (recordNumber bs) n && eqb (firstBits bs) 0 && eqb (secondBits bs) 0
+
+-- kinds rise, and numbers rise within a kind
+unfoldable pub follows : ℕ → ℕ → List ℕ → Bool
+follows kind number bs = ltb kind (recordKind bs) || (eqb kind (recordKind bs) && ltb number (recordNumber bs))
+
+-- what 4 asks of a card beside its order, of a deck that counts z: its columns, and the cards before it
+unfoldable pub fitting : Counts → (ℕ → List ℕ) → List ℕ → Bool
+fitting z row card = inRange (columnsOf z card) card 5 0 && asks z row card (kindAt card)
+
+-- a record after one of this kind and number: 16, 15, then 4
+unfoldable pub recordJudged : Counts → (ℕ → List ℕ) → ℕ → ℕ → ℕ → List ℕ → Answer
+recordJudged z row kind number place bs =
+    answerOf (then (recordCard place bs) (λ card. when (fitting z row card && follows kind number bs) (Range place) (done card)))
+
+-- n records from the i-th on, counted from 0
+unfoldable pub recordsFrom : Counts → (ℕ → List ℕ) → List ℕ → ℕ → ℕ → ℕ → ℕ → Answer
+recordsFrom z row bs zero i kind number = Done
+recordsFrom z row bs (suc n) i kind number =
+    andThen (recordJudged z row kind number (suc i) (recordAt bs i))
+    (recordsFrom z row bs n (suc i) (recordKind (recordAt bs i)) (recordNumber (recordAt bs i)))
+
+-- and then the last
+unfoldable pub recordsJudged : Counts → (ℕ → List ℕ) → List ℕ → Answer
+recordsJudged z row bs =
+    let n = recordCount bs in
+    andThen (recordsFrom z row bs n 0 0 0) (cond (isTail n (recordAt bs n)) Done (Refused (Garbled (suc n))))
+
+-- ---- the second table
+
+-- the first H, F or T of a deck, by its card's number; 0 where there is none
+abbrev pub isMade : List ℕ → Bool
+isMade card = isA H card || isA F card || isA T card
+
+unfoldable pub firstMade : List ℕ → ℕ
+firstMade t = firstFrom (rows t - 1) 0 (λ row. isMade (rowAt t row))
+
+abbrev pub made : Outcome (List ℕ) → List ℕ
+made (refused r) = noCard
+made (done card) = card
+
+unfoldable pub recordRow : List ℕ → ℕ → List ℕ
+recordRow bs i = made (recordCard (suc i) (recordAt bs i))
+
+-- of n records from the i-th on, those before the first fixed node
+unfoldable pub earlyFrom : List ℕ → ℕ → ℕ → ℕ
+earlyFrom bs zero i = 0
+earlyFrom bs (suc n) i = cond (ltb (recordKind (recordAt bs i)) 3) (suc (earlyFrom bs n (suc i))) 0
+
+abbrev pub early : List ℕ → ℕ
+early bs = earlyFrom bs (recordCount bs) 0
+
+-- Z of a deck's counts and n loads more
+unfoldable pub lastRow : Counts → ℕ → List ℕ
+lastRow z n = letterOf Z ∷ (42 * (cards z + n)) ∷ z .nodes ∷ z .materials ∷ z .elements ∷ (z .loads + n) ∷ []
+
+-- the deck's cards up to its elements, heats and films, the deck's edges, fixed nodes, Z
+unfoldable pub secondRow : Counts → (ℕ → List ℕ) → List ℕ → ℕ → List ℕ
+secondRow z row bs i =
+    let base = before z (about H .section) in
+    let n = recordCount bs in
+    cond (ltb i base) (row i)
+    (cond (ltb i (base + early bs)) (recordRow bs (i - base))
+    (cond (ltb i (cards z + early bs)) (row (i - early bs))
+    (cond (ltb i (cards z + n)) (recordRow bs (i - cards z)) (lastRow z n))))
+
+abbrev pub secondRows : List ℕ → List ℕ → ℕ
+secondRows t bs = rows t + recordCount bs
+
+unfoldable pub secondTable : List ℕ → List ℕ → List ℕ
+secondTable t bs = joined (secondRow (countsAt t) (rowAt t) bs) (secondRows t bs) 0
+
+-- ---- the call: the deck's own refusals, 13, 1, the records in turn, 9
+
+unfoldable pub roomJudged : List ℕ → List ℕ → ℕ → Answer
+roomJudged t bs room =
+    andThen (recordsJudged (countsAt t) (rowAt t) bs) (cond (ltb room (secondRows t bs * 6)) (Refused Short) Done)
+
+unfoldable pub imports : List ℕ → List ℕ → ℕ → Answer
+imports t bs room =
+    andThen (judged t)
+    (cond (eqb (firstMade t) 0)
+    (cond (inTwelves bs) (roomJudged t bs room) (Refused Length))
+    (Refused (Replacement (firstMade t))))
+
+pub record Imported : Type 0 where
+  pub answer : Answer
+  pub second : List ℕ
+
+abbrev pub imported : Answer → List ℕ → Imported
+imported answer second = record { answer = answer; second = second }
+
+abbrev pub importCall : List ℕ → List ℕ → List ℕ → Imported
+importCall t bs second =
+    let answer = imports t bs (length second) in
+    imported answer (whenDone answer (secondTable t bs ++ drop (secondRows t bs * 6) second) second)
+
+abbrev pub importToC : List ℕ → List ℕ → List ℕ → ToC (List ℕ)
+importToC t bs second = let x = importCall t bs second in gave (packed (told (x .answer))) (x .second)
