@@ -8,7 +8,7 @@ use native.Mathlib.Nat.{eq-or-lt-of-le, le-of-suc-le-suc, add-zero, add-mul, suc
 use native.Mathlib.Decide.{ℕ-discrete}
 use native.Mathlib.Numerals.{add-one}
 use native.Mathlib.Omega.{arith}
-use lib.IntN.{ℤ, pos, natAbs, _+ℤ_, _-ℤ_, _*ℤ_, zero-*ℤ, +ℤ-idl, +ℤ-idr}
+use lib.IntN.{ℤ, pos, natAbs, _+ℤ_, _-ℤ_, _*ℤ_, zero-*ℤ, +ℤ-idl, +ℤ-idr, +ℤ-assoc}
 use lib.ListN.{length, set, drop, replicate, length-set, length-append, length-replicate, length-drop, getD-replicate, List·getD-append, drop-of-length-le}
 use lib.Seq.{getD-drop, getD-append-add, getD-at, getD-set-same, getD-set-other, set-at, drop-cons, ext-getD}
 use Rattle.whole.specs.Sums.{sum, sumN, any, firstFrom, table}
@@ -56,6 +56,23 @@ sum-none (suc n) f h = λ i. sum-none n f (λ k l. h k (omega arith)) i +ℤ h n
 
 pub sum-zero : (n : ℕ) → sum n (λ k. pos 0) ≡ pos 0
 sum-zero n = sum-none n (λ k. pos 0) (λ k l. refl)
+
+-- a sum whose first c terms are 0
+skip : (c d : ℕ) (f : ℕ → ℤ) → ((k : ℕ) → k < c → f k ≡ pos 0) → sum (c + d) f ≡ sum d (λ k. f (c + k))
+unfolding sum
+skip c zero f z = let e : c + 0 ≡ c = omega arith in ap (λ (n : ℕ). sum n f) e ∙ sum-none c f z
+skip c (suc d) f z =
+    let e : c + suc d ≡ suc (c + d) = omega arith in
+    ap (λ (n : ℕ). sum n f) e ∙ ap (λ (x : ℤ). x +ℤ f (c + d)) (skip c d f z)
+
+pub sum-skip : (c n : ℕ) (f : ℕ → ℤ) → c ≤ n → ((k : ℕ) → k < c → f k ≡ pos 0) → sum n f ≡ sum (n - c) (λ k. f (c + k))
+sum-skip c n f h z = let e : n ≡ c + (n - c) = omega arith in ap (λ (k : ℕ). sum k f) e ∙ skip c (n - c) f z
+
+-- a sum by its first term
+pub sum-first : (n : ℕ) (f : ℕ → ℤ) → sum (suc n) f ≡ f 0 +ℤ sum n (λ k. f (suc k))
+unfolding sum
+sum-first zero f = +ℤ-idl (f 0) ∙ sym (+ℤ-idr (f 0))
+sum-first (suc n) f = ap (λ (z : ℤ). z +ℤ f (suc n)) (sum-first n f) ∙ +ℤ-assoc (f 0) (sum n (λ k. f (suc k))) (f (suc n))
 
 -- all terms but one are 0
 pub sum-single : (n i : ℕ) (f : ℕ → ℤ) → i < n → ((k : ℕ) → k < n → (k ≡ i → ⊥) → f k ≡ pos 0) → sum n f ≡ f i
