@@ -13,6 +13,7 @@ pub mod Faces
 pub mod Solids
 pub mod Square
 pub mod Spans
+pub mod Firsts
 pub mod Edge
 pub mod Places
 pub mod Fields
