@@ -3,6 +3,7 @@ pub mod Scale
 pub mod Outcomes
 pub mod Tables
 pub mod Update
+pub mod KeptFactor
 pub mod Finished
 pub mod Letters
 pub mod Decks
@@ -22,6 +23,7 @@ pub mod Judging
 pub mod Judged
 pub mod Alike
 pub mod Kept
+pub mod Coupled
 pub mod NewCard
 pub mod InTurn
 pub mod Elements
