@@ -49,6 +49,7 @@ pub mod Left
 pub mod Carried
 pub mod Running
 pub mod KeptCalls
+pub mod Widened
 pub mod Balance
 pub mod Book
 pub mod Rounds
