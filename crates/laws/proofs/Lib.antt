@@ -50,6 +50,7 @@ pub mod Carried
 pub mod Running
 pub mod KeptCalls
 pub mod Widened
+pub mod KeptLeft
 pub mod Balance
 pub mod Book
 pub mod Rounds

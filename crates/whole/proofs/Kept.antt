@@ -12,7 +12,7 @@ use borrow.Author.Tests.{le-leb, lt-leb, leb-true, leb-false, eq-eqb, ne-eqb}
 use lib.Dec.{leb, eqb}
 use lib.IntN.{ℤ, pos}
 use lib.ListN.{length, take, drop, set, length-append, List·getD-append}
-use lib.Seq.{getD-append-add, getD-set-same, getD-set-other, ext-getD}
+use lib.Seq.{take-all, take-append-le, getD-take, getD-append-add, getD-set-same, getD-set-other, ext-getD}
 use Rattle.whole.specs.Sums.{table}
 use Rattle.whole.specs.Packed.{tri, cell, place, entry, lower}
 use Rattle.whole.proofs.Sums.{table-length, table-at, table-ext}
@@ -101,6 +101,18 @@ kept-ext first zero f g h = refl
 kept-ext first (suc n) f g h = λ d.
     kept-ext first n f g (λ i j l. h i j (omega arith)) d
     ++ table-ext (suc n - first n) (λ k. f n (first n + k)) (λ k. g n (first n + k)) (λ k l. h n (first n + k) (omega arith) (omega arith) (omega arith)) d
+
+-- the first m of n rows
+pub kept-take : (first : ℕ → ℕ) (m n : ℕ) (f : ℕ → ℕ → ℤ) → m ≤ n → take (starts first m) (keptLower first n f) ≡ keptLower first m f
+unfolding keptLower starts
+kept-take first m zero f h = let z : m ≡ 0 = omega arith in rw z refl
+kept-take first m (suc n) f h =
+    ⊎-elim
+    (λ e. rw e (take-all (starts first (suc n)) (keptLower first (suc n) f) (omega (arith, length-kept first (suc n) f))))
+    (λ l.
+    let last = table (suc n - first n) (λ k. f n (first n + k)) in
+    take-append-le (starts first m) (keptLower first n f) last (omega (arith, length-kept first n f, starts-le first m n (NatL.le-of-suc-le-suc l))) ∙ kept-take first m n f (NatL.le-of-suc-le-suc l))
+    (NatL.eq-or-lt-of-le h)
 
 -- ---- reading back
 
@@ -206,6 +218,17 @@ pub shrink-expand : (first : ℕ → ℕ) → Low first → (n : ℕ) (ks : List
 shrink-expand first low n ks e =
     let long = length-shrink first n (expand first n ks) in
     ext-getD (pos 0) (shrink first n (expand first n ks)) ks (long ∙ sym e) (λ k l. shrink-cell first low n ks k (omega (arith, long)))
+
+-- THEOREM. The kept rows above row m are told by the packed rows above it.
+pub shrink-above : (first : ℕ → ℕ) (m n : ℕ) (xs ys : List ℤ) → m ≤ n → take (tri m) xs ≡ take (tri m) ys → take (starts first m) (shrink first n xs) ≡ take (starts first m) (shrink first n ys)
+unfolding shrink
+shrink-above first m n xs ys h e =
+    kept-take first m n (entry xs) h
+    ∙ kept-ext first m (entry xs) (entry ys) (λ i j l a b. front xs i j l b ∙ ap (λ (zs : List ℤ). entry zs i j) e ∙ sym (front ys i j l b))
+    ∙ sym (kept-take first m n (entry ys) h)
+  where
+    front : (zs : List ℤ) (i j : ℕ) → i < m → j ≤ i → entry zs i j ≡ entry (take (tri m) zs) i j
+    front zs i j l b = sym (getD-take (tri m) zs (place i j) (pos 0) (omega (arith, place-low i j b, tri-below i m l)))
 
 -- THEOREM. The kept rows of a matrix are those of its packed triangle, and expand to it where it vanishes left of the first columns.
 pub kept-shrunk : (first : ℕ → ℕ) (n : ℕ) (f : ℕ → ℕ → ℤ) → keptLower first n f ≡ shrink first n (lower n f)
