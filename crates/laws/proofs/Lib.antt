@@ -51,6 +51,7 @@ pub mod Running
 pub mod KeptCalls
 pub mod Widened
 pub mod KeptLeft
+pub mod KeptDemand3
 pub mod Balance
 pub mod Book
 pub mod Rounds

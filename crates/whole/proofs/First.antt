@@ -41,6 +41,12 @@ first-holds (suc n) i f h = go (f i) refl h (λ q. first-holds n (suc i) f q)
 
 -- ---- a loop that looks for it
 
+-- there is none
+pub first-absent : (n i : ℕ) (f : ℕ → Bool) → ((k : ℕ) → i ≤ k → k < i + n → f k ≡ false) → firstFrom n i f ≡ 0
+unfolding firstFrom
+first-absent zero i f h = refl
+first-absent (suc n) i f h = rw (h i (omega arith) (omega arith)) (first-absent n (suc i) f (λ k a b. h k (omega arith) (omega arith)))
+
 pub record Looking (f : ℕ → Bool) (n i : ℕ) : Type 0 where
   pub upto : i ≤ n
   pub left : firstFrom n 0 f ≡ firstFrom (n - i) i f
