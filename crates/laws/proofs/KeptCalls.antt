@@ -90,6 +90,10 @@ stray-none z e = go (strayRow (z .lent .table) (nodes (z .lent .table)) (z .star
     go zero q = q
     go (suc k) q = done-refused (rw q at e)
 
+pub stray-pass : (z : Kept) → strayRow (z .lent .table) (nodes (z .lent .table)) (z .starts) ≡ 0 → startsJudged z ≡ Done
+unfolding startsJudged
+stray-pass z e = rw e refl
+
 -- THEOREM. Then the lent starts are the deck's, as far as its rows go.
 pub own-starts : (t st : List ℕ) → strayRow t (nodes t) st ≡ 0 → nodes t ≤ length st → take (nodes t) st ≡ rowStarts (firstOf t) (nodes t)
 unfolding strayRow

@@ -37,7 +37,7 @@ use Rattle.laws.proofs.Firsts.{first-low}
 use Rattle.laws.proofs.Coupled.{first-same}
 use Rattle.laws.proofs.Narrowed.{onto-length, shrink-front}
 use Rattle.laws.proofs.Calls as packed
-use Rattle.laws.proofs.KeptCalls.{wideOf, buildJudged, replaceJudged, Roomy, lengths-told}
+use Rattle.laws.proofs.KeptCalls.{wideOf, buildJudged, replaceJudged, lengths-told, stray-pass}
 use Rattle.laws.proofs.KeptCalls as calls
 use Rattle.laws.proofs.Widened.{SameRows, same-rows, Rooms, rooms, widened-blank, all-present, build-answer, build-kept, build-starts, build-widened, replace-answer, replace-kept, replace-rows, replace-widened}
 
@@ -55,47 +55,46 @@ long-of : (t t″ : List ℕ) → SameRows t t″ → keptLong t″ ≡ keptLong
 long-of t t″ h = ap (starts (firstOf t″)) (h .count) ∙ starts-ext (firstOf t″) (firstOf t) (nodes t) (λ i l. h .first i)
 
 -- what is lent is as long as it was
-record AsLong (z z′ : Kept) : Type 0 where
-  p : length (z′ .lent .slices .p) ≡ length (z .lent .slices .p)
-  a : length (z′ .lent .slices .a) ≡ length (z .lent .slices .a)
-  factor : length (z′ .lent .slices .factor) ≡ length (z .lent .slices .factor)
-  work : length (z′ .lent .work) ≡ length (z .lent .work)
-  starts : length (z′ .starts) ≡ length (z .starts)
+pub record AsLong (z z′ : Kept) : Type 0 where
+  pub p : length (z′ .lent .slices .p) ≡ length (z .lent .slices .p)
+  pub a : length (z′ .lent .slices .a) ≡ length (z .lent .slices .a)
+  pub factor : length (z′ .lent .slices .factor) ≡ length (z .lent .slices .factor)
+  pub work : length (z′ .lent .work) ≡ length (z .lent .work)
+  pub starts : length (z′ .starts) ≡ length (z .starts)
 
-narrowed-long : (z : Kept) (x : Lent) (st : List ℕ) → length st ≡ length (z .starts) → AsLong z (record { lent = narrowed (z .lent) x; starts = st })
+pub narrowed-long : (z : Kept) (x : Lent) (st : List ℕ) → length st ≡ length (z .starts) → AsLong z (record { lent = narrowed (z .lent) x; starts = st })
 unfolding narrowed
 narrowed-long z x st e =
     let t = z .lent .table in
     let same : (xs zs : List ℤ) → length (onto (shrink (firstOf t) (nodes t) xs) zs) ≡ length zs = λ xs zs. onto-length (shrink (firstOf t) (nodes t) xs) zs in
     record { p = same (x .slices .p) (z .lent .slices .p); a = same (x .slices .a) (z .lent .slices .a); factor = same (x .slices .factor) (z .lent .slices .factor); work = same (x .work) (z .lent .work); starts = e }
 
-ready-same : (z z′ : Kept) → SameRows (z .lent .table) (z′ .lent .table) → AsLong z z′ → keptReady z ≡ true → keptReady z′ ≡ true
+pub ready-same : (z z′ : Kept) → SameRows (z .lent .table) (z′ .lent .table) → AsLong z z′ → keptReady z ≡ true → keptReady z′ ≡ true
 unfolding keptEnough
 ready-same z z′ s h e = (λ i.
     let long : ℕ = long-of (z .lent .table) (z′ .lent .table) s i in
     leb long (h .p i) && leb long (h .a i) && leb long (h .factor i) && leb (s .count i) (h .starts i) && leb long (h .work i)) ∙ e
 
 -- ready is what 9 asks
-ready-lengths : (z : Kept) → keptReady z ≡ true → lengthsJudged z (keptRoomy (z .lent .table) (z .lent .work)) ≡ Done
+pub ready-lengths : (z : Kept) → keptReady z ≡ true → lengthsJudged z (keptRoomy (z .lent .table) (z .lent .work)) ≡ Done
 unfolding lengthsJudged
 ready-lengths z e = rw e refl
 
-lengths-ready : (z : Kept) → lengthsJudged z (keptRoomy (z .lent .table) (z .lent .work)) ≡ Done → keptReady z ≡ true
+pub lengths-ready : (z : Kept) → lengthsJudged z (keptRoomy (z .lent .table) (z .lent .work)) ≡ Done → keptReady z ≡ true
 unfolding lengthsJudged
 lengths-ready z e = cond-done (keptReady z) Done Short e .0
 
 -- ---- slices that are a deck's own
 
-holds-starts : (z : Kept) → KeptHolds z → startsJudged z ≡ Done
-unfolding startsJudged strayRow
+pub holds-starts : (z : Kept) → KeptHolds z → startsJudged z ≡ Done
+unfolding strayRow
 holds-starts z h =
     let t = z .lent .table in
     let n = nodes t in
-    let none : strayRow t n (z .starts) ≡ 0 =
-    first-absent n 0 (λ i. not (eqb (getD (z .starts) i 0) (starts (firstOf t) i))) (λ i l m.
+    stray-pass z
+    (first-absent n 0 (λ i. not (eqb (getD (z .starts) i 0) (starts (firstOf t) i))) (λ i l m.
     let at : getD (z .starts) i 0 ≡ starts (firstOf t) i = sym (getD-take n (z .starts) i 0 (omega arith)) ∙ ap (λ (st : List ℕ). getD st i 0) (h .own-starts) ∙ starts-at (firstOf t) n i 0 (omega arith) in
-    ap not (eq-eqb (getD (z .starts) i 0) (starts (firstOf t) i) at)) in
-    rw none refl
+    ap not (eq-eqb (getD (z .starts) i 0) (starts (firstOf t) i) at)))
 
 -- THEOREM. They are so where their packed triangles are, the lengths do and the starts are the deck's.
 pub holds-wide : (z : Kept) → KeptHolds z → Holds (widened (z .lent))

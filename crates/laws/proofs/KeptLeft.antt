@@ -129,13 +129,16 @@ asLent-kept z works r h =
         ∙ narrow-zeros t (z .lent .work) h
 
 -- nothing was begun
-plain-kept : (z : Kept) (works : Bool) (r : Refusal) → inFactor r ≡ false → z ≡ keptAsLent works r z
-plain-kept z works r e = ap (λ (b : Bool). by b) (sym (and-false works) ∙ ap (λ (b : Bool). works && b) (sym e))
-  where
-    and-false : (b : Bool) → b && false ≡ false
-    and-false true = refl
-    and-false false = refl
+none-begun : (works : Bool) (r : Refusal) → inFactor r ≡ false → works && inFactor r ≡ false
+none-begun true r e = e
+none-begun false r e = refl
 
+pub plain-left : (x : Lent) (works : Bool) (r : Refusal) → inFactor r ≡ false → asLent works r x ≡ x
+plain-left x works r e = ap (λ (b : Bool). record { table = x .table; slices = x .slices; work = worked b x; temperatures = x .temperatures; carried = x .carried }) (none-begun works r e)
+
+plain-kept : (z : Kept) (works : Bool) (r : Refusal) → inFactor r ≡ false → z ≡ keptAsLent works r z
+plain-kept z works r e = ap by (sym (none-begun works r e))
+  where
     by : Bool → Kept
     by b = record {
       lent = record {

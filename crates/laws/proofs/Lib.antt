@@ -52,6 +52,7 @@ pub mod KeptCalls
 pub mod Widened
 pub mod KeptLeft
 pub mod KeptDemand3
+pub mod KeptNumbers
 pub mod Balance
 pub mod Book
 pub mod Rounds

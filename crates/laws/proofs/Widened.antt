@@ -179,7 +179,7 @@ leaves-blank new b x (done s) h e = record {
   work = worked-blank x b h;
 }
 
-ends-by : {X : Type 0} (P : X → Type 0) (o : Outcome X) → ((x : X) → o ≡ done x → P x) → Ends P o
+pub ends-by : {X : Type 0} (P : X → Type 0) (o : Outcome X) → ((x : X) → o ≡ done x → P x) → Ends P o
 ends-by P (refused r) f = tt
 ends-by P (done x) f = f x refl
 
@@ -199,18 +199,18 @@ unfolding opened
 all-present t s b = λ i.
     slices (take-all (tri (nodes t)) (s .p) (omega (arith, b .p .long)) i) (take-all (tri (nodes t)) (s .a) (omega (arith, b .a .long)) i) (take-all (tri (nodes t)) (s .factor) (omega (arith, b .factor .long)) i)
 
-module _ (x : Lent) (card : ℕ) (new : List ℕ) (six : length new ≡ 6) where
-  pub replace-leaves : BlankLent (x .table) x → BlankLent (x .table) (replaceCall x card new .lent)
+module _ (x : Lent) (card : ℕ) (new : List ℕ) (six : length new ≡ 6) (h : BlankLent (x .table) x) where
+  pub replace-made : (s : Slices) → replaceOutcome x card new ≡ done s → BlankSlices (x .table) s
+  replace-made s e =
+      let t = x .table in
+      let (j, e₁) = after-done (judged t) _ s e in
+      let (f, e₂) = after-done (newJudged t card new) _ s e₁ in
+      let (_, e₃) = after-done (lentJudged (nodes t) (x .slices) (roomy (nodes t) (x .work))) _ s e₂ in
+      replaced-blank t (card - 1) new (deck t j) (change t card new six j f) (deck (put t (card - 1) new) (stays t card new six j f)) (present x) s (subst (BlankSlices t) (sym (all-present t (x .slices) (h .slices))) (h .slices)) e₃
+
+  pub replace-leaves : BlankLent (x .table) (replaceCall x card new .lent)
   unfolding replaceCall
-  replace-leaves h = leaves-blank (put (x .table) (card - 1) new) (stirs (x .table) (card - 1)) x (replaceOutcome x card new) h (ends-by (BlankSlices (x .table)) (replaceOutcome x card new) made)
-    where
-      made : (s : Slices) → replaceOutcome x card new ≡ done s → BlankSlices (x .table) s
-      made s e =
-          let t = x .table in
-          let (j, e₁) = after-done (judged t) _ s e in
-          let (f, e₂) = after-done (newJudged t card new) _ s e₁ in
-          let (_, e₃) = after-done (lentJudged (nodes t) (x .slices) (roomy (nodes t) (x .work))) _ s e₂ in
-          replaced-blank t (card - 1) new (deck t j) (change t card new six j f) (deck (put t (card - 1) new) (stays t card new six j f)) (present x) s (subst (BlankSlices t) (sym (all-present t (x .slices) (h .slices))) (h .slices)) e₃
+  replace-leaves = leaves-blank (put (x .table) (card - 1) new) (stirs (x .table) (card - 1)) x (replaceOutcome x card new) h (ends-by (BlankSlices (x .table)) (replaceOutcome x card new) replace-made)
 
 -- ---- kept again
 

@@ -12,9 +12,9 @@ use Rattle.paper.specs.Cards.{nodes}
 use Rattle.paper.specs.Judge.{judged}
 use Rattle.paper.specs.Building.{Slices, slices, build}
 use Rattle.paper.specs.Calls.{over, Lent, inFactor}
-use Rattle.paper.specs.Replacements.{on, Asked}
+use Rattle.paper.specs.Replacements.{ready, on, Asked}
 use Rattle.paper.specs.Coupled.{firstOf}
-use Rattle.paper.specs.KeptCalls.{Kept, widened, keptLong, keptRoomy, keptEnough, keptReplace}
+use Rattle.paper.specs.KeptCalls.{Kept, widened, keptLong, keptRoomy, keptEnough, startsJudged, keptReplace}
 use Rattle.paper.specs.declared.Answer.the-variants.{Done}
 use Rattle.paper.specs.declared.Refusal.{Refusal}
 
@@ -77,3 +77,10 @@ pub record SameNumbers (z : Kept) (y : Lent) : Type 0 where
   pub factor : (i j : ℕ) → i < nodes (z .lent .table) → j < nodes (z .lent .table) → keptEntry (firstOf (z .lent .table)) (z .lent .slices .factor) i j ≡ entry (y .slices .factor) i j
   pub temperatures : y .temperatures ≡ z .lent .temperatures
   pub carried : y .carried ≡ z .lent .carried
+
+-- both long enough, and the starts the deck's: 9 and 17 are passed
+pub record Alike (z : Kept) (y : Lent) : Type 0 where
+  pub numbers : SameNumbers z y
+  pub room : keptReady z ≡ true
+  pub packed-room : ready y ≡ true
+  pub starts : startsJudged z ≡ Done
