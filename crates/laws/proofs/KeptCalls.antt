@@ -147,7 +147,7 @@ run-refused z r e = rw e refl
 abbrev pub working : List ℤ → Lent → Lent
 working w z = record { table = z .table; slices = z .slices; work = w; temperatures = z .temperatures; carried = z .carried }
 
-abbrev stepWorking : List ℤ → StepExit → StepExit
+abbrev pub stepWorking : List ℤ → StepExit → StepExit
 stepWorking w x = leftStep (x .answer) (working w (x .lent))
 
 abbrev exitWorking : List ℤ → Exit → Exit

@@ -137,7 +137,7 @@ holds-one z z′ h h′ e =
 
 -- ---- a build
 
-past-build : (z : Kept) → keptBuild z .answer ≡ Done → buildJudged z ≡ Done
+pub past-build : (z : Kept) → keptBuild z .answer ≡ Done → buildJudged z ≡ Done
 past-build z e = go (buildJudged z) refl
   where
     go : (a : Answer) → buildJudged z ≡ a → buildJudged z ≡ Done

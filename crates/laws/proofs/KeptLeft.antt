@@ -151,7 +151,7 @@ plain-kept z works r e = ap by (sym (none-begun works r e))
       starts = z .starts;
     }
 
-refused-one : {q r : Refusal} → Refused q ≡ Refused r → q ≡ r
+pub refused-one : {q r : Refusal} → Refused q ≡ Refused r → q ≡ r
 refused-one e = cc
 
 -- THEOREMS. All is as it was lent, the starts too, but for the work slice of a factor that was begun.

@@ -26,7 +26,7 @@ use Rattle.paper.specs.Lent.{foreign, laden, roomy, enough, opened, lentJudged}
 use Rattle.paper.specs.Replacing.{stirs, replaced}
 use Rattle.paper.specs.Step.{Board, Settling, boardOf, stepped, carriedOn, offScale}
 use Rattle.paper.specs.Coupled.{firstOf, strayRow}
-use Rattle.paper.specs.Calls.{over, Lent, Exit, StepExit, long, closed, worked, inFactor, leaves, endsStep, buildCall, replaceCall, stepCall}
+use Rattle.paper.specs.Calls.{over, Lent, Exit, StepExit, long, closed, worked, inFactor, leaves, boardAt, endsStep, buildCall, replaceCall, stepCall}
 use Rattle.paper.specs.Replacements.{ready, present, Holds, Asked, afterAll}
 use Rattle.paper.specs.KeptCalls.{Kept, widened, narrowed, keptLong, keptRoomy, keptEnough, lengthsJudged, startsJudged, KeptExit, KeptStepExit, keptBuild, keptReplace, nodesJudged, keptStep}
 use Rattle.paper.specs.KeptReplacements.{keptReady, KeptHolds, keptAfterAll, SameNumbers, Alike}
@@ -48,8 +48,8 @@ use Rattle.laws.proofs.Settled.{stepOutcome}
 use Rattle.laws.proofs.KeptCalls.{buildJudged, replaceJudged, stray-none, stray-pass}
 use Rattle.laws.proofs.KeptCalls as calls
 use Rattle.laws.proofs.Widened.{Blank, BlankSlices, BlankLent, widened-blank, all-present, ends-by, SameRows, same-rows, build-answer, build-kept, replace-made, replace-leaves, replace-answer, replace-kept, replace-rows, replace-widened, step-answer, step-kept, step-widened}
-use Rattle.laws.proofs.KeptLeft.{plain-left, replace-plain}
-use Rattle.laws.proofs.KeptDemand3.{AsLong, narrowed-long, ready-same, wide-ready, ready-lengths, lengths-ready, builds-as, build-holds, build-table}
+use Rattle.laws.proofs.KeptLeft.{refused-one, plain-left, replace-plain}
+use Rattle.laws.proofs.KeptDemand3.{AsLong, narrowed-long, ready-same, wide-ready, ready-lengths, lengths-ready, past-build, builds-as, build-holds, build-table, holds-starts}
 
 -- ---- one slice: the numbers by row and column, and the packed triangle
 
@@ -124,6 +124,10 @@ module _ (z : Kept) where
   unfolding widened
   wide-opened = all-present t (W .slices) (widened-blank (z .lent) .slices)
 
+  enough-wide : enough n (W .slices) ≡ true
+  unfolding widened
+  enough-wide = and-told (enough n (W .slices)) (roomy n (W .work)) (wide-ready (z .lent)) .0
+
   module _ (s : Slices) (w : List ℤ) (same : opened n s ≡ W .slices) (far : enough n s && roomy n w ≡ true) where
     abbrev y : Lent
     y = packedOf z s w
@@ -134,14 +138,10 @@ module _ (z : Kept) where
     enough-y : enough n s ≡ true
     enough-y = and-told (enough n s) (roomy n w) far .0
 
-    enough-W : enough n (W .slices) ≡ true
-    unfolding widened
-    enough-W = and-told (enough n (W .slices)) (roomy n (W .work)) (wide-ready (z .lent)) .0
-
     -- 9 and 10 alike
     lent-same : (r r′ : Bool) → r ≡ r′ → lentJudged n s r ≡ lentJudged n (W .slices) r′
     unfolding lentJudged
-    lent-same r r′ e = λ i. cond ((enough-y ∙ sym enough-W) i && e i) (cond (foreign n (as-opened i)) (Refused Foreign) Done) (Refused Short)
+    lent-same r r′ e = λ i. cond ((enough-y ∙ sym enough-wide) i && e i) (cond (foreign n (as-opened i)) (Refused Foreign) Done) (Refused Short)
 
     work-same : roomy n w ≡ roomy n (W .work)
     unfolding widened
@@ -190,13 +190,14 @@ module _ (z : Kept) where
           let o′ = packed.replaceOutcome W card new in
           let new′ = put t (card - 1) new in
           let b = stirs t (card - 1) in
-          let ends = ends-by (BlankSlices t) o′ (replace-made W card new six (widened-blank (z .lent))) in
-          (ap (λ (q : Outcome Slices). leaves new′ b y q .lent .table) outcome-same ∙ leaves-table o′,
-          ap (λ (q : Outcome Slices). opened n (leaves new′ b y q .lent .slices)) outcome-same ∙ leaves-present o′ ends,
-          leaves-other y b o .0,
-          leaves-other y b o .1,
-          leaves-other W b o′ .0,
-          leaves-other W b o′ .1)
+          let ends = ends-by (BlankSlices t) o′ (replace-made W card new six (widened-blank (z .lent))) in (
+            ap (λ (q : Outcome Slices). leaves new′ b y q .lent .table) outcome-same ∙ leaves-table o′,
+            ap (λ (q : Outcome Slices). opened n (leaves new′ b y q .lent .slices)) outcome-same ∙ leaves-present o′ ends,
+            leaves-other y b o .0,
+            leaves-other y b o .1,
+            leaves-other W b o′ .0,
+            leaves-other W b o′ .1,
+          )
 
 -- ---- refused by the deck or by the card, before anything is lent
 
@@ -309,15 +310,193 @@ replaced-alike z s w card new six k =
     let blank = replace-leaves W card new six (widened-blank (z .lent)) .slices in
     let far : enough n (y′ .slices) && roomy n (y′ .work) ≡ true =
     λ i. present-enough n (y′ .slices) (replaceCall W card new .lent .slices) es (blank .p .long) (blank .a .long) (blank .factor .long) i
-    && leaves-roomy (put t (card - 1) new) (stirs t (card - 1)) y (packed.replaceOutcome y card new) (and-told (enough n s) (roomy n w) (k .packed-room) .1) i in
-    (replace-said z l (k .starts) card new ∙ sym (replace-as-wide z s w same (k .packed-room) card new),
-    record {
-      numbers =
-          slices-numbers z′ y′ table
-          ((λ i. opened (count i) (y′ .slices)) ∙ es ∙ ap (λ (x : Lent). x .slices) (sym (L .wide)))
-          (eo ∙ sym (ap (λ (x : Lent). x .temperatures) (L .wide) ∙ wo))
-          (ec ∙ sym (ap (λ (x : Lent). x .carried) (L .wide) ∙ wc));
-      room = ready-same z z′ (L .rows) (L .lengths) (k .room);
-      packed-room = (λ i. enough (count i) (y′ .slices) && roomy (count i) (y′ .work)) ∙ far;
-      starts = starts-pass z z′ (L .rows) (L .same-starts) (k .starts);
-    })
+    && leaves-roomy (put t (card - 1) new) (stirs t (card - 1)) y (packed.replaceOutcome y card new) (and-told (enough n s) (roomy n w) (k .packed-room) .1) i in (
+      replace-said z l (k .starts) card new ∙ sym (replace-as-wide z s w same (k .packed-room) card new),
+      record {
+        numbers =
+            slices-numbers z′ y′ table
+            ((λ i. opened (count i) (y′ .slices)) ∙ es ∙ ap (λ (x : Lent). x .slices) (sym (L .wide)))
+            (eo ∙ sym (ap (λ (x : Lent). x .temperatures) (L .wide) ∙ wo))
+            (ec ∙ sym (ap (λ (x : Lent). x .carried) (L .wide) ∙ wc));
+        room = ready-same z z′ (L .rows) (L .lengths) (k .room);
+        packed-room = (λ i. enough (count i) (y′ .slices) && roomy (count i) (y′ .work)) ∙ far;
+        starts = starts-pass z z′ (L .rows) (L .same-starts) (k .starts);
+      },
+    )
+
+-- THEOREM. A replacement of either: the same answer, and alike again.
+pub alike-replaced : (z : Kept) (y : Lent) (card : ℕ) (new : List ℕ) → length new ≡ 6 → Alike z y
+    → (keptReplace z card new .answer ≡ replaceCall y card new .answer) × Alike (keptReplace z card new .kept) (replaceCall y card new .lent)
+alike-replaced z y card new six k =
+    let is = packed-is z y (k .numbers) in
+    subst (λ (x : Lent). (keptReplace z card new .answer ≡ replaceCall x card new .answer) × Alike (keptReplace z card new .kept) (replaceCall x card new .lent)) (sym is)
+    (replaced-alike z (y .slices) (y .work) card new six (subst (Alike z) is k))
+
+pub all-alike : (z : Kept) (y : Lent) (qs : List Asked) → Alike z y → Alike (keptAfterAll z qs) (afterAll y qs)
+unfolding keptAfterAll afterAll
+all-alike z y [] k = k
+all-alike z y (q ∷ qs) k = all-alike (keptReplace z (q .card) (q .new) .kept) (replaceCall y (q .card) (q .new) .lent) qs (alike-replaced z y (q .card) (q .new) (q .six) k .1)
+
+-- ---- a build
+
+-- what neither reads nor writes
+build-other : (x : Lent) → (buildCall x .lent .temperatures ≡ x .temperatures) × (buildCall x .lent .carried ≡ x .carried)
+unfolding buildCall leaves
+build-other x = go (packed.buildOutcome x)
+  where
+    go : (o : Outcome Slices) → (leaves (x .table) true x o .lent .temperatures ≡ x .temperatures) × (leaves (x .table) true x o .lent .carried ≡ x .carried)
+    go (refused r) = (refl, refl)
+    go (done s) = (refl, refl)
+
+-- THEOREM. A build of either, over slices that are long enough: the same answer, and alike where it is accepted, whatever they held.
+pub alike-built : (z : Kept) (y : Lent) → y .table ≡ z .lent .table → y .temperatures ≡ z .lent .temperatures → y .carried ≡ z .lent .carried → keptReady z ≡ true → ready y ≡ true
+    → (keptBuild z .answer ≡ buildCall y .answer) × (keptBuild z .answer ≡ Done → Alike (keptBuild z .kept) (buildCall y .lent))
+unfolding narrowed widened
+alike-built z y et eo ec far packed-far = (answers, λ ok. alike ok)
+  where
+    t : List ℕ
+    t = z .lent .table
+
+    y-answer : buildCall y .answer ≡ answerOf (after (judged t) (build t))
+    y-answer =
+        ap (λ (x : Exit). x .answer) (packed.build-is y) ∙ packed.answer-is (y .table) true y (packed.buildOutcome y)
+        ∙ (λ i. answerOf (after (judged (y .table)) (when (packed-far i) Short (build (y .table)))))
+        ∙ ap (λ (u : List ℕ). answerOf (after (judged u) (build u))) et
+
+    answers : keptBuild z .answer ≡ buildCall y .answer
+    answers = go (judged t) refl ∙ sym y-answer
+      where
+        go : (a : Answer) → judged t ≡ a → keptBuild z .answer ≡ answerOf (after (judged t) (build t))
+        go Done e = builds-as z e far ∙ ap (λ (a : Answer). answerOf (after a (build t))) (sym e)
+        go (Refused r) e =
+            ap (λ (x : KeptExit). x .answer) (sym (calls.build-refused z r (ap (λ (a : Answer). andThen a (lengthsJudged z (keptRoomy t (z .lent .work)))) e)))
+            ∙ ap (λ (a : Answer). answerOf (after a (build t))) (sym e)
+
+    alike : keptBuild z .answer ≡ Done → Alike (keptBuild z .kept) (buildCall y .lent)
+    alike ok =
+        let z′ = keptBuild z .kept in
+        let y′ = buildCall y .lent in
+        let h = build-holds z ok in
+        let g = packed.build-holds y (sym answers ∙ ok) in
+        let k = past-build z ok in
+        let table : y′ .table ≡ z′ .lent .table = packed.build-table y ∙ et ∙ sym (build-table z) in
+        let is : present y′ ≡ widened (z′ .lent) .slices = done-inj (sym (g .built) ∙ ap build table ∙ h .built) in
+        let W = widened (z .lent) in
+        record {
+          numbers =
+              slices-numbers z′ y′ table is
+              (build-other y .0 ∙ eo ∙ sym (ap (λ (x : Lent). x .temperatures) (build-kept z k) ∙ build-other W .0))
+              (build-other y .1 ∙ ec ∙ sym (ap (λ (x : Lent). x .carried) (build-kept z k) ∙ build-other W .1));
+          room = h .room;
+          packed-room = g .room;
+          starts = holds-starts z′ h;
+        }
+
+-- ---- a step
+
+module _ (z : Kept) where
+  abbrev rest : Bool
+  rest = leb (nodes (z .lent .table)) (length (z .lent .temperatures)) && leb (nodes (z .lent .table)) (length (z .lent .carried))
+
+  module _ (far : keptEnough z ≡ true) (g : startsJudged z ≡ Done) where
+    -- its first refusals: the deck's, and 9 of what is not a matrix
+    nodes-is : nodesJudged z ≡ andThen (judged (z .lent .table)) (cond rest Done (Refused Short))
+    unfolding lengthsJudged
+    nodes-is = (λ i. andThen (judged (z .lent .table)) (andThen (cond (far i && rest) Done (Refused Short)) (g i))) ∙ ap (andThen (judged (z .lent .table))) (andThen-Done (cond rest Done (Refused Short)))
+
+    step-outcome : (r : Refusal) → nodesJudged z ≡ Refused r → stepCall (widened (z .lent)) .answer ≡ stepAnswer.Refused r
+    unfolding stepCall widened lentJudged
+    step-outcome r e = go (judged (z .lent .table)) refl rest refl
+      where
+        W : Lent
+        W = widened (z .lent)
+
+        go : (a : Answer) → judged (z .lent .table) ≡ a → (b : Bool) → rest ≡ b → stepCall (widened (z .lent)) .answer ≡ stepAnswer.Refused r
+        go (Refused q) ea b eb =
+            let q-is : q ≡ r = refused-one (sym (nodes-is ∙ ap (λ (a : Answer). andThen a (cond rest Done (Refused Short))) ea) ∙ e) in
+            rw ea (ap stepAnswer.Refused q-is)
+        go Done ea true eb = done-refused (sym (sym (nodes-is ∙ (λ i. andThen (ea i) (cond (eb i) Done (Refused Short)))) ∙ e))
+        go Done ea false eb =
+            let q-is : Short ≡ r = refused-one (sym (nodes-is ∙ (λ i. andThen (ea i) (cond (eb i) Done (Refused Short)))) ∙ e) in
+            rw (ea, eb, enough-wide z) (ap stepAnswer.Refused q-is)
+
+    -- THEOREMS. Past 9 of the matrices and 17: a step answers as document 01's, and leaves what that leaves.
+    pub step-said : keptStep z .answer ≡ stepCall (widened (z .lent)) .answer
+    step-said = go (nodesJudged z) refl
+      where
+        go : (a : Answer) → nodesJudged z ≡ a → keptStep z .answer ≡ stepCall (widened (z .lent)) .answer
+        go (Refused r) e = ap (λ (x : KeptStepExit). x .answer) (sym (calls.step-refused z r e)) ∙ sym (step-outcome r e)
+        go Done e = step-answer z e
+
+    pub step-left : keptStep z .kept ≡ record { lent = besides (z .lent) (stepCall (widened (z .lent)) .lent); starts = z .starts }
+    unfolding widened
+    step-left = go (nodesJudged z) refl
+      where
+        go : (a : Answer) → nodesJudged z ≡ a → keptStep z .kept ≡ record { lent = besides (z .lent) (stepCall (widened (z .lent)) .lent); starts = z .starts }
+        go (Refused r) e =
+            ap (λ (x : KeptStepExit). x .kept) (sym (calls.step-refused z r e))
+            ∙ (λ i. record { lent = besides (z .lent) (sym (left.step-refused (widened (z .lent)) r (step-outcome r e)) i); starts = z .starts })
+        go Done e = step-kept z e
+
+-- the same matrices, with other temperatures and other carried numbers
+abbrev warmed : Kept → Lent → Kept
+warmed z x = record { lent = besides (z .lent) x; starts = z .starts }
+
+module _ (z : Kept) (s : Slices) (w : List ℤ) (same : opened (nodes (z .lent .table)) s ≡ widened (z .lent) .slices) (far : enough (nodes (z .lent .table)) s && roomy (nodes (z .lent .table)) w ≡ true) where
+  step-same-outcome : stepOutcome (packedOf z s w) ≡ stepOutcome (widened (z .lent))
+  unfolding widened
+  step-same-outcome =
+      let t = z .lent .table in
+      let n = nodes t in
+      let o = as-opened z s w same far in
+      λ i.
+      after (judged t)
+      (after (lent-same z s w same far (rest z) (rest z) refl i)
+      (when (not (laden n (z .lent .carried))) Foreign
+      (unlessAt (offScale n (z .lent .temperatures)) OffScale
+      (stepped (boardOf t (o i .p) (o i .a) (take n (z .lent .temperatures)) (take n (z .lent .carried))) (o i .factor)))))
+
+  -- THEOREM. A step of the packed slices is that of the packed triangles, but for the slices themselves.
+  pub step-as-wide : let x = stepCall (widened (z .lent)) in (stepCall (packedOf z s w) .answer ≡ x .answer) × (stepCall (packedOf z s w) .lent ≡ packedOf (warmed z (x .lent)) s w)
+  unfolding stepCall widened
+  step-as-wide =
+      let (a, l) = go (stepOutcome (widened (z .lent))) in
+      (ap (λ (o : Outcome Settling). endsStep (packedOf z s w) o .answer) step-same-outcome ∙ a, ap (λ (o : Outcome Settling). endsStep (packedOf z s w) o .lent) step-same-outcome ∙ l)
+    where
+      board : boardAt (packedOf z s w) ≡ boardAt (widened (z .lent))
+      board = let o = as-opened z s w same far in let n = nodes (z .lent .table) in λ i. boardOf (z .lent .table) (o i .p) (o i .a) (take n (z .lent .temperatures)) (take n (z .lent .carried))
+
+      go : (o : Outcome Settling) → (endsStep (packedOf z s w) o .answer ≡ endsStep (widened (z .lent)) o .answer) × (endsStep (packedOf z s w) o .lent ≡ packedOf (warmed z (endsStep (widened (z .lent)) o .lent)) s w)
+      go (refused r) = (refl, refl)
+      go (done x) = (refl, λ i. record { table = z .lent .table; slices = s; work = w; temperatures = over (x .temperatures) (z .lent .temperatures); carried = over (carriedOn (board i) (x .residuals)) (z .lent .carried) })
+
+-- alike stays alike where temperatures and carried numbers are the same
+warmed-alike : (z : Kept) (s : Slices) (w : List ℤ) (x : Lent) → Alike z (packedOf z s w) → Alike (warmed z x) (packedOf (warmed z x) s w)
+unfolding keptEnough startsJudged
+warmed-alike z s w x k = record {
+  numbers = record { table = refl; p = k .numbers .p; a = k .numbers .a; factor = k .numbers .factor; temperatures = refl; carried = refl };
+  room = k .room;
+  packed-room = k .packed-room;
+  starts = k .starts;
+}
+
+-- what alike slices are
+module _ (z : Kept) (s : Slices) (w : List ℤ) (k : Alike z (packedOf z s w)) where
+  enough-kept : keptEnough z ≡ true
+  enough-kept = and-told (keptEnough z) (keptRoomy (z .lent .table) (z .lent .work)) (k .room) .0
+
+  opened-same : opened (nodes (z .lent .table)) s ≡ widened (z .lent) .slices
+  opened-same = numbers-slices z s w (and-told (enough (nodes (z .lent .table)) s) (roomy (nodes (z .lent .table)) w) (k .packed-room) .0) (k .numbers)
+
+  stepped-alike : (keptStep z .answer ≡ stepCall (packedOf z s w) .answer) × Alike (keptStep z .kept) (stepCall (packedOf z s w) .lent)
+  stepped-alike =
+      let W = widened (z .lent) in
+      let (a, l) = step-as-wide z s w opened-same (k .packed-room) in
+      let is = step-left z enough-kept (k .starts) in
+      (step-said z enough-kept (k .starts) ∙ sym a, subst (λ (x : Kept). Alike x (stepCall (packedOf z s w) .lent)) (sym is) (subst (Alike (warmed z (stepCall W .lent))) (sym l) (warmed-alike z s w (stepCall W .lent) k)))
+
+-- THEOREM. A step of either: the same answer, and alike again; short temperatures are refused alike too.
+pub alike-stepped : (z : Kept) (y : Lent) → Alike z y → (keptStep z .answer ≡ stepCall y .answer) × Alike (keptStep z .kept) (stepCall y .lent)
+alike-stepped z y k =
+    let is = packed-is z y (k .numbers) in
+    subst (λ (x : Lent). (keptStep z .answer ≡ stepCall x .answer) × Alike (keptStep z .kept) (stepCall x .lent)) (sym is) (stepped-alike z (y .slices) (y .work) (subst (Alike z) is k))

@@ -55,6 +55,7 @@ pub mod KeptDemand3
 pub mod KeptNumbers
 pub mod Balance
 pub mod Book
+pub mod KeptBook
 pub mod Rounds
 pub mod Floats
 pub mod Recorded
