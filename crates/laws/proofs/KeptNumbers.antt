@@ -79,10 +79,10 @@ module _ (first : ℕ → ℕ) (n : ℕ) (ks xs : List ℤ) where
 -- ---- two lents of one deck, the one kept, the other packed
 
 -- the packed one, by what is its own
-abbrev packedOf : Kept → Slices → List ℤ → Lent
+abbrev pub packedOf : Kept → Slices → List ℤ → Lent
 packedOf z s w = record { table = z .lent .table; slices = s; work = w; temperatures = z .lent .temperatures; carried = z .lent .carried }
 
-packed-is : (z : Kept) (y : Lent) → SameNumbers z y → y ≡ packedOf z (y .slices) (y .work)
+pub packed-is : (z : Kept) (y : Lent) → SameNumbers z y → y ≡ packedOf z (y .slices) (y .work)
 packed-is z y e = λ i. record { table = e .table i; slices = y .slices; work = y .work; temperatures = e .temperatures i; carried = e .carried i }
 
 module _ (z : Kept) where
@@ -439,7 +439,7 @@ module _ (z : Kept) where
         go Done e = step-kept z e
 
 -- the same matrices, with other temperatures and other carried numbers
-abbrev warmed : Kept → Lent → Kept
+abbrev pub warmed : Kept → Lent → Kept
 warmed z x = record { lent = besides (z .lent) x; starts = z .starts }
 
 module _ (z : Kept) (s : Slices) (w : List ℤ) (same : opened (nodes (z .lent .table)) s ≡ widened (z .lent) .slices) (far : enough (nodes (z .lent .table)) s && roomy (nodes (z .lent .table)) w ≡ true) where
@@ -471,7 +471,7 @@ module _ (z : Kept) (s : Slices) (w : List ℤ) (same : opened (nodes (z .lent .
       go (done x) = (refl, λ i. record { table = z .lent .table; slices = s; work = w; temperatures = over (x .temperatures) (z .lent .temperatures); carried = over (carriedOn (board i) (x .residuals)) (z .lent .carried) })
 
 -- alike stays alike where temperatures and carried numbers are the same
-warmed-alike : (z : Kept) (s : Slices) (w : List ℤ) (x : Lent) → Alike z (packedOf z s w) → Alike (warmed z x) (packedOf (warmed z x) s w)
+pub warmed-alike : (z : Kept) (s : Slices) (w : List ℤ) (x : Lent) → Alike z (packedOf z s w) → Alike (warmed z x) (packedOf (warmed z x) s w)
 unfolding keptEnough startsJudged
 warmed-alike z s w x k = record {
   numbers = record { table = refl; p = k .numbers .p; a = k .numbers .a; factor = k .numbers .factor; temperatures = refl; carried = refl };
@@ -485,7 +485,7 @@ module _ (z : Kept) (s : Slices) (w : List ℤ) (k : Alike z (packedOf z s w)) w
   enough-kept : keptEnough z ≡ true
   enough-kept = and-told (keptEnough z) (keptRoomy (z .lent .table) (z .lent .work)) (k .room) .0
 
-  opened-same : opened (nodes (z .lent .table)) s ≡ widened (z .lent) .slices
+  pub opened-same : opened (nodes (z .lent .table)) s ≡ widened (z .lent) .slices
   opened-same = numbers-slices z s w (and-told (enough (nodes (z .lent .table)) s) (roomy (nodes (z .lent .table)) w) (k .packed-room) .0) (k .numbers)
 
   stepped-alike : (keptStep z .answer ≡ stepCall (packedOf z s w) .answer) × Alike (keptStep z .kept) (stepCall (packedOf z s w) .lent)

@@ -326,7 +326,7 @@ module _ (z : Kept) where
       ap (narrowed (z .lent)) e
       ∙ (λ i. lent t (same (z .lent .slices .p) i) (same (z .lent .slices .a) i) (same (z .lent .slices .factor) i) (same (z .lent .work) i) (x .temperatures) (x .carried))
 
-  besides-widened : (x : Lent) → x ≡ besides W x → widened (besides (z .lent) x) ≡ x
+  pub besides-widened : (x : Lent) → x ≡ besides W x → widened (besides (z .lent) x) ≡ x
   unfolding widened
   besides-widened x e = sym e
 
