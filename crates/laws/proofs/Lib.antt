@@ -57,6 +57,7 @@ pub mod KeptRuns
 pub mod Balance
 pub mod Book
 pub mod KeptBook
+pub mod KeptOwn
 pub mod Rounds
 pub mod Floats
 pub mod Recorded

@@ -2,11 +2,11 @@
 use mathlib.Core.Path.{_≡_}
 use mathlib.Core.Bool.{Bool, true, cond, _&&_}
 use mathlib.Core.List.{List, [], _∷_}
-use Prim.Native.Nat.{ℕ, _<_}
+use Prim.Native.Nat.{ℕ, suc, _-_, _≤_, _<_}
 use lib.IntN.{ℤ, pos}
-use lib.ListN.{take, drop, replicate}
+use lib.ListN.{getD, take, drop, replicate}
 use Rattle.whole.specs.Packed.{entry}
-use Rattle.whole.specs.Kept.{rowStarts, keptEntry}
+use Rattle.whole.specs.Kept.{starts, rowStarts, keptEntry}
 use Rattle.paper.specs.Refusals.{done}
 use Rattle.paper.specs.Cards.{nodes}
 use Rattle.paper.specs.Judge.{judged}
@@ -41,6 +41,15 @@ pub record KeptHolds (z : Kept) : Type 0 where
 unfoldable pub keptAfterAll : Kept → List Asked → Kept
 keptAfterAll z [] = z
 keptAfterAll z (q ∷ qs) = keptAfterAll (keptReplace z (q .card) (q .new) .kept) qs
+
+-- ---- 17
+
+-- the first row, from 1, whose start is another than the deck's
+pub record FirstStray (t st : List ℕ) (row : ℕ) : Type 0 where
+  pub some : 1 ≤ row
+  pub inside : row ≤ nodes t
+  pub other : getD st (row - 1) 0 ≡ starts (firstOf t) (row - 1) → ⊥
+  pub earlier : (i : ℕ) → suc i < row → getD st i 0 ≡ starts (firstOf t) i
 
 -- ---- what stays
 
