@@ -230,6 +230,14 @@ step-refused z r e = go (nodesJudged z) refl
         let said = sym (step-answer z k) ∙ e in
         step-kept z k ∙ (λ i. record { lent = besides (z .lent) (leaves.step-refused (widened (z .lent)) r said i); starts = z .starts }) ∙ unfold widened in refl
 
+-- THEOREM. A step that settles is document 01's.
+pub step-settled : (z : Kept) (c : ℕ) → keptStep z .answer ≡ stepAnswer.Settled c → stepCall (widened (z .lent)) .answer ≡ stepAnswer.Settled c
+step-settled z c e = go (nodesJudged z) refl
+  where
+    go : (a : Answer) → nodesJudged z ≡ a → stepCall (widened (z .lent)) .answer ≡ stepAnswer.Settled c
+    go (Refused q) k = absurd (let x = ap (λ (x : KeptStepExit). x .answer) (calls.step-refused z q k) ∙ e in let y : _≡_ {A = ℕ} 0 1 = cc in omega arith)
+    go Done k = sym (step-answer z k) ∙ e
+
 -- ---- past the matrix length
 
 narrowed-beyond : (z : Kept) (x : Lent) (st : List ℕ) → drop (nodes (z .lent .table)) st ≡ drop (nodes (z .lent .table)) (z .starts)
