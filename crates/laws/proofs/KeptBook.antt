@@ -5,12 +5,11 @@ use Prim.Native.Nat.{ℕ, _+_}
 use native.Mathlib.Nat.{add-zero}
 use native.Mathlib.Omega.{arith}
 use lib.IntN.{ℤ, pos, _+ℤ_, _*ℤ_}
-use Rattle.paper.specs.Cards.{nodes}
 use Rattle.paper.specs.Building.{Slices}
 use Rattle.paper.specs.Calls.{Lent, StepExit, stepCall}
 use Rattle.paper.specs.Running.{runCall}
 use Rattle.paper.specs.Book.{stored, carriedIn, power, book, Closed, OwnMatrices, lentTo, Account, counted, stepOn, stepsOn, AllOwn}
-use Rattle.paper.specs.KeptCalls.{Kept, widened, KeptStepExit, KeptRunExit, nodesJudged, keptStep, keptRun}
+use Rattle.paper.specs.KeptCalls.{Kept, widened, KeptStepExit, KeptRunExit, nodesJudged, keptRun}
 use Rattle.paper.specs.KeptReplacements.{KeptHolds}
 use Rattle.paper.specs.KeptBook.{KeptOwn, keptLentTo, KeptAccount, keptStepOn, keptStepsOn, AllKeptOwn}
 use Rattle.paper.specs.declared.Answer.{Answer}
@@ -18,7 +17,7 @@ use Rattle.paper.specs.declared.Answer.the-variants.{Done, Refused}
 use Rattle.paper.specs.declared.Refusal.{Refusal}
 use Rattle.paper.specs.declared.Ran.the-variants as runAnswer
 use Rattle.laws.proofs.Built.{own}
-use Rattle.laws.proofs.Left.{besides, step-same}
+use Rattle.laws.proofs.Left.{step-same}
 use Rattle.laws.proofs.Running as running
 use Rattle.laws.proofs.Book as packed
 use Rattle.laws.proofs.KeptCalls.{working, step-working}

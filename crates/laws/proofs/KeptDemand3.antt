@@ -1,28 +1,27 @@
 -- DEMAND 3 of the calls over kept rows, whatever the slices held before and however long they are.
 use mathlib.Core.Path.{_≡_, refl, sym, ap, subst, _∙_}
-use mathlib.Core.Bool.{Bool, true, not, _&&_}
+use mathlib.Core.Bool.{true, not, _&&_}
 use mathlib.Core.List.{List, [], _∷_}
-use Prim.Native.Nat.{ℕ, zero, suc, _+_, _-_, _≤_, _<_}
+use Prim.Native.Nat.{ℕ, _-_, _≤_}
 use native.Mathlib.Omega.{arith}
-use borrow.Author.Tests.{le-leb, leb-true, eq-eqb}
+use borrow.Author.Tests.{le-leb, eq-eqb}
 use lib.Dec.{leb, eqb}
 use lib.IntN.{ℤ}
 use lib.ListN.{length, getD, take, drop, length-append, length-drop}
 use lib.Seq.{take-at, getD-take}
 use Rattle.whole.specs.Packed.{tri}
-use Rattle.whole.specs.Kept.{starts, rowStarts, expand, shrink}
-use Rattle.whole.proofs.Tests.{and-told}
+use Rattle.whole.specs.Kept.{starts, rowStarts, shrink}
 use Rattle.whole.proofs.First.{first-absent}
 use Rattle.whole.proofs.Kept.{length-expand}
 use Rattle.whole.proofs.RowStarts.{length-starts, starts-at, starts-ext, rows-ext}
-use Rattle.paper.specs.Refusals.{Outcome, refused, done, when, after, andThen, answerOf}
+use Rattle.paper.specs.Refusals.{done, when, after, andThen, answerOf}
 use Rattle.paper.specs.Cards.{nodes, put}
 use Rattle.paper.specs.Judge.{judged, newJudged}
 use Rattle.paper.specs.Building.{Slices, slices, build}
 use Rattle.paper.specs.Lent.{roomy, enough}
 use Rattle.paper.specs.Coupled.{firstOf, strayRow}
-use Rattle.paper.specs.Calls.{whenDone, over, Lent, Exit, leaves, buildCall, replaceCall}
-use Rattle.paper.specs.Replacements.{ready, on, present, Holds, Asked, withCard, asBuilt, deckAfter}
+use Rattle.paper.specs.Calls.{whenDone, over, Lent, Exit, buildCall, replaceCall}
+use Rattle.paper.specs.Replacements.{ready, Holds, Asked, asBuilt, deckAfter}
 use Rattle.paper.specs.KeptCalls.{Kept, widened, onto, narrowed, keptLong, keptRoomy, keptEnough, lengthsJudged, startsJudged, KeptExit, leftKept, keptBuild, keptReplace}
 use Rattle.paper.specs.KeptReplacements.{keptReady, keptOn, keptPresent, KeptHolds, keptAfterAll}
 use Rattle.paper.specs.declared.Answer.{Answer}
@@ -30,16 +29,13 @@ use Rattle.paper.specs.declared.Answer.the-variants.{Done, Refused}
 use Rattle.paper.specs.declared.Refusal.{Refusal}
 use Rattle.paper.specs.declared.Refusal.the-variants.{Short}
 use Rattle.laws.proofs.Outcomes.{done-refused, done-inj, both-done, cond-done, andThen-Done}
-use Rattle.laws.proofs.Judged.{deck}
-use Rattle.laws.proofs.NewCard.{change, stays}
-use Rattle.laws.proofs.Kept.{nodes-same}
+use Rattle.laws.proofs.NewCard.{stays}
 use Rattle.laws.proofs.Firsts.{first-low}
-use Rattle.laws.proofs.Coupled.{first-same}
 use Rattle.laws.proofs.Narrowed.{onto-length, shrink-front}
 use Rattle.laws.proofs.Calls as packed
-use Rattle.laws.proofs.KeptCalls.{wideOf, buildJudged, replaceJudged, lengths-told, stray-pass}
+use Rattle.laws.proofs.KeptCalls.{wideOf, buildJudged, replaceJudged, lengths-told, lengths-pass, stray-pass}
 use Rattle.laws.proofs.KeptCalls as calls
-use Rattle.laws.proofs.Widened.{SameRows, same-rows, Rooms, rooms, widened-blank, all-present, build-answer, build-kept, build-starts, build-widened, replace-answer, replace-kept, replace-rows, replace-widened}
+use Rattle.laws.proofs.Widened.{SameRows, same-rows, rooms, widened-blank, all-present, build-answer, build-kept, build-starts, build-widened, replace-answer, replace-kept, replace-rows, replace-widened}
 
 -- ---- lengths
 
@@ -77,8 +73,7 @@ ready-same z z′ s h e = (λ i.
 
 -- ready is what 9 asks
 pub ready-lengths : (z : Kept) → keptReady z ≡ true → lengthsJudged z (keptRoomy (z .lent .table) (z .lent .work)) ≡ Done
-unfolding lengthsJudged
-ready-lengths z e = rw e refl
+ready-lengths z e = lengths-pass z (keptRoomy (z .lent .table) (z .lent .work)) e
 
 pub lengths-ready : (z : Kept) → lengthsJudged z (keptRoomy (z .lent .table) (z .lent .work)) ≡ Done → keptReady z ≡ true
 unfolding lengthsJudged

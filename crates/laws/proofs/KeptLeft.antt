@@ -1,27 +1,24 @@
 -- What each call over kept rows leaves, of any deck and any slices: after a refusal, past the matrix length, above the least corner.
 use mathlib.Core.Path.{_≡_, refl, sym, ap, subst, _∙_}
 use mathlib.Core.Bool.{Bool, true, false, cond, _&&_}
-use mathlib.Core.List.{List, [], _++_}
-use Prim.Native.Nat.{ℕ, zero, suc, _+_, _-_, _≤_, _<_}
+use mathlib.Core.List.{List}
+use Prim.Native.Nat.{ℕ, zero, suc, _-_, _≤_, _<_}
 use native.Mathlib.Decide.{decLt}
 use native.Mathlib.Omega.{arith}
-use borrow.Author.Tests.{leb-true}
 use lib.Dec.{leb}
 use lib.IntN.{ℤ, pos}
-use lib.ListN.{length, take, drop, replicate, length-take, length-replicate, getD-replicate, drop-of-length-le, List·getD-eq-default, List·getD-append}
+use lib.ListN.{length, take, drop, replicate, length-replicate, getD-replicate, drop-of-length-le, List·getD-eq-default}
 use lib.Seq.{drop-at, take-take, take-append-le}
-use Rattle.whole.specs.Packed.{tri, cell, place, entry}
-use Rattle.whole.specs.Kept.{starts, spot, rowStarts, keptLower, keptCell, keptEntry, expand, shrink}
-use Rattle.whole.proofs.Packed.{lower-zeros, place-low, tri-below, tri-le}
+use Rattle.whole.specs.Packed.{tri, cell}
+use Rattle.whole.specs.Kept.{starts, spot, rowStarts, keptCell, keptEntry, expand, shrink}
+use Rattle.whole.proofs.Packed.{lower-zeros}
 use Rattle.whole.proofs.Kept.{starts-le, length-shrink, length-expand, shrink-above}
 use Rattle.whole.proofs.RowStarts.{length-starts}
-use Rattle.paper.specs.Refusals.{Outcome, refused, done, andThen, answerOf}
 use Rattle.paper.specs.Cards.{nodes, put}
 use Rattle.paper.specs.Judge.{judged, newJudged}
-use Rattle.paper.specs.Building.{Slices}
 use Rattle.paper.specs.Replacing.{stirs, firstRow}
 use Rattle.paper.specs.Coupled.{firstOf, strayRow}
-use Rattle.paper.specs.Calls.{whenDone, over, Lent, lent, Exit, StepExit, worked, inFactor, asLent, buildCall, replaceCall, stepCall}
+use Rattle.paper.specs.Calls.{whenDone, over, Lent, lent, worked, inFactor, asLent, buildCall, replaceCall, stepCall}
 use Rattle.paper.specs.Replacements.{on}
 use Rattle.paper.specs.Running.{Untouched}
 use Rattle.paper.specs.KeptCalls.{Kept, widened, onto, narrowed, keptLong, keptRoomy, keptEnough, lengthsJudged, startsJudged, KeptExit, KeptStepExit, KeptRunExit, keptBuild, keptReplace, nodesJudged, keptStep, keptRun}
@@ -30,7 +27,6 @@ use Rattle.paper.specs.declared.Answer.{Answer}
 use Rattle.paper.specs.declared.Answer.the-variants.{Done, Refused}
 use Rattle.paper.specs.declared.Refusal.{Refusal}
 use Rattle.paper.specs.declared.Refusal.the-variants.{Short}
-use Rattle.paper.specs.declared.Stepped.{Stepped}
 use Rattle.paper.specs.declared.Stepped.the-variants as stepAnswer
 use Rattle.laws.proofs.Outcomes.{done-refused, both-done}
 use Rattle.laws.proofs.Refused.{Plain, plain-told, plain-and, plain-cond, judged-plain, new-plain}
@@ -230,13 +226,15 @@ step-refused z r e = go (nodesJudged z) refl
         let said = sym (step-answer z k) ∙ e in
         step-kept z k ∙ (λ i. record { lent = besides (z .lent) (leaves.step-refused (widened (z .lent)) r said i); starts = z .starts }) ∙ unfold widened in refl
 
--- THEOREM. A step that settles is document 01's.
-pub step-settled : (z : Kept) (c : ℕ) → keptStep z .answer ≡ stepAnswer.Settled c → stepCall (widened (z .lent)) .answer ≡ stepAnswer.Settled c
+-- THEOREM. A step that settles is document 01's on the packed triangles.
+pub step-settled : (z : Kept) (c : ℕ) → keptStep z .answer ≡ stepAnswer.Settled c → let x = stepCall (widened (z .lent)) in
+    (x .answer ≡ stepAnswer.Settled c) × (keptStep z .kept .lent .temperatures ≡ x .lent .temperatures) × (keptStep z .kept .lent .carried ≡ x .lent .carried)
 step-settled z c e = go (nodesJudged z) refl
   where
-    go : (a : Answer) → nodesJudged z ≡ a → stepCall (widened (z .lent)) .answer ≡ stepAnswer.Settled c
+    go : (a : Answer) → nodesJudged z ≡ a → let x = stepCall (widened (z .lent)) in
+        (x .answer ≡ stepAnswer.Settled c) × (keptStep z .kept .lent .temperatures ≡ x .lent .temperatures) × (keptStep z .kept .lent .carried ≡ x .lent .carried)
     go (Refused q) k = absurd (let x = ap (λ (x : KeptStepExit). x .answer) (calls.step-refused z q k) ∙ e in let y : _≡_ {A = ℕ} 0 1 = cc in omega arith)
-    go Done k = sym (step-answer z k) ∙ e
+    go Done k = (sym (step-answer z k) ∙ e, ap (λ (x : Kept). x .lent .temperatures) (step-kept z k), ap (λ (x : Kept). x .lent .carried) (step-kept z k))
 
 -- ---- past the matrix length
 

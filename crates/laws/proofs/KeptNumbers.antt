@@ -3,16 +3,16 @@ use mathlib.Core.Path.{_≡_, refl, sym, ap, subst, _∙_}
 use mathlib.Core.Bool.{Bool, true, false, cond, not, _&&_}
 use mathlib.Core.Logic.{⊎-elim}
 use mathlib.Core.List.{List, [], _∷_}
-use Prim.Native.Nat.{ℕ, suc, _+_, _-_, _≤_, _<_, min}
+use Prim.Native.Nat.{ℕ, _-_, _≤_, _<_}
 use native.Mathlib.Decide.{decLt}
 use native.Mathlib.Omega.{arith}
-use borrow.Author.Tests.{le-leb, leb-true, lt-leb}
+use borrow.Author.Tests.{le-leb, lt-leb}
 use lib.Dec.{leb, eqb}
 use lib.IntN.{ℤ, pos}
 use lib.ListN.{length, getD, take, drop, replicate, length-take, length-append, length-replicate}
 use lib.Seq.{take-at, length-take-le, getD-take}
-use Rattle.whole.specs.Packed.{tri, cell, place, entry, lower}
-use Rattle.whole.specs.Kept.{starts, rowStarts, keptCell, keptEntry, expand}
+use Rattle.whole.specs.Packed.{tri, cell, place, entry}
+use Rattle.whole.specs.Kept.{starts, keptCell, keptEntry, expand}
 use Rattle.whole.proofs.Tests.{and-told}
 use Rattle.whole.proofs.Sums.{first-ext}
 use Rattle.whole.proofs.RowStarts.{starts-ext}
@@ -24,32 +24,30 @@ use Rattle.paper.specs.Judge.{judged, newJudged}
 use Rattle.paper.specs.Building.{Slices, slices, build}
 use Rattle.paper.specs.Lent.{foreign, laden, roomy, enough, opened, lentJudged}
 use Rattle.paper.specs.Replacing.{stirs, replaced}
-use Rattle.paper.specs.Step.{Board, Settling, boardOf, stepped, carriedOn, offScale}
+use Rattle.paper.specs.Step.{Settling, boardOf, stepped, carriedOn, offScale}
 use Rattle.paper.specs.Coupled.{firstOf, strayRow}
-use Rattle.paper.specs.Calls.{over, Lent, Exit, StepExit, long, closed, worked, inFactor, leaves, boardAt, endsStep, buildCall, replaceCall, stepCall}
-use Rattle.paper.specs.Replacements.{ready, present, Holds, Asked, afterAll}
-use Rattle.paper.specs.KeptCalls.{Kept, widened, narrowed, keptLong, keptRoomy, keptEnough, lengthsJudged, startsJudged, KeptExit, KeptStepExit, keptBuild, keptReplace, nodesJudged, keptStep}
-use Rattle.paper.specs.KeptReplacements.{keptReady, KeptHolds, keptAfterAll, SameNumbers, Alike}
+use Rattle.paper.specs.Calls.{over, Lent, Exit, long, closed, worked, inFactor, leaves, boardAt, endsStep, buildCall, replaceCall, stepCall}
+use Rattle.paper.specs.Replacements.{ready, present, Asked, afterAll}
+use Rattle.paper.specs.KeptCalls.{Kept, widened, narrowed, keptRoomy, keptEnough, lengthsJudged, startsJudged, KeptExit, KeptStepExit, keptBuild, keptReplace, nodesJudged, keptStep}
+use Rattle.paper.specs.KeptReplacements.{keptReady, keptAfterAll, SameNumbers, Alike}
 use Rattle.paper.specs.declared.Answer.{Answer}
 use Rattle.paper.specs.declared.Answer.the-variants.{Done, Refused}
 use Rattle.paper.specs.declared.Refusal.{Refusal}
 use Rattle.paper.specs.declared.Refusal.the-variants.{Short, Foreign, OffScale}
-use Rattle.paper.specs.declared.Stepped.{Stepped}
 use Rattle.paper.specs.declared.Stepped.the-variants as stepAnswer
-use Rattle.laws.proofs.Outcomes.{done-refused, done-inj, both-done, andThen-Done, Ends}
-use Rattle.laws.proofs.Refused.{Plain, plain-told}
+use Rattle.laws.proofs.Outcomes.{done-refused, done-inj, andThen-Done, Ends}
+use Rattle.laws.proofs.Refused.{plain-told}
 use Rattle.laws.proofs.Lent.{enough-told}
-use Rattle.laws.proofs.Firsts.{first-low}
 use Rattle.laws.proofs.Narrowed.{over-all}
 use Rattle.laws.proofs.Calls as packed
-use Rattle.laws.proofs.Left.{besides, step-same}
+use Rattle.laws.proofs.Left.{besides}
 use Rattle.laws.proofs.Left as left
 use Rattle.laws.proofs.Settled.{stepOutcome}
-use Rattle.laws.proofs.KeptCalls.{buildJudged, replaceJudged, stray-none, stray-pass}
+use Rattle.laws.proofs.KeptCalls.{replaceJudged, stray-none, stray-pass}
 use Rattle.laws.proofs.KeptCalls as calls
-use Rattle.laws.proofs.Widened.{Blank, BlankSlices, BlankLent, widened-blank, all-present, ends-by, SameRows, same-rows, build-answer, build-kept, replace-made, replace-leaves, replace-answer, replace-kept, replace-rows, replace-widened, step-answer, step-kept, step-widened}
+use Rattle.laws.proofs.Widened.{BlankSlices, widened-blank, all-present, ends-by, SameRows, same-rows, build-kept, replace-made, replace-leaves, replace-answer, replace-kept, replace-rows, replace-widened, step-answer, step-kept}
 use Rattle.laws.proofs.KeptLeft.{refused-one, plain-left, replace-plain}
-use Rattle.laws.proofs.KeptDemand3.{AsLong, narrowed-long, ready-same, wide-ready, ready-lengths, lengths-ready, past-build, builds-as, build-holds, build-table, holds-starts}
+use Rattle.laws.proofs.KeptDemand3.{AsLong, narrowed-long, ready-same, wide-ready, ready-lengths, past-build, builds-as, build-holds, build-table, holds-starts}
 
 -- ---- one slice: the numbers by row and column, and the packed triangle
 

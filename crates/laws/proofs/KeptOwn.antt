@@ -1,8 +1,8 @@
 -- A deck's own kept rows: they hold its matrices, entry by entry, and what 17 says of starts that are not its own.
 use mathlib.Core.Path.{_≡_, refl, sym, ap, _∙_}
-use mathlib.Core.Bool.{Bool, true, false, not}
+use mathlib.Core.Bool.{Bool, not}
 use mathlib.Core.List.{List}
-use Prim.Native.Nat.{ℕ, zero, suc, _+_, _-_, _≤_, _<_}
+use Prim.Native.Nat.{ℕ, zero, suc, _-_, _≤_, _<_}
 use native.Mathlib.Omega.{arith}
 use borrow.Author.Tests.{eqb-true, eq-eqb, not-false}
 use lib.Dec.{eqb}
@@ -25,7 +25,6 @@ use Rattle.paper.specs.Coupled.{firstOf, strayRow}
 use Rattle.paper.specs.KeptCalls.{Kept, startsJudged}
 use Rattle.paper.specs.KeptReplacements.{KeptHolds, FirstStray}
 use Rattle.paper.specs.declared.Answer.the-variants.{Done, Refused}
-use Rattle.paper.specs.declared.Refusal.{Refusal}
 use Rattle.paper.specs.declared.Refusal.the-variants.{Stray}
 use Rattle.laws.proofs.Judged.{deck}
 use Rattle.laws.proofs.NewCard.{change}

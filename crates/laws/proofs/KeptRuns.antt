@@ -4,18 +4,15 @@ use mathlib.Core.Bool.{true, _&&_}
 use mathlib.Core.List.{List}
 use Prim.Native.Nat.{ℕ, zero, suc}
 use lib.IntN.{ℤ}
-use Rattle.paper.specs.Refusals.{andThen}
 use Rattle.paper.specs.Cards.{nodes, stepsOf}
 use Rattle.paper.specs.Judge.{judged}
 use Rattle.paper.specs.Building.{Slices}
 use Rattle.paper.specs.Lent.{roomy, enough, opened}
-use Rattle.paper.specs.Calls.{Lent, Exit, StepExit, left, stepCall}
-use Rattle.paper.specs.Running.{RunExit, leftRun, runFrom, runCall}
+use Rattle.paper.specs.Calls.{Lent, Exit, left, stepCall}
+use Rattle.paper.specs.Running.{runFrom, runCall}
 use Rattle.paper.specs.KeptCalls.{Kept, widened, nodesJudged, keptRun}
 use Rattle.paper.specs.KeptReplacements.{Alike}
-use Rattle.paper.specs.declared.Answer.{Answer}
 use Rattle.paper.specs.declared.Answer.the-variants.{Done, Refused}
-use Rattle.paper.specs.declared.Refusal.{Refusal}
 use Rattle.paper.specs.declared.Stepped.{Stepped}
 use Rattle.paper.specs.declared.Stepped.the-variants as stepAnswer
 use Rattle.laws.proofs.Outcomes.{both-done}

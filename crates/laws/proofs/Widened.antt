@@ -1,39 +1,36 @@
 -- With zeros put left of the first columns, what a call over kept rows leaves is what document 01's call leaves, of any numbers.
 use mathlib.Core.Path.{_≡_, refl, sym, ap, subst, _∙_}
-use mathlib.Core.Bool.{Bool, true, false, cond, _&&_, _||_}
-use mathlib.Core.List.{List, [], _++_}
-use Prim.Native.Nat.{ℕ, zero, suc, _+_, _-_, _≤_, _<_}
+use mathlib.Core.Bool.{Bool, true, false, _&&_}
+use mathlib.Core.List.{List, _++_}
+use Prim.Native.Nat.{ℕ, _+_, _-_, _≤_, _<_}
 use native.Mathlib.Decide.{decLt}
 use native.Mathlib.Omega.{arith}
-use borrow.Author.Tests.{le-leb, leb-true}
-use lib.Dec.{leb}
+use borrow.Author.Tests.{leb-true}
 use lib.IntN.{ℤ, pos, _+ℤ_, _-ℤ_}
-use lib.ListN.{length, take, drop, replicate, length-replicate, getD-replicate, List·getD-eq-default}
-use lib.Seq.{take-all, length-take-le}
-use Rattle.whole.specs.Packed.{tri, cell, place, entry, lower}
+use lib.ListN.{length, take, drop, replicate, length-replicate, getD-replicate}
+use lib.Seq.{take-all}
+use Rattle.whole.specs.Packed.{tri, place, entry, lower}
 use Rattle.whole.specs.Kept.{starts, rowStarts, expand, shrink}
-use Rattle.whole.proofs.Tests.{and-told, cond-true, cond-false}
+use Rattle.whole.proofs.Tests.{cond-true, cond-false}
 use Rattle.whole.proofs.Lists.{join-length, join-front, join-back}
-use Rattle.whole.proofs.Packed.{length-lower, lower-at, place-low, tri-below, tri-le}
-use Rattle.whole.proofs.Kept.{Vanishes, length-expand, expand-vanishes}
+use Rattle.whole.proofs.Packed.{length-lower, place-low, tri-below, tri-le}
+use Rattle.whole.proofs.Kept.{length-expand, expand-vanishes}
 use Rattle.whole.proofs.RowStarts.{expand-ext}
-use Rattle.paper.specs.Refusals.{Outcome, refused, done, when, then, after, andThen, answerOf}
+use Rattle.paper.specs.Refusals.{Outcome, refused, done}
 use Rattle.paper.specs.Cards.{rows, nodes, put}
 use Rattle.paper.specs.Judge.{judged, newJudged}
 use Rattle.paper.specs.Parts.{partAt}
 use Rattle.paper.specs.Matrices.{addsP, addsA, P, A, fixed, cleared}
 use Rattle.paper.specs.Factor.{rowsFrom}
 use Rattle.paper.specs.Building.{Slices, slices, build}
-use Rattle.paper.specs.Lent.{roomy, enough, opened, lentJudged}
+use Rattle.paper.specs.Lent.{roomy, opened, lentJudged}
 use Rattle.paper.specs.Replacing.{formOf, moved, firstRow, redone, stirs, replaced}
 use Rattle.paper.specs.Coupled.{firstOf}
-use Rattle.paper.specs.Calls.{whenDone, over, Lent, lent, Exit, StepExit, long, closed, worked, inFactor, leaves, buildCall, replaceCall, stepCall}
+use Rattle.paper.specs.Calls.{whenDone, over, Lent, lent, long, closed, worked, inFactor, leaves, buildCall, replaceCall, stepCall}
 use Rattle.paper.specs.Replacements.{ready, present}
-use Rattle.paper.specs.Running.{RunExit, runCall}
-use Rattle.paper.specs.KeptCalls.{Kept, widened, onto, narrowed, keptLong, keptRoomy, lengthsJudged, startsJudged, KeptExit, KeptStepExit, KeptRunExit, again, keptBuild, keptReplace, nodesJudged, keptStep, keptRun}
-use Rattle.paper.specs.declared.Answer.{Answer}
-use Rattle.paper.specs.declared.Answer.the-variants.{Done, Refused}
-use Rattle.paper.specs.declared.Refusal.{Refusal}
+use Rattle.paper.specs.Running.{runCall}
+use Rattle.paper.specs.KeptCalls.{Kept, widened, onto, narrowed, keptLong, keptRoomy, lengthsJudged, again, keptBuild, keptReplace, nodesJudged, keptStep, keptRun}
+use Rattle.paper.specs.declared.Answer.the-variants.{Done}
 use Rattle.paper.specs.declared.Refusal.the-variants.{Short}
 use Rattle.laws.proofs.Outcomes.{after-done, when-done, then-done, done-inj, both-done, Ends, ends-done}
 use Rattle.laws.proofs.Decks.{Deck, Change}
@@ -44,12 +41,12 @@ use Rattle.laws.proofs.Firsts.{first-low}
 use Rattle.laws.proofs.KeptFactor.{lower-vanishes, Shaped, factor-vanishes}
 use Rattle.laws.proofs.Coupled.{part-P-left, part-A-left, P-left, A-left, A′-left, cleared-left, first-same}
 use Rattle.laws.proofs.Narrowed.{over-all, narrow-same, widen-back}
-use Rattle.laws.proofs.Built.{A′, Own, own}
+use Rattle.laws.proofs.Built.{A′, own}
 use Rattle.laws.proofs.Replaced.{from-fits}
 use Rattle.laws.proofs.Calls.{buildOutcome, replaceOutcome, build-table}
 use Rattle.laws.proofs.Left.{besides, step-same}
 use Rattle.laws.proofs.Running.{run-untouched}
-use Rattle.laws.proofs.KeptCalls.{wideOf, buildJudged, replaceJudged, Roomy, lengths-told}
+use Rattle.laws.proofs.KeptCalls.{wideOf, buildJudged, replaceJudged, lengths-told}
 
 -- ---- packed triangles that vanish left of a deck's first columns
 

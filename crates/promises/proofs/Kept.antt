@@ -18,7 +18,7 @@ use Rattle.paper.specs.Replacements.{ready, Asked, afterAll}
 use Rattle.paper.specs.Running.{runCall, Untouched}
 use Rattle.paper.specs.Book.{power, book, Closed}
 use Rattle.paper.specs.Coupled.{firstOf}
-use Rattle.paper.specs.KeptCalls.{Kept, startsJudged, keptBuild, keptReplace, nodesJudged, keptStep, keptRun}
+use Rattle.paper.specs.KeptCalls.{Kept, widened, startsJudged, keptBuild, keptReplace, nodesJudged, keptStep, keptRun}
 use Rattle.paper.specs.KeptReplacements.{keptReady, KeptHolds, keptAfterAll, FirstStray, keptAsLent, KeptBeyond, Alike}
 use Rattle.paper.specs.KeptBook.{KeptOwn, keptStepsOn, AllKeptOwn}
 use Rattle.paper.specs.declared.Answer.the-variants.{Done, Refused}
@@ -69,6 +69,11 @@ stepped-alike = numbers.alike-stepped
 
 pub ran-alike : (z : Kept) (y : Lent) → Alike z y → nodesJudged z ≡ Done → (keptRun z .answer ≡ runCall y .answer) × Alike (keptRun z .kept) (runCall y .lent)
 ran-alike = runs.alike-ran
+
+-- a step that settles is the packed form's on what is lent with zeros put left of the first columns: all that Step says of that one is said of it
+pub settled-as-packed : (z : Kept) (c : ℕ) → keptStep z .answer ≡ stepAnswer.Settled c → let x = stepCall (widened (z .lent)) in
+    (x .answer ≡ stepAnswer.Settled c) × (keptStep z .kept .lent .temperatures ≡ x .lent .temperatures) × (keptStep z .kept .lent .carried ≡ x .lent .carried)
+settled-as-packed = leaves.step-settled
 
 -- ---- row starts
 

@@ -93,7 +93,7 @@ unfolding toldStep
 kept-step-out z = go (keptStep z .answer) refl
   where
     go : (s : Stepped) → keptStep z .answer ≡ s → Holds (packed (toldStep s)) (toldStep s)
-    go (stepAnswer.Settled c) e = out (toldStep (stepAnswer.Settled c)) (omega arith) (omega (arith, at-most-four (widened (z .lent)) c (leaves.step-settled z c e)))
+    go (stepAnswer.Settled c) e = out (toldStep (stepAnswer.Settled c)) (omega arith) (omega (arith, at-most-four (widened (z .lent)) c (leaves.step-settled z c e .0)))
     go (stepAnswer.Refused r) e = refusal-out r
 
 pub step-told : (s z : Stepped) → packed (toldStep s) ≡ packed (toldStep z) → s ≡ z
