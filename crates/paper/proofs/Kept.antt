@@ -33,7 +33,7 @@ use Rattle.paper.specs.Coupled.{corner, coupled, firstOf, strayRow}
 use Rattle.paper.specs.KeptCalls.{Kept, kept, widened, narrowed, keptLong, keptEnough, lengthsJudged, startsJudged, KeptExit, keptBuild, keptReplace, keptStep, keptRun}
 use Rattle.paper.specs.declared.Kind.the-variants.{T}
 use Rattle.paper.proofs.Cases.{same, eqZ, figures-told, numbers-told}
-use Rattle.paper.proofs.Checked.{deck, node, element, right, rim, material, counted}
+use Rattle.paper.proofs.Checked.{deck, node, element, right, rim, point, material, tetra, cube, counted}
 
 -- node 4 held at a temperature
 abbrev hold : ℕ → List ℕ
@@ -48,6 +48,10 @@ bridge thick =
 -- its row starts: rows of 1, 2, 3, 1, 5 and 3 numbers
 abbrev rows : List ℕ
 rows = 0 ∷ 1 ∷ 3 ∷ 6 ∷ 7 ∷ 12 ∷ []
+
+-- a triangle, and a tetrahedron whose least node is its last
+abbrev stack : List ℕ
+stack = counted 1 (cube ++ point 100 100 100) (material 1000 1000 1000 2400) (element 1 2 3 1000 ++ tetra 5 4 3 2 1) []
 
 -- with a deck: slices of m numbers, each z, these starts, temperatures and zeros carried
 abbrev with : ℕ → ℤ → List ℕ → List ℕ → List ℤ → Kept
@@ -88,6 +92,8 @@ unfoldable pub figures : List Figure
 figures =
     -- an edge couples nodes 1 and 5, and a held node counts as any other
     record { got = map pos (keptLong (bridge 1000) ∷ rowStarts (firstOf (bridge 1000)) 6); want = map pos (15 ∷ rows) }
+    -- a tetrahedron couples all its four nodes
+    ∷ record { got = map pos (keptLong stack ∷ rowStarts (firstOf stack) 5); want = map pos (13 ∷ 0 ∷ 1 ∷ 3 ∷ 6 ∷ 9 ∷ []) }
     -- a build: the packed form's numbers, and the starts
     ∷ record { got = seen (built (bridge 1000)); want = packed (bridge 1000) }
     -- a replacement of an element: the changed deck's numbers, the starts as they were
