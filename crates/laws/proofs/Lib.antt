@@ -3,6 +3,8 @@ pub mod Scale
 pub mod Outcomes
 pub mod Tables
 pub mod Update
+pub mod KeptFactor
+pub mod Narrowed
 pub mod Finished
 pub mod Letters
 pub mod Decks
@@ -22,6 +24,7 @@ pub mod Judging
 pub mod Judged
 pub mod Alike
 pub mod Kept
+pub mod Coupled
 pub mod NewCard
 pub mod InTurn
 pub mod Elements
@@ -45,6 +48,9 @@ pub mod Calls
 pub mod Left
 pub mod Carried
 pub mod Running
+pub mod KeptCalls
+pub mod Widened
+pub mod KeptLeft
 pub mod Balance
 pub mod Book
 pub mod Rounds

@@ -9,7 +9,7 @@ use Rattle.paper.specs.Calls.{readCall, writeCall, Lent, buildCall, replaceCall
 use Rattle.paper.specs.Running.{runCall}
 use Rattle.paper.specs.Records.{importCall}
 use Rattle.paper.specs.declared.Refusal.{Refusal}
-use Rattle.paper.specs.declared.Refusal.the-variants.{Length, Trailer, Form, Range, Flat, Stiff, Pivot, Bound, Short, Foreign, OffScale, Unsettled, Replacement, Thin, Infinite, Garbled}
+use Rattle.paper.specs.declared.Refusal.the-variants.{Length, Trailer, Form, Range, Flat, Stiff, Pivot, Bound, Short, Foreign, OffScale, Unsettled, Replacement, Thin, Infinite, Garbled, Stray}
 
 -- the paper's number and place tell each refusal: this one has them
 abbrev pub refusalOf : ℕ → ℕ → Refusal
@@ -17,7 +17,8 @@ refusalOf n place =
     cond (eqb n 1) Length (cond (eqb n 2) Trailer (cond (eqb n 3) (Form place) (cond (eqb n 4) (Range place)
     (cond (eqb n 5) (Flat place) (cond (eqb n 6) (Stiff place) (cond (eqb n 7) (Pivot place) (cond (eqb n 8) (Bound place)
     (cond (eqb n 9) Short (cond (eqb n 10) Foreign (cond (eqb n 11) (OffScale place) (cond (eqb n 12) (Unsettled place)
-    (cond (eqb n 13) (Replacement place) (cond (eqb n 14) (Thin place) (cond (eqb n 15) (Infinite place) (Garbled place)))))))))))))))
+    (cond (eqb n 13) (Replacement place) (cond (eqb n 14) (Thin place) (cond (eqb n 15) (Infinite place)
+    (cond (eqb n 16) (Garbled place) (Stray place))))))))))))))))
 
 pub number-and-place-tell : (r : Refusal) → refusalOf (numberOf r) (placeOf r) ≡ r
 number-and-place-tell Length = refl
@@ -36,6 +37,7 @@ number-and-place-tell (Replacement k) = refl
 number-and-place-tell (Thin k) = refl
 number-and-place-tell (Infinite k) = refl
 number-and-place-tell (Garbled k) = refl
+number-and-place-tell (Stray k) = refl
 
 -- every outcome that keeps the promise is this one
 abbrev pub Only : {X : Type 0} → X → Type 0

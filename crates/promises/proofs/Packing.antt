@@ -8,7 +8,7 @@ use Rattle.paper.specs.Calls.{Lent, stepCall}
 use Rattle.paper.specs.declared.Answer.{Answer}
 use Rattle.paper.specs.declared.Answer.the-variants.{Done, Refused}
 use Rattle.paper.specs.declared.Refusal.{Refusal}
-use Rattle.paper.specs.declared.Refusal.the-variants.{Length, Trailer, Form, Range, Flat, Stiff, Pivot, Bound, Short, Foreign, OffScale, Unsettled, Replacement, Thin, Infinite, Garbled}
+use Rattle.paper.specs.declared.Refusal.the-variants.{Length, Trailer, Form, Range, Flat, Stiff, Pivot, Bound, Short, Foreign, OffScale, Unsettled, Replacement, Thin, Infinite, Garbled, Stray}
 use Rattle.paper.specs.declared.Stepped.{Stepped}
 use Rattle.paper.specs.declared.Stepped.the-variants as stepAnswer
 use Rattle.paper.specs.declared.Ran.{Ran}
@@ -16,8 +16,8 @@ use Rattle.paper.specs.declared.Ran.the-variants as runAnswer
 use Rattle.promises.proofs.Outcomes.{refusalOf, number-and-place-tell}
 use Rattle.promises.proofs.Step.{at-most-four}
 
--- the numbers of the table of refusals are 1 to 16
-pub number-in-table : (r : Refusal) → (1 ≤ numberOf r) × (numberOf r ≤ 16)
+-- the numbers of the table of refusals are 1 to 17
+pub number-in-table : (r : Refusal) → (1 ≤ numberOf r) × (numberOf r ≤ 17)
 number-in-table Length = (omega arith, omega arith)
 number-in-table Trailer = (omega arith, omega arith)
 number-in-table (Form k) = (omega arith, omega arith)
@@ -34,6 +34,7 @@ number-in-table (Replacement k) = (omega arith, omega arith)
 number-in-table (Thin k) = (omega arith, omega arith)
 number-in-table (Infinite k) = (omega arith, omega arith)
 number-in-table (Garbled k) = (omega arith, omega arith)
+number-in-table (Stray k) = (omega arith, omega arith)
 
 -- number and place tell a refusal
 tells : (r q : Refusal) → numberOf r ≡ numberOf q → placeOf r ≡ placeOf q → r ≡ q
