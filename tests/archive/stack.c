@@ -14,6 +14,7 @@ static uint8_t bytes[GORMULAST_MAX_BYTES], written[GORMULAST_MAX_BYTES];
 static size_t length, rows;
 static uint32_t table[GORMULAST_MAX_TABLE];
 static int64_t p[MATRIX], a[MATRIX], factor[MATRIX], work[MATRIX], temperatures[GORMULAST_MAX_NODES], carried[GORMULAST_MAX_NODES];
+static uint32_t starts[GORMULAST_MAX_NODES];
 static uint64_t answer;
 static uint32_t card;
 
@@ -57,7 +58,7 @@ static void call_write(void)
 
 static void call_build(void)
 {
-	answer = gormulast_build(table, 6 * rows, p, MATRIX, a, MATRIX, factor, MATRIX, work, MATRIX);
+	answer = gormulast_build(table, 6 * rows, p, MATRIX, a, MATRIX, factor, MATRIX, work, MATRIX, starts, GORMULAST_MAX_NODES);
 }
 
 /* Puts a card in its own place. */
@@ -66,12 +67,12 @@ static void call_replace(void)
 	const uint32_t *old = table + 6 * card;
 
 	answer = gormulast_replace(table, 6 * rows, p, MATRIX, a, MATRIX, factor, MATRIX, work, MATRIX,
-				   card + 1, old[0], old[1], old[2], old[3], old[4], old[5]);
+				   starts, GORMULAST_MAX_NODES, card + 1, old[0], old[1], old[2], old[3], old[4], old[5]);
 }
 
 static void call_step(void)
 {
-	answer = gormulast_step(table, 6 * rows, p, MATRIX, a, MATRIX, factor, MATRIX,
+	answer = gormulast_step(table, 6 * rows, p, MATRIX, a, MATRIX, factor, MATRIX, starts, GORMULAST_MAX_NODES,
 				temperatures, GORMULAST_MAX_NODES, carried, GORMULAST_MAX_NODES);
 }
 

@@ -1,9 +1,9 @@
 //! What is tried, part by part.
 
-use crate::cases;
 use crate::decks::{
     about_thin, bytes_of, text_of, turned, Chance, Groups, D, E, F, G, H, M, N, SIDES, T, TOP, V, Z,
 };
+use crate::plan::LENT;
 use crate::record::Record;
 use crate::trial::Trial;
 use reference::{Card, MAX_BYTES};
@@ -28,6 +28,28 @@ pub fn all(record: &mut Record) {
     nonsense(record);
     enough(record);
     record.traced = [small(), bytes_of(&Groups::one_of_each_solid().table())];
+}
+
+/// As many numbers as the board of 96 nodes in decks/ keeps.
+pub const FEW: usize = 716;
+
+/// With just so many numbers: that board, the same numbered ill, which is refused and leaves it at work, and smaller ones.
+pub fn few(record: &mut Record) {
+    let deck = include_bytes!("../../../decks/board96.deck");
+    record.deck(deck);
+    record.steps(5);
+    let mut more = Groups::sheet(&mut record.chance, 12, 8);
+    more.fixed.clear();
+    record.deck(&bytes_of(&more.table()));
+    record.steps(1);
+    replaced(record, 10, 2);
+    let fan = Groups::fan(&mut record.chance, 38).table();
+    record.deck(&bytes_of(&fan));
+    let fan = Groups::fan(&mut record.chance, 37).table();
+    record.deck(&bytes_of(&fan));
+    record.steps(3);
+    record.back();
+    assert!(record.met[0][0] == 2 && record.met[0][9] == 2);
 }
 
 fn before_any_deck(record: &mut Record) {
@@ -245,7 +267,7 @@ fn closed_board(record: &mut Record) {
     record.steps(1_000);
     record.replace(28, [H, 9, 100, 0, 0, 0]);
     record.steps(500);
-    record.replace(16, [E, 1, 2, 6, 1, 1_601]);
+    record.replace(16, [E, 4, 7, 5, 1, 1_601]);
     record.steps(500);
     record.back();
     record.deck(deck);
@@ -478,14 +500,16 @@ fn enough(record: &Record) {
 
 /// The differential test's cases of own and foreign buffers.
 pub fn lent(trial: &mut Trial) {
-    for (_, part) in cases::LENT {
+    for (_, part) in LENT {
         part(trial);
     }
     let met = trial.met;
     assert!(met.iter().all(|met| met[0] >= 5 && met[9] > 0));
     let [.., replace, step] = met;
-    assert!([7, 8, 10, 13, 14].iter().all(|&number| replace[number] > 0));
-    assert!([8, 10, 11, 12].iter().all(|&number| step[number] > 0));
+    assert!([7, 8, 10, 13, 14, 17]
+        .iter()
+        .all(|&number| replace[number] > 0));
+    assert!([8, 10, 11, 12, 17].iter().all(|&number| step[number] > 0));
     let unmet = trial.things.unmet();
     assert!(unmet.is_empty(), "not met: {unmet:?}");
 }
