@@ -84,15 +84,7 @@ fn try_import(table: &[u32], records: &[u8], second: &mut [u32]) -> Result<(), R
 
     let (records, tail) = records.split_at(length - RECORD_BYTES);
     let records = || records.chunks_exact(RECORD_BYTES).map(Record::of);
-    let mut before = [0; 6];
-    for (index, record) in records().enumerate() {
-        before =
-            judge(&deck, &before, &record).map_err(|number| Refusal::at_index(number, index))?;
-    }
-    let count = records().len();
-    if !Record::of(tail).is_tail(count) {
-        return Err(Refusal::at_index(GARBLED, count));
-    }
+    let count = judge_all(&deck, records(), &Record::of(tail))?;
 
     // Of each element one H, of each triangle one F, of each node one T at most, and the deck's own G: never too many.
     let rows = deck.counts.rows() + count;
@@ -104,23 +96,32 @@ fn try_import(table: &[u32], records: &[u8], second: &mut [u32]) -> Result<(), R
         let cards = records().filter_map(|record| record.card().ok());
         cards.filter(move |card| (card[0] == T) == held)
     };
-    let [_, _, nodes, materials, elements, edges] = deck.card(deck.counts.trailer());
-    let back = CARD_BYTES * (rows - 1);
-    let trailer = [
-        Z,
-        back as u32,
-        nodes,
-        materials,
-        elements,
-        edges + count as u32,
-    ];
     let cards = deck.cards().take(first);
     let cards = cards.chain(new(false)).chain(deck.loads());
-    let cards = cards.chain(new(true)).chain([trailer]);
+    let cards = cards.chain(new(true)).chain([trailer(&deck, count)]);
     for (row, card) in second.chunks_exact_mut(6).zip(cards) {
         row.copy_from_slice(&card);
     }
     Ok(())
+}
+
+/// Each record in turn, then the last. How many come before it.
+fn judge_all(
+    deck: &Deck,
+    records: impl Iterator<Item = Record>,
+    tail: &Record,
+) -> Result<usize, Refusal> {
+    let mut before = [0; 6];
+    let mut count = 0;
+    for record in records {
+        before =
+            judge(deck, &before, &record).map_err(|number| Refusal::at_index(number, count))?;
+        count += 1;
+    }
+    if !tail.is_tail(count) {
+        return Err(Refusal::at_index(GARBLED, count));
+    }
+    Ok(count)
 }
 
 /// The card of a record that comes after that card, none at first; or 16, 15 or 4.
@@ -138,4 +139,18 @@ fn judge(deck: &Deck, before: &Card, record: &Record) -> Result<Card, u8> {
         return Err(RANGE);
     }
     Ok(card)
+}
+
+/// Z with so many cards more.
+fn trailer(deck: &Deck, count: usize) -> Card {
+    let [_, _, nodes, materials, elements, edges] = deck.card(deck.counts.trailer());
+    let back = CARD_BYTES * (deck.counts.rows() + count - 1);
+    [
+        Z,
+        back as u32,
+        nodes,
+        materials,
+        elements,
+        edges + count as u32,
+    ]
 }

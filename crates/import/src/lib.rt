@@ -9,7 +9,7 @@ ghost use mathlib.Core.List.{List, _++_};
 ghost use Prim.Native.Nat.{ℕ, _+_, _-_, _*_, _≤_, _<_};
 ghost use lib.ListN.{length, getD, drop};
 ghost use Rattle.whole.specs.Sums.{firstFrom};
-ghost use Rattle.paper.specs.Cards.{cards, rowAt};
+ghost use Rattle.paper.specs.Cards.{cards, mostRows, rowAt};
 ghost use Rattle.paper.specs.Calls.{joined};
 ghost use Rattle.paper.specs.Records as paper;
 ghost use Rattle.import.specs.Asks.{Sized, Placed};
@@ -119,7 +119,7 @@ fn is_made(letter: u32) -> bool
 
 // The number of the first H, F or T card; 0 where there is none.
 fn first_made(t: &[u32], rows: usize) -> usize
-    requires { ⌜ (rows * 6 ≤ length (now t)) × (rows < 1000) ⌝ }
+    requires { ⌜ (rows * 6 ≤ length (now t)) × (rows ≤ mostRows) ⌝ }
     ensures { λ r. ⌜ (r ≡ firstFrom rows 0 (λ row. paper.isMade (rowAt (now (t .entry)) row))) × (r ≤ rows) ⌝ }
 {
     let mut i = 0;
@@ -203,7 +203,7 @@ fn record_row(bytes: &[u8], i: usize) -> [u32; 6]
 }
 
 fn row_of(t: &[u32], i: usize) -> [u32; 6]
-    requires { ⌜ (i * 6 + 6 ≤ length (now t)) × (i < 1000) ⌝ }
+    requires { ⌜ (i * 6 + 6 ≤ length (now t)) × (i ≤ mostRows) ⌝ }
     ensures { λ r. ⌜ r ≡ rowAt (now (t .entry)) i ⌝ }
 {
     let at = i * 6;
@@ -212,7 +212,7 @@ fn row_of(t: &[u32], i: usize) -> [u32; 6]
 
 // Z of a deck's counts and n loads more.
 fn last_row(counts: Counts, n: usize) -> [u32; 6]
-    requires { ⌜ (cards counts < 1000) × (n < 6000) ⌝ }
+    requires { ⌜ (cards counts ≤ mostRows) × (n < 6000) ⌝ }
     ensures { λ r. ⌜ r ≡ paper.lastRow counts n ⌝ }
 {
     let rows = kinds::cards_before(counts, kinds::about(Kind::Z).section);

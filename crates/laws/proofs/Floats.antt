@@ -1,7 +1,7 @@
 -- The bits by the kit's account of IEEE 754: what number they stand for, and that kelvins times 65,536 is exact.
 use mathlib.Core.Path.{_≡_, refl, sym, ap, subst, _∙_}
 use mathlib.Core.Bool.{Bool, true, false, not, cond, _&&_}
-use Prim.Native.Nat.{ℕ, zero, suc, _+_, _*_, _-_, _/_, _^_, _≤_, _<_, min}
+use Prim.Native.Nat.{ℕ, zero, suc, _+_, _*_, _-_, _^_, _≤_, _<_, min}
 use native.Mathlib.Nat.{mul-assoc, mul-right-comm, mul-pos, mul-one, eq-of-mul-eq-mul-right, lt-of-lt-of-le, mul-le-mul, le-trans, not-le-of-lt}
 use native.Mathlib.Omega.{arith}
 use native.Mathlib.Decide.{decLt}
@@ -14,8 +14,8 @@ use lib.Ieee.Exact.{HasValue, odd-sign, round-exact}
 use lib.Ieee.Fits.{mul-fits, down-pos}
 use lib.Ieee.Bits.{ofBits-toBits, toBits-ofBits, nanBits-is, is-false}
 use borrow.Author.Tests.{ne-eqb, eqb-false, lt-leb, ltb-true}
-use Rattle.whole.specs.Nearest.{nearest}
-use Rattle.paper.specs.Singles.{negative, exponent, fraction, finite, mantissa, shift, size, value, toNearest, asField}
+use Rattle.whole.proofs.Tests.{and-false}
+use Rattle.paper.specs.Singles.{negative, exponent, fraction, finite, mantissa, shift, size, toNearest, asField}
 use Rattle.paper.specs.Cards.{outside, Column, within}
 use Rattle.laws.proofs.Rounds.{mantissa-bound, mantissa-leads, product-leads, rounded-high, sizeAt, field-pos, field-neg, same-nearest}
 
@@ -129,12 +129,12 @@ no-nan (inf u) s a c h = tt
 no-nan (fin u m e) s a c h = tt
 
 -- kelvins of a size below 2^32, by their bits
-module _ (x : Float) (asField-by : T (fits binary32 x)) (low : shift (toBits binary32 x) < 158) where
+module _ (x : Float) (held : T (fits binary32 x)) (low : shift (toBits binary32 x) < 158) where
   pub product-value : HasValue (mul binary32 x factor) (negative (toBits binary32 x)) (size (toBits binary32 x) * 65536) (2 ^ 149)
   unfolding size shift
   product-value =
       let b = toBits binary32 x in
-      product-exact x (negative b) (mantissa b) (shift b) (mantissa-bound b) (omega arith) (own-bits x asField-by (omega arith))
+      product-exact x (negative b) (mantissa b) (shift b) (mantissa-bound b) (omega arith) (own-bits x held (omega arith))
 
   pub product-told : T (not (isNan (mul binary32 x factor)))
   product-told = no-nan (mul binary32 x factor) (negative (toBits binary32 x)) (size (toBits binary32 x) * 65536) (2 ^ 149) product-value
@@ -174,10 +174,6 @@ pub kelvins-exact : (x : Float) → T (fits binary32 x) → size (toBits binary3
 kelvins-exact x f h = product-value x f (low-shift (toBits binary32 x) h)
 
 -- ---- a field lies in a column just where the whole number does, of columns that 8 digits can fill
-
-and-false : (a : Bool) → a && false ≡ false
-and-false true = refl
-and-false false = refl
 
 pub field-within : (c : Column) (z : ℤ) → c .most < outside → within c (asField z) ≡ leZ (pos (c .least)) z && leZ z (pos (c .most))
 unfolding asField

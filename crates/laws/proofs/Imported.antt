@@ -1,40 +1,37 @@
 -- What an accepted import tells, and that the second table is a deck: the judge accepts it.
 use mathlib.Core.Path.{_≡_, refl, sym, ap, subst, _∙_}
-use mathlib.Core.Bool.{Bool, true, false, not, cond, _&&_, _||_}
+use mathlib.Core.Bool.{Bool, true, false, cond, _&&_}
 use mathlib.Core.Logic.{_⊎_, inl, inr}
-use mathlib.Core.List.{List, [], _∷_, _++_}
+use mathlib.Core.List.{List}
 use Prim.Native.Nat.{ℕ, zero, suc, _+_, _-_, _*_, _≤_, _<_}
-use native.Mathlib.Decide.{decLt, ℕ-discrete}
+use native.Mathlib.Decide.{decLt}
 use native.Mathlib.Omega.{arith}
-use lib.Dec.{ltb, leb, eqb}
-use lib.ListN.{length, getD, take, drop}
-use lib.Seq.{take-at, drop-at}
-use borrow.Author.Tests.{eqb-true, eq-eqb, ne-eqb, lt-ltb, le-ltb, le-leb, lt-leb, ltb-false}
-use Rattle.whole.specs.Sums.{sumN, firstFrom}
-use Rattle.whole.proofs.Tests.{never, nor-told, cond-true, cond-false}
+use lib.Dec.{ltb, eqb}
+use lib.ListN.{length, getD}
+use borrow.Author.Tests.{eqb-true, eq-eqb, lt-ltb, le-ltb, le-leb, ltb-false}
+use Rattle.whole.proofs.Sums.{first-none}
+use Rattle.whole.proofs.Tests.{never, cond-true, cond-false}
 use Rattle.paper.specs.Refusals.{Outcome, refused, done}
-use Rattle.paper.specs.Kinds.{about, aboutOf, kindOf, kindAt, letterOf, isA}
-use Rattle.paper.specs.Cards.{before, cards, columns, columnsOf, inRange, orderOf, ranked, rank, countsOf, countsAt, rowAt, letter, rows, nodes, materials, elements}
-use Rattle.paper.specs.Judge.{stands, clean, rises, ordered, full, asks, trailer, judgeCard, judged}
-use Rattle.paper.specs.Records.{recordKind, recordNumber, recordCard, recordAt, recordCount, inTwelves, recordsFrom, recordsJudged, isMade, firstMade, made, recordRow, early, lastRow, secondRow, secondRows, secondTable, roomJudged, imports, importCall}
-use Rattle.paper.specs.declared.About.{About}
-use Rattle.paper.specs.declared.Answer.{Answer}
-use Rattle.paper.specs.declared.Answer.the-variants.{Done, Refused}
-use Rattle.paper.specs.declared.Refusal.{Refusal}
+use Rattle.paper.specs.Kinds.{about, aboutOf, kindAt, letterOf, isA}
+use Rattle.paper.specs.Cards.{before, cards, columns, columnsOf, inRange, orderOf, rank, countsOf, countsAt, rowAt, letter, rows}
+use Rattle.paper.specs.Judge.{stands, clean, rises, ordered, full, asks, trailer, judged}
+use Rattle.paper.specs.Records.{recordKind, recordNumber, recordCard, recordAt, recordCount, inTwelves, recordsFrom, recordsJudged, isMade, firstMade, made, recordRow, early, lastRow, secondRow, secondRows, secondTable, roomJudged, imports}
+use Rattle.paper.specs.declared.Answer.the-variants.{Done}
 use Rattle.paper.specs.declared.Refusal.the-variants.{Length, Short, Replacement}
 use Rattle.paper.specs.declared.Counts.{Counts}
 use Rattle.paper.specs.declared.Kind.{Kind}
-use Rattle.paper.specs.declared.Kind.the-variants.{D, N, M, E, «V», H, F, G, T, Z, Other}
+use Rattle.paper.specs.declared.Kind.the-variants.{E, «V», F, G}
 use Rattle.laws.proofs.Outcomes.{both-done, cond-done, cond-rest}
 use Rattle.laws.proofs.Letters.{letter-of, kind-of}
 use Rattle.laws.proofs.Tables.{row-field, row-length}
 use Rattle.laws.proofs.Joined.{joined-length, joined-at}
-use Rattle.laws.proofs.Decks.{Deck, kindIn, loads}
+use Rattle.laws.proofs.Decks.{Deck, kindIn}
 use Rattle.laws.proofs.Spans.{row-kind, nodes-are, materials-are, elements-are, loads-are, begins, section-at}
 use Rattle.laws.proofs.Judged.{orderBefore, rankBefore, passes, Passed, passed, passing, top-told, top-done, deck}
-use Rattle.laws.proofs.Alike.{column-in, card-same}
+use Rattle.laws.proofs.Alike.{column-in}
 use Rattle.laws.proofs.Recorded.{Sort, heat, film, hold, Made, made-card, Loads, loads-of, Taken, taken, follow-told, Fair, few-records, kindBefore, numberBefore, records-each, early-most, early-below, early-stop}
 use Rattle.laws.proofs.Second.{before-five, at-body, at-early, at-edge, at-late, at-last, grown, grown-four, grown-five, grown-stands, body-order, grown-columns, grown-asks}
+use Rattle.laws.proofs.Passing.{edge-kind, stands-load, ordered-one, rank-one, rises-up, full-not, passes-same, trailer-of}
 
 -- ---- what acceptance tells
 
@@ -58,105 +55,6 @@ accepted t bs room e =
 -- the row of a record's card
 abbrev pub recordPlace : List ℕ → List ℕ → ℕ → ℕ
 recordPlace t bs k = cond (ltb k (early bs)) (before (countsAt t) 4 + k) (cards (countsAt t) + k)
-
--- none found
-first-none : (f : ℕ → Bool) (n i j : ℕ) → firstFrom n i f ≡ 0 → i ≤ j → j < i + n → f j ≡ false
-unfolding firstFrom
-first-none f zero i j e a b = absurd (omega arith)
-first-none f (suc n) i j e a b = go (f i) refl e (ℕ-discrete i j) (λ h l. first-none f n (suc i) j h l (omega arith))
-  where
-    go : (t : Bool) → f i ≡ t → cond t (suc i) (firstFrom n (suc i) f) ≡ 0 → Dec (i ≡ j) → (firstFrom n (suc i) f ≡ 0 → suc i ≤ j → f j ≡ false) → f j ≡ false
-    go true q h c later = absurd (omega arith)
-    go false q h (yes c) later = ap f (sym c) ∙ q
-    go false q h (no c) later = let c′ : i ≡ j → ⊥ = c in later h (omega arith)
-
--- ---- the judge's tests of a load
-
-not-letter : (card : List ℕ) (k : Kind) → isA k card ≡ false → kindAt card ≡ k → about k .order < 10 → ⊥
-not-letter card k h e l = let x : false ≡ true = sym h ∙ eq-eqb (getD card 0 0) (letterOf k) (letter-of (getD card 0 0) k e l) in never x
-
--- a load that is none of H, F and T is a G
-edge-kind : (card : List ℕ) → about (kindAt card) .section ≡ 4 → isMade card ≡ false → kindAt card ≡ G
-unfolding about
-edge-kind card s m = go (kindAt card) refl s
-  where
-    told : (isA H card ≡ false) × (isA F card ≡ false) × (isA T card ≡ false)
-    told =
-        let (a, c) = nor-told (isA H card || isA F card) (isA T card) m in
-        let (x, y) = nor-told (isA H card) (isA F card) a in
-        (x, y, c)
-
-    go : (k : Kind) → kindAt card ≡ k → about k .section ≡ 4 → k ≡ G
-    go D e h = absurd (omega arith)
-    go N e h = absurd (omega arith)
-    go M e h = absurd (omega arith)
-    go E e h = absurd (omega arith)
-    go «V» e h = absurd (omega arith)
-    go H e h = absurd (not-letter card H (told .0) e (omega arith))
-    go F e h = absurd (not-letter card F (told .1) e (omega arith))
-    go G e h = refl
-    go T e h = absurd (not-letter card T (told .2) e (omega arith))
-    go Z e h = absurd (omega arith)
-    go Other e h = absurd (omega arith)
-
-stands-load : (z : Counts) (i p : ℕ) (a : About) → a .section ≡ 4 → before z 4 ≤ i → i < before z 5 → p ≤ a .order → stands z i p a ≡ true
-unfolding stands
-stands-load z i p a s l h u = rw (s, le-leb (before z 4) i l, lt-ltb i (before z 5) h, le-leb p (a .order) u)
-
--- of a kind with one key
-ordered-one : (a : About) (card : List ℕ) → a .keys ≡ 1 → ordered a card ≡ true
-unfolding ordered
-ordered-one a card e = rw e
-
-pub rank-one : (a : About) (card : List ℕ) → a .keys ≡ 1 → ranked a card ≡ getD card 1 0
-unfolding ranked
-rank-one a card e = rw e
-
-rises-up : (p key : ℕ) (a : About) (card : List ℕ) → (p ≡ a .order → key < ranked a card) → rises p key a card ≡ true
-unfolding rises
-rises-up p key a card h = go (eqb (a .keys) 0) (ℕ-discrete p (a .order))
-  where
-    go : (t : Bool) → Dec (p ≡ a .order) → t || not (eqb p (a .order)) || ltb key (ranked a card) ≡ true
-    go true d = refl
-    go false (yes e) = rw (eq-eqb p (a .order) e) (lt-ltb key (ranked a card) (h e))
-    go false (no e) = rw (ne-eqb p (a .order) e)
-
-and-false : (a : Bool) → a && false ≡ false
-and-false true = refl
-and-false false = refl
-
--- no card of the kind stands so far back
-full-not : (row : ℕ → List ℕ) (i : ℕ) (a : About) → (a .most ≤ i → getD (row (i - a .most)) 0 0 ≡ a .letter → ⊥) → full row i a ≡ false
-unfolding full
-full-not row i a h = go (decLt i (a .most))
-  where
-    go : Dec (i < a .most) → leb (a .most) i && eqb (getD (row (i - a .most)) 0 0) (a .letter) ≡ false
-    go (yes l) = rw (lt-leb (a .most) i l)
-    go (no l) =
-        let l′ : i < a .most → ⊥ = l in
-        rw (ne-eqb (getD (row (i - a .most)) 0 0) (a .letter) (h (omega arith))) (and-false (leb (a .most) i))
-
-passes-same : (z : Counts) (f g : ℕ → List ℕ) (i : ℕ) → ((j : ℕ) → j ≤ i → f j ≡ g j) → passes z f i ≡ passes z g i
-passes-same z f g zero e = card-same z f g 0 0 0 e
-passes-same z f g (suc i) e =
-    (λ j. judgeCard z f (suc i) (orderOf (e i (omega arith) j)) (rank (e i (omega arith) j))) ∙ card-same z f g (suc i) (orderOf (g i)) (rank (g i)) e
-
--- Z with counts in their bounds
-trailer-of : (x a m e n : ℕ) → x ≡ 42 * (1 + a + m + e + n) → 3 ≤ a → a ≤ 96 → 1 ≤ m → m ≤ 8 → 1 ≤ e → e ≤ 160 → n ≤ 576 → trailer (90 ∷ x ∷ a ∷ m ∷ e ∷ n ∷ []) ≡ true
-unfolding trailer columns inRange before sumN kindOf about
-trailer-of x a m e n q p1 p2 p3 p4 p5 p6 p7 =
-    rw (
-      le-leb (42 * (1 + a + m + e + n)) x (omega arith),
-      le-leb x (42 * (1 + a + m + e + n)) (omega arith),
-      le-leb 3 a p1,
-      le-leb a 96 p2,
-      le-leb 1 m p3,
-      le-leb m 8 p4,
-      le-leb 1 e p5,
-      le-leb e 160 p6,
-      le-leb 0 n (omega arith),
-      le-leb n 576 p7,
-    )
 
 -- ---- the whole
 
@@ -235,7 +133,7 @@ module _ (t bs : List ℕ) (room : ℕ) (ok : imports t bs room ≡ Done) where
   unfolding firstMade
   edge-at j l h =
       edge-kind (row j) (ap (λ (k : Kind). about k .section) (row-kind t j) ∙ section-at t dk j 4 (omega (arith, rows-is)) (l, h))
-      (first-none (λ (r : ℕ). isMade (row r)) (rows t - 1) 0 j (acc .bare) (omega arith) (omega (arith, rows-is)))
+      (first-none (rows t - 1) 0 (λ (r : ℕ). isMade (row r)) (acc .bare) j (omega arith) (omega (arith, rows-is)))
 
   edge-letter : (j : ℕ) → base ≤ j → j < cards z → getD (row j) 0 0 ≡ 71
   unfolding about
@@ -528,11 +426,11 @@ module _ (t bs : List ℕ) (room : ℕ) (ok : imports t bs room ≡ Done) where
   unfolding lastRow
   counts-second =
       ap (λ (c : List ℕ). countsOf c (letter second)) z-row
-      ∙ ap (λ (l : ℕ). counted (eqb l (letterOf «V»)))
+      ∙ ap (λ (l : ℕ). more (eqb l (letterOf «V»)))
       (letter-second (z .nodes + z .materials + z .elements) (omega (arith, begins t .atLoads, nodes-are t, materials-are t, elements-are t)))
     where
-      counted : Bool → Counts
-      counted solid = record { nodes = z .nodes; materials = z .materials; elements = z .elements; loads = z .loads + n; solid = solid }
+      more : Bool → Counts
+      more solid = record { nodes = z .nodes; materials = z .materials; elements = z .elements; loads = z .loads + n; solid = solid }
 
   z-fine : trailer (rowAt second (rows second - 1)) ≡ true
   unfolding lastRow about
@@ -589,43 +487,3 @@ module _ (t bs : List ℕ) (room : ℕ) (ok : imports t bs room ≡ Done) where
           let e : cards z + k - cards z ≡ k = omega arith in
           ap (rowAt second) (cond-false (ltb k f) (base + k) (cards z + k) (le-ltb k f (omega arith)))
           ∙ row-second (cards z + k) (omega (arith, rows-is)) ∙ at-late z row bs (cards z + k) (omega arith) (omega arith) ∙ ap (recordRow bs) e ∙ card-at k h
-
--- ---- what the call leaves
-
-module _ (t bs s : List ℕ) where
-  pub import-refused : (r : Refusal) → importCall t bs s .answer ≡ Refused r → importCall t bs s .second ≡ s
-  import-refused r e = rw e
-
-  -- an accepted import: the new deck, and what stays past it
-  pub import-done : importCall t bs s .answer ≡ Done → importCall t bs s .second ≡ secondTable t bs ++ drop (secondRows t bs * 6) s
-  import-done e = rw e
-
-  pub import-new : importCall t bs s .answer ≡ Done → take (secondRows t bs * 6) (importCall t bs s .second) ≡ secondTable t bs
-  import-new e =
-      ap (take (secondRows t bs * 6)) (import-done e)
-      ∙ take-at (secondTable t bs) (drop (secondRows t bs * 6) s) (secondRows t bs * 6) (second-long t bs (length s) e)
-
-  pub import-beyond : drop (secondRows t bs * 6) (importCall t bs s .second) ≡ drop (secondRows t bs * 6) s
-  import-beyond = go (imports t bs (length s)) refl
-    where
-      go : (a : Answer) → imports t bs (length s) ≡ a → drop (secondRows t bs * 6) (importCall t bs s .second) ≡ drop (secondRows t bs * 6) s
-      go Done e =
-          ap (drop (secondRows t bs * 6)) (import-done e)
-          ∙ drop-at (secondTable t bs) (drop (secondRows t bs * 6) s) (secondRows t bs * 6) (second-long t bs (length s) e)
-      go (Refused r) e = ap (drop (secondRows t bs * 6)) (import-refused r e)
-
-  module _ (ok : importCall t bs s .answer ≡ Done) where
-    abbrev new : List ℕ
-    new = take (secondRows t bs * 6) (importCall t bs s .second)
-
-    pub import-judged : judged new ≡ Done
-    import-judged = ap judged (import-new ok) ∙ second-judged t bs (length s) ok
-
-    pub import-bodies : (k : ℕ) → k < before (countsAt t) 4 → rowAt new k ≡ rowAt t k
-    import-bodies k h = ap (λ (u : List ℕ). rowAt u k) (import-new ok) ∙ body-rows t bs (length s) ok k h
-
-    pub import-edges : (k : ℕ) → before (countsAt t) 4 ≤ k → k < cards (countsAt t) → rowAt new (k + early bs) ≡ rowAt t k
-    import-edges k l h = ap (λ (u : List ℕ). rowAt u (k + early bs)) (import-new ok) ∙ edge-rows t bs (length s) ok k l h
-
-    pub import-records : (k : ℕ) → k < recordCount bs → recordCard (suc k) (recordAt bs k) ≡ done (rowAt new (recordPlace t bs k))
-    import-records k h = record-rows t bs (length s) ok k h ∙ ap (λ (u : List ℕ). done (rowAt u (recordPlace t bs k))) (sym (import-new ok))

@@ -62,4 +62,6 @@ pub mod Rounds
 pub mod Floats
 pub mod Recorded
 pub mod Second
+pub mod Passing
 pub mod Imported
+pub mod Importing

@@ -18,7 +18,7 @@ use Rattle.paper.specs.declared.Answer.the-variants.{Done, Refused}
 use Rattle.paper.specs.declared.Refusal.{Refusal}
 use Rattle.paper.proofs.Recorded as figures
 use Rattle.laws.proofs.Floats as floats
-use Rattle.laws.proofs.Imported as below
+use Rattle.laws.proofs.Importing as below
 
 -- ---- values
 

@@ -3,7 +3,6 @@ use Rattle.import.proofs.second_row.Statement.{statement}
 use Rattle.import.proofs.second_row.Tie as tie
 use mathlib.Core.Path.{_≡_, _∙_}
 use native.Mathlib.Omega.{arith}
-use Rattle.paper.specs.Records.{recordRow}
 use Rattle.import.proofs.Rows.{base-is, all-is, few-first, inner, row-body, row-early, row-edge, row-late, row-last}
 
 about-requires : tie.Need-about-requires
