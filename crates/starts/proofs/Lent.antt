@@ -17,7 +17,7 @@ use Rattle.whole.specs.Kept.{starts, rowStarts, firstBy, expand, shrink}
 use Rattle.whole.proofs.Tests.{never}
 use Rattle.whole.proofs.Sums.{first-none}
 use Rattle.whole.proofs.Lists.{getD-any, getD-past}
-use Rattle.whole.proofs.Kept.{Low, Vanishes, spot-end, length-expand, expand-cell, expand-left, expand-vanishes, expand-set, shrink-expand}
+use Rattle.whole.proofs.Kept.{Low, Vanishes, spot-end, spot-below, length-expand, expand-cell, expand-left, expand-vanishes, expand-set, shrink-expand}
 use Rattle.whole.proofs.RowStarts.{by-low, length-starts, starts-at, starts-ext, expand-ext, told}
 use Rattle.paper.specs.Cards.{nodes}
 use Rattle.paper.specs.Coupled.{firstOf, strayRow}
@@ -64,6 +64,9 @@ module _ (st : List ℕ) (ks : List ℤ) (lent : Starts st (length ks)) where
   -- a number read in its row
   pub wide-cell : (i j : ℕ) → i < length st → by st ks i ≤ j → j ≤ i → cell (wide st ks) (tri i + j) ≡ cell ks (getD st i 0 + (j - by st ks i))
   wide-cell i j h a l = expand-cell (by st ks) (length st) i j ks h a l ∙ ap (λ (s : ℕ). cell ks (s + (j - by st ks i))) (sym (lent .each i h))
+
+  pub wide-in : (i j : ℕ) → i < length st → j ≤ i → getD st i 0 + (j - by st ks i) < length ks
+  wide-in i j h l = omega (arith, spot-below (by st ks) (wide-low st ks) i j (length st) h l, lent .each i h, lent .all)
 
   -- and set
   pub wide-set : (i j : ℕ) (v : ℤ) → i < length st → by st ks i ≤ j → j ≤ i → Turned st ks (set ks (getD st i 0 + (j - by st ks i)) v) (set (wide st ks) (tri i + j) v)
