@@ -16,12 +16,13 @@ use Rattle.whole.proofs.Tests.{or-right, or-false}
 use Rattle.whole.proofs.Packed.{tri-96}
 use Rattle.whole.specs.Kept.{starts, rowStarts}
 use Rattle.whole.proofs.Kept.{starts-tri}
-use Rattle.whole.proofs.RowStarts.{starts-ext}
+use Rattle.whole.proofs.RowStarts.{length-starts, starts-at, starts-ext}
 use Rattle.paper.specs.Cards.{field, rows, nodes}
 use Rattle.paper.specs.Coupled.{joinsAt, corner, firstOf, strayRow}
 use Rattle.laws.proofs.Decks.{Deck, kindIn}
 use Rattle.laws.proofs.Firsts.{first-low, joins-few, joined-in}
-use Rattle.starts.specs.Lent.{Laid}
+use Rattle.starts.specs.declared.Found.{Found}
+use Rattle.starts.specs.Lent.{Laid, foundIn}
 use Rattle.starts.specs.Asks.{leastOf, firstUpto, Holds, lowered, Spreads, Joins, firstIn, Firsts, strayIn}
 use Rattle.starts.proofs.Cards.{first-cards}
 
@@ -167,8 +168,15 @@ laid-of t {fs} p l = record {
   list = l .list ∙ ap (rowStarts (firstIn fs)) (p .long) ∙ rows-ext (firstIn fs) (firstOf t) (nodes t) (p .each);
 }
 
-pub stray-of : (t st : List ℕ) {fs : List ℕ} {r : ℕ} → Holds fs (nodes t) (firstOf t) → r ≡ strayIn (firstIn fs) (length fs) st → r ≡ strayRow t (nodes t) st
+-- what was found, by the deck's own starts
+pub found-is : (t st : List ℕ) {own : List ℕ} {long stray : ℕ} → Laid long (firstOf t) (nodes t) own → stray ≡ strayIn own st → record { long = long; stray = stray } ≡ foundIn t st
 unfolding strayIn strayRow
-stray-of t st {fs} {r} p e =
-    e ∙ ap (λ (n : ℕ). firstFrom n 0 (λ i. not (eqb (getD st i 0) (starts (firstIn fs) i)))) (p .long)
-    ∙ first-ext (nodes t) 0 _ _ (λ k a b. ap (λ (s : ℕ). not (eqb (getD st k 0) s)) (starts-ext (firstIn fs) (firstOf t) k (λ i l. p .each i (omega arith))))
+found-is t st {own} {long} {stray} l e = λ d. record { long = l .all d; stray = is d }
+  where
+    n : length own ≡ nodes t
+    n = ap length (l .list) ∙ length-starts (firstOf t) (nodes t)
+
+    is : stray ≡ firstFrom (nodes t) 0 (λ i. not (eqb (getD st i 0) (starts (firstOf t) i)))
+    is =
+        e ∙ ap (λ (k : ℕ). firstFrom k 0 (λ i. not (eqb (getD st i 0) (getD own i 0)))) n
+        ∙ first-ext (nodes t) 0 _ _ (λ i a b. ap (λ (s : ℕ). not (eqb (getD st i 0) s)) (ap (λ (s : List ℕ). getD s i 0) (l .list) ∙ starts-at (firstOf t) (nodes t) i 0 (omega arith)))

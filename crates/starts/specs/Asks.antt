@@ -6,7 +6,6 @@ use Prim.Native.Nat.{ℕ, zero, suc, _-_, _≤_, _<_, min}
 use lib.Dec.{eqb}
 use lib.ListN.{length, getD}
 use Rattle.whole.specs.Sums.{any, firstFrom}
-use Rattle.whole.specs.Kept.{starts}
 use Rattle.paper.specs.Cards.{field, rows, nodes}
 use Rattle.paper.specs.Coupled.{joinsAt, corner}
 use Rattle.laws.proofs.Decks.{Deck}
@@ -51,6 +50,6 @@ pub record Firsts (fs : List ℕ) : Type 0 where
   pub few : length fs ≤ 96
   pub low : (i : ℕ) → i < length fs → firstIn fs i ≤ i
 
--- the first row, from 1, that starts elsewhere
-unfoldable pub strayIn : (ℕ → ℕ) → ℕ → List ℕ → ℕ
-strayIn first n st = firstFrom n 0 (λ i. not (eqb (getD st i 0) (starts first i)))
+-- the first row, from 1, whose lent start is another than its own
+unfoldable pub strayIn : List ℕ → List ℕ → ℕ
+strayIn own st = firstFrom (length own) 0 (λ i. not (eqb (getD st i 0) (getD own i 0)))

@@ -6,7 +6,9 @@ use lib.IntN.{ℤ}
 use lib.ListN.{length, getD}
 use Rattle.whole.specs.Kept.{starts, rowStarts, firstBy, expand}
 use Rattle.paper.specs.Cards.{nodes}
-use Rattle.paper.specs.Coupled.{firstOf}
+use Rattle.paper.specs.Coupled.{firstOf, strayRow}
+use Rattle.paper.specs.KeptCalls.{keptLong}
+use Rattle.starts.specs.declared.Found.{Found}
 
 -- row starts: each row stands where the rows above it end, and `long` numbers are kept in all
 pub record Starts (st : List ℕ) (long : ℕ) : Type 0 where
@@ -34,3 +36,7 @@ Covers t st long = (i : ℕ) → i < nodes t → firstBy st long i ≤ firstOf t
 pub record Laid (long : ℕ) (first : ℕ → ℕ) (n : ℕ) (st : List ℕ) : Type 0 where
   pub all : long ≡ starts first n
   pub list : st ≡ rowStarts first n
+
+-- what a step and a replacement ask of a deck
+abbrev pub foundIn : List ℕ → List ℕ → Found
+foundIn t st = record { long = keptLong t; stray = strayRow t (nodes t) st }

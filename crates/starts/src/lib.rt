@@ -2,13 +2,21 @@
 ghost use mathlib.Core.Path.{_≡_};
 ghost use Prim.Native.Nat.{ℕ, suc, _+_, _-_, _≤_, _<_, min};
 ghost use lib.ListN.{length, getD};
+ghost use Rattle.whole.specs.Packed.{tri, cell};
 ghost use Rattle.whole.specs.Kept.{firstBy};
 ghost use Rattle.paper.specs.Cards as cards;
 ghost use Rattle.paper.specs.Cards.{rows, nodes};
-ghost use Rattle.paper.specs.Coupled.{joinsAt, firstOf, strayRow};
+ghost use Rattle.paper.specs.Coupled.{joinsAt, firstOf};
 ghost use Rattle.laws.proofs.Decks.{Deck};
-ghost use Rattle.starts.specs.Lent.{Starts, Laid};
+ghost use Rattle.starts.specs.Lent.{Starts, wide, Laid, foundIn};
 ghost use Rattle.starts.specs.Asks.{leastOf, Holds, lowered, Spreads, Joins, firstIn, Firsts, strayIn};
+
+// What a step and a replacement ask of a deck: the matrix length, and the first row, from 1, whose lent start is another than the
+// deck's, or 0.
+pub struct Found {
+    pub long: usize,
+    pub stray: u32,
+}
 
 // ---- as lent
 
@@ -37,6 +45,18 @@ pub fn first(starts: &[u32], i: usize, long: usize) -> usize
     ensures { λ r. ⌜ r ≡ firstBy (now (starts .entry)) long i ⌝ }
 {
     i - (end(starts, i, long) - start(starts, i) - 1)
+}
+
+// The number of row i, column j, at most i: 0 left of the first column.
+pub fn number(m: &[i64], starts: &[u32], i: usize, j: usize) -> i64
+    requires { ⌜ Starts (now starts) (length (now m)) × (i < length (now starts)) × (j ≤ i) ⌝ }
+    ensures { λ r. ⌜ r ≡ cell (wide (now (starts .entry)) (now (m .entry))) (tri i + j) ⌝ }
+{
+    let f = first(starts, i, m.len());
+    if j < f {
+        return 0;
+    }
+    m[start(starts, i) + (j - f)]
 }
 
 // ---- the first columns of a deck, card after card
@@ -154,31 +174,6 @@ fn lay(starts: &mut [u32]) -> usize
     at
 }
 
-// The first row, from 1, that does not start where the rows above it end, or 0.
-fn astray(firsts: &[u32], starts: &[u32]) -> u32
-    requires { ⌜ Firsts (now firsts) × (length (now starts) ≡ length (now firsts)) ⌝ }
-    ensures { λ r. ⌜ r ≡ strayIn (firstIn (now (firsts .entry))) (length (now (firsts .entry))) (now (starts .entry)) ⌝ }
-{
-    let mut at = 0;
-    let mut i = 0;
-    while i < firsts.len() {
-        if starts[i] as usize != at {
-            return (i + 1) as u32;
-        }
-        at = after(at, i, firsts[i]);
-        i += 1;
-    }
-    0
-}
-
-fn astray_by(table: &[u32], all: &mut [u32], starts: &[u32]) -> u32
-    requires { ⌜ Deck (now table) × (length (now all) ≡ nodes (now table)) × (length (now starts) ≡ nodes (now table)) ⌝ }
-    ensures { λ r. ⌜ r ≡ strayRow (now (table .entry)) (nodes (now (table .entry))) (now (starts .entry)) ⌝ }
-{
-    firsts(table, &mut all[..]);
-    astray(&all[..], starts)
-}
-
 // ---- of an accepted deck
 
 // Writes the row starts, and gives the matrix length.
@@ -190,14 +185,47 @@ pub fn write(table: &[u32], starts: &mut [u32]) -> usize
     lay(&mut starts[..])
 }
 
-// Refusal 17: the first row, from 1, whose start is another than the deck's, or 0.
-pub fn stray(table: &[u32], starts: &[u32]) -> u32
-    requires { ⌜ Deck (now table) × (length (now starts) ≡ nodes (now table)) ⌝ }
-    ensures { λ r. ⌜ r ≡ strayRow (now (table .entry)) (nodes (now (table .entry))) (now (starts .entry)) ⌝ }
+// The start lent of row i, 0 past the end.
+fn listed(starts: &[u32], i: usize) -> u32
+    ensures { λ r. ⌜ r ≡ getD (now (starts .entry)) i 0 ⌝ }
 {
-    let mut all = [0u32; 96];
-    let n = starts.len();
-    astray_by(table, &mut all[0..n], starts)
+    if i < starts.len() { starts[i] } else { 0 }
+}
+
+// The first row, from 1, whose lent start is another than its own, or 0.
+fn astray(own: &[u32], starts: &[u32]) -> u32
+    requires { ⌜ length (now own) ≤ 96 ⌝ }
+    ensures { λ r. ⌜ r ≡ strayIn (now (own .entry)) (now (starts .entry)) ⌝ }
+{
+    let mut i = 0;
+    while i < own.len() {
+        if listed(starts, i) != own[i] {
+            return (i + 1) as u32;
+        }
+        i += 1;
+    }
+    0
+}
+
+fn find_by(table: &[u32], own: &mut [u32], starts: &[u32]) -> Found
+    requires { ⌜ Deck (now table) × (length (now own) ≡ nodes (now table)) ⌝ }
+    ensures { λ r. ⌜ r ≡ foundIn (now (table .entry)) (now (starts .entry)) ⌝ }
+{
+    let long = write(table, &mut own[..]);
+    let stray = astray(&own[..], starts);
+    Found {
+        long: long,
+        stray: stray,
+    }
+}
+
+// What a step and a replacement ask, in one pass over the cards: its array is gone once it returns.
+pub fn find(table: &[u32], starts: &[u32], n: usize) -> Found
+    requires { ⌜ Deck (now table) × (n ≡ nodes (now table)) ⌝ }
+    ensures { λ r. ⌜ r ≡ foundIn (now (table .entry)) (now (starts .entry)) ⌝ }
+{
+    let mut own = [0u32; 96];
+    find_by(table, &mut own[0..n], starts)
 }
 
 // ---- of packed triangles

@@ -1,103 +1,58 @@
--- None so far starts elsewhere.
+-- None so far is another.
+use borrow.Author.Needs.{needs}
 use Rattle.starts.proofs.astray.Statement.{statement}
 use Rattle.starts.proofs.astray.Tie as tie
-use Prim.Native.Nat.{ℕ, suc, _+_, _-_, _≤_, _<_}
-use mathlib.Core.Path.{_≡_, refl, sym, ap, _∙_}
-use mathlib.Core.Bool.{Bool, not}
+use mathlib.Core.Path.{_≡_, sym, ap, _∙_}
+use mathlib.Core.Bool.{not}
 use mathlib.Core.List.{List}
+use Prim.Native.Nat.{ℕ, _+_, _-_, _≤_, _<_}
 use native.Mathlib.Omega.{arith}
 use borrow.Author.Tests.{eq-eqb, ne-eqb}
 use lib.Dec.{eqb}
 use lib.ListN.{length, getD}
 use Rattle.whole.proofs.First.{Looking, look-start, look-here, look-on, look-end}
-use Rattle.whole.specs.Kept.{starts}
-use Rattle.starts.specs.Asks.{firstIn, Firsts, strayIn}
-use Rattle.starts.proofs.Laws.{start-small, start-next}
-
--- whether row i starts elsewhere
-abbrev test : List ℕ → List ℕ → ℕ → Bool
-test fs st i = not (eqb (getD st i 0) (starts (firstIn fs) i))
-
-record Inv (fs st : List ℕ) (at i : ℕ) : Type 0 where
-  here : at ≡ starts (firstIn fs) i
-  look : Looking (test fs st) (length fs) i
+use Rattle.starts.specs.Asks.{strayIn}
 
 abbrev Inv-loop : tie.InvT-loop
-Inv-loop firsts starts at₀ i₀ at i = Inv firsts starts at i
+Inv-loop own starts i₀ i = Looking (λ k. not (eqb (getD starts k 0) (getD own k 0))) (length own) i
 
 abbrev μ-loop : tie.MeasureT-loop
-μ-loop firsts starts at₀ i₀ at i = length firsts - i
-
-begin : (fs st : List ℕ) → Inv fs st 0 0
-unfolding starts
-begin fs st = record { here = refl; look = look-start (test fs st) (length fs) }
-
-module _ {fs st : List ℕ} (p : Firsts fs × (length st ≡ length fs)) {at i : ℕ} (v : Inv fs st at i) where
-  small : at ≤ 4656
-  small = omega (arith, v .here, start-small (firstIn fs) i (omega (arith, v .look .upto, p .0 .few)))
-
-  module _ (h : i < length fs) where
-    inside : i < length st
-    inside = omega (arith, p .1)
-
-    asks : (firstIn fs i ≤ i) × (i < 96) × (at ≤ 4656)
-    asks = (p .0 .low i h, omega (arith, p .0 .few), small)
-
-    found : (getD st i 0 ≡ at → ⊥) → i + 1 ≡ strayIn (firstIn fs) (length fs) st
-    unfolding strayIn
-    found n = look-here (v .look) h (ap not (ne-eqb (getD st i 0) (starts (firstIn fs) i) (λ e. n (e ∙ sym (v .here)))))
-
-    more : getD st i 0 ≡ at → {r : ℕ} → r ≡ at + (suc i - firstIn fs i) → Inv fs st r (i + 1)
-    more e q = record {
-      here = start-next (firstIn fs) i (v .here) q;
-      look = look-on (v .look) h (ap not (eq-eqb (getD st i 0) (starts (firstIn fs) i) (e ∙ v .here)));
-    }
-
-  last : length fs ≤ i → 0 ≡ strayIn (firstIn fs) (length fs) st
-  unfolding strayIn
-  last h = look-end (v .look) h
+μ-loop own starts i₀ i = length own - i
 
 loop-holds : tie.Need-loop-holds Inv-loop μ-loop
-loop-holds c = begin (c .before .before .args .firsts .now) (c .before .before .args .starts .now)
+loop-holds c = look-start _ (length (c .before .before .args .own .now))
+
+listed-requires : tie.Need-listed-requires Inv-loop μ-loop
+listed-requires c κs = search needs
 
 mul-if1 : tie.Need-mul-if1 Inv-loop μ-loop
-mul-if1 c = omega (arith, c .before .before .before .before .pre .0 .few)
+mul-if1 c = omega (arith, c .before .before .before .before .before .pre)
 
 shared-slice-read-if1 : tie.Need-shared-slice-read-if1 Inv-loop μ-loop
-shared-slice-read-if1 c = inside (c .before .before .before .before .before .pre) (c .before .before .loop .inv) (omega arith)
-
-cast-if1 : tie.Need-cast-if1 Inv-loop μ-loop
-cast-if1 c = omega (arith, c .shared-slice-known3 .given (c .before .before .loop .i))
+shared-slice-read-if1 c = search needs
 
 add-result : tie.Need-add-result Inv-loop μ-loop
-add-result c = omega (arith, c .before .before .before .before .before .before .pre .0 .few)
+add-result c = omega (arith, c .before .before .before .before .before .before .before .pre)
 
 cast-result : tie.Need-cast-result Inv-loop μ-loop
-cast-result c = omega (arith, c .before .before .before .before .before .before .pre .0 .few)
+cast-result c = omega (arith, c .before .before .before .before .before .before .before .pre)
 
 returns : tie.Need-returns Inv-loop μ-loop
-returns c = found (c .before .before .before .before .before .before .pre) (c .before .before .before .loop .inv) (omega arith) (λ e. omega arith)
-
-mul-after : tie.Need-mul-after Inv-loop μ-loop
-mul-after c = omega (arith, c .before .before .before .before .before .before .pre .0 .few)
-
-shared-slice-read-after : tie.Need-shared-slice-read-after Inv-loop μ-loop
-shared-slice-read-after c = omega arith
-
-after-requires : tie.Need-after-requires Inv-loop μ-loop
-after-requires c κs = asks (c .before .before .before .before .before .before .before .pre) (c .before .before .before .before .loop .inv) (omega arith)
+unfolding strayIn
+returns c = let s = c .before .before .before .before .before .before .before .args in look-here (c .before .before .before .before .loop .inv) (c .before .before .before .loop-test .taken) (ap not (ne-eqb (getD (s .starts .now) (c .before .before .before .before .loop .i) 0) (getD (s .own .now) (c .before .before .before .before .loop .i) 0) (λ e. c .if1 .taken (c .before .before .listed .ensures ∙ e))))
 
 add-i : tie.Need-add-i Inv-loop μ-loop
-add-i c = omega (arith, c .before .before .before .before .before .before .before .before .pre .0 .few)
+add-i c = omega (arith, c .before .before .before .before .before .before .before .pre)
 
 loop-less : tie.Need-loop-less Inv-loop μ-loop
-loop-less c = omega arith
+loop-less c = search needs
 
 loop-again : tie.Need-loop-again Inv-loop μ-loop
-loop-again c = more (c .before .before .before .before .before .before .before .before .pre) (c .before .before .before .before .before .loop .inv) (omega arith) (omega arith) (c .after .ensures)
+loop-again c = let s = c .before .before .before .before .before .before .before .args in look-on (c .before .before .before .before .loop .inv) (c .before .before .before .loop-test .taken) (ap not (eq-eqb (getD (s .starts .now) (c .before .before .before .before .loop .i) 0) (getD (s .own .now) (c .before .before .before .before .loop .i) 0) (sym (c .before .before .listed .ensures) ∙ c .if1 .left)))
 
 returns-2 : tie.Need-returns-2 Inv-loop μ-loop
-returns-2 c = last (c .before .before .before .before .pre) (c .before .loop .inv) (omega arith)
+unfolding strayIn
+returns-2 c = look-end (c .before .loop .inv) (omega arith)
 
 pub astray-spec : {M : Type 1} → statement M
 astray-spec =
@@ -106,15 +61,12 @@ astray-spec =
     Inv-loop
     μ-loop
     loop-holds
+    listed-requires
     mul-if1
     shared-slice-read-if1
-    cast-if1
     add-result
     cast-result
     returns
-    mul-after
-    shared-slice-read-after
-    after-requires
     add-i
     loop-less
     loop-again
