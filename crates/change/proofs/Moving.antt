@@ -1,30 +1,42 @@
 -- Squares new minus old.
 use mathlib.Core.Path.{_≡_, refl, sym, ap, subst, _∙_}
-use mathlib.Core.List.{List}
+use mathlib.Core.List.{List, [], _∷_}
 use Prim.Native.Nat.{ℕ, _^_, _≤_, _<_}
 use native.Mathlib.Omega.{arith}
-use lib.IntN.{ℤ, natAbs, _-ℤ_}
+use lib.IntN.{ℤ, pos, natAbs, _+ℤ_, _-ℤ_, +ℤ-idl}
 use lib.ListN.{length}
-use Rattle.whole.specs.Squares.{at, squareOf, Small, Holds}
+use Rattle.whole.specs.Sums.{table}
+use Rattle.whole.specs.Squares.{at, rowsOf, squareOf, Small, Holds}
 use Rattle.whole.proofs.Signs.{natAbs-minus}
-use Rattle.whole.proofs.Squares.{square-at, square-ext, holds-minus, holds-square, holds-same}
+use Rattle.whole.proofs.Squares.{square-at, square-ext, small-square, holds-minus, holds-square, holds-same}
 use Rattle.paper.specs.Kinds.{kindOf}
 use Rattle.paper.specs.Cards.{rowAt}
+use Rattle.paper.specs.Corners.{mass}
 use Rattle.paper.specs.Parts.{Part, partOf, partFor, partAt}
 use Rattle.laws.proofs.Places.{squareP, squareA}
 use Rattle.square.proofs.Held.{mass-size}
-use Rattle.part.proofs.Parts.{four-at-most, stored-size, held-P}
+use Rattle.part.proofs.Parts.{four-at-most, stored-size}
 use Rattle.laws.proofs.Tables.{row-field}
-use Rattle.change.specs.Asks.{Changes}
+use Rattle.change.specs.Asks.{Changes, Added, Taken}
 use Rattle.change.proofs.Forming.{old-card, same-corners}
 
 -- the card in a row, as its six numbers
 pub part-row : (t : List ℕ) (row : ℕ) → partAt t row ≡ partFor t (rowAt t row)
 part-row t row = ap (λ (l : ℕ). partOf t (rowAt t row) (kindOf l)) (sym (row-field t row 0 (omega arith)))
 
--- two squares that may be added or taken away, whatever they are of
-pub small-A : {n m : ℕ} {f g : ℕ → ℕ → ℤ} {p q : List (List ℤ)} → Holds n (2 ^ 57) f p → Holds m (2 ^ 57) g q → Small (2 ^ 60) p × Small (2 ^ 60) q
-small-A hp hq = (record { each = λ i j. omega (arith, hp .small .each i j) }, record { each = λ i j. omega (arith, hq .small .each i j) })
+-- the square before the first card
+abbrev pub none : List (List ℤ)
+none = let r : List ℤ = pos 0 ∷ pos 0 ∷ pos 0 ∷ pos 0 ∷ [] in r ∷ r ∷ r ∷ r ∷ []
+
+none-is : none ≡ squareOf 4 (λ i j. pos 0)
+unfolding rowsOf table
+none-is = refl
+
+none-at : (i j : ℕ) (z : ℤ) → i < 4 → j < 4 → at none i j +ℤ z ≡ z
+none-at i j z h l = ap (λ (n : ℤ). n +ℤ z) (ap (λ (q : List (List ℤ)). at q i j) none-is ∙ square-at 4 (λ a b. pos 0) i j h l) ∙ +ℤ-idl z
+
+pub none-small : Small (2 ^ 60) none
+none-small = subst (Small (2 ^ 60)) (sym none-is) (small-square 4 (2 ^ 60) (λ i j. pos 0) (λ i j _ _. omega arith))
 
 module _ (t : List ℕ) (row : ℕ) (new : List ℕ) (h : Changes t row new) where
   abbrev x′ : Part
@@ -39,33 +51,29 @@ module _ (t : List ℕ) (row : ℕ) (new : List ℕ) (h : Changes t row new) whe
   same-count : length (x .corners) ≡ length (x′ .corners)
   same-count = ap length (ap (λ (y : Part). y .corners) (sym (part-row t row)) ∙ sym (same-corners t row new h))
 
-  -- ---- to A, with the old card as code has it
-  module _ {card : List ℕ} (ec : card ≡ rowAt t row) {p q : List (List ℤ)} (hp : Holds (length (x′ .corners)) (2 ^ 57) (squareA x′) p) (hq : Holds (length (partFor t card .corners)) (2 ^ 57) (squareA (partFor t card)) q) where
-    old-held : Holds (length (x′ .corners)) (2 ^ 57) (squareA x) q
-    old-held =
-        subst (λ (n : ℕ). Holds n (2 ^ 57) (squareA x) q) same-count
-        (subst (λ (z : List ℕ). Holds (length (partFor t z .corners)) (2 ^ 57) (squareA (partFor t z)) q) ec hq)
+  -- ---- to A: of nothing, the new card's and the old card's as code has it
+  module _ {q : List (List ℤ)} (hq : Added t new none q) where
+    added-held : Holds (length (x′ .corners)) (2 ^ 57) (squareA x′) q
+    added-held =
+        let own = hq .own in
+        let is : q ≡ squareOf 4 (at own) = hq .is ∙ square-ext 4 _ _ (λ i j k l. none-at i j (at own i j) k l) in
+        holds-same (holds-square (length (x′ .corners)) 4 (2 ^ 57) (at own) few is (λ i j _ _. hq .held .small .each i j)) (omega arith) (hq .held .each)
 
-    pub moved-A : {r : List (List ℤ)} → r ≡ squareOf 4 (λ i j. at p i j -ℤ at q i j) → Holds (length (x′ .corners)) (2 ^ 58) (λ i j. squareA x′ i j -ℤ squareA x i j) r
-    moved-A e = holds-same (holds-minus 4 few hp old-held e) (omega arith) (λ i j k l. refl)
+    pub added-fits : (length q ≡ 4) × Small (2 ^ 60) q
+    unfolding rowsOf
+    added-fits = (ap length (hq .is), record { each = λ i j. omega (arith, added-held .small .each i j) })
+
+    pub moved-A : {card : List ℕ} {r : List (List ℤ)} → card ≡ rowAt t row → Taken t card q r → Holds (length (x′ .corners)) (2 ^ 58) (λ i j. squareA x′ i j -ℤ squareA x i j) r
+    moved-A ec hr = holds-same (holds-minus 4 few added-held old-held (hr .is)) (omega arith) (λ i j k l. refl)
+      where
+        old-held : Holds (length (x′ .corners)) (2 ^ 57) (squareA x) (hr .own)
+        old-held =
+            subst (λ (n : ℕ). Holds n (2 ^ 57) (squareA x) (hr .own)) same-count
+            (subst (λ (z : List ℕ). Holds (length (partFor t z .corners)) (2 ^ 57) (squareA (partFor t z)) (hr .own)) ec (hr .held))
 
   -- ---- to P
-  abbrev InP : List ℕ → List (List ℤ) → Type 0
-  InP card m = m ≡ squareOf 4 (squareP (partFor t card))
-
-  module _ {card : List ℕ} (ec : card ≡ rowAt t row) {p q : List (List ℤ)} (hp : InP new p) (hq : InP card q) where
-    old-P : InP (rowAt t row) q
-    old-P = subst (λ (z : List ℕ). InP z q) ec hq
-
-    pub small-P : Small (2 ^ 60) p × Small (2 ^ 60) q
-    small-P = (
-      record { each = λ i j. omega (arith, held-P t new (h .card) hp .small .each i j) },
-      record { each = λ i j. omega (arith, held-P t (rowAt t row) (old-card t row new h) old-P .small .each i j) },
-    )
-
-    pub moved-P : {r : List (List ℤ)} → r ≡ squareOf 4 (λ i j. at p i j -ℤ at q i j) → r ≡ squareOf 4 (λ i j. squareP x′ i j -ℤ squareP x i j)
-    moved-P k =
-        k ∙ square-ext 4 _ _ (λ i j a b. λ d. (ap (λ (z : List (List ℤ)). at z i j) hp ∙ square-at 4 (squareP x′) i j a b) d -ℤ (ap (λ (z : List (List ℤ)). at z i j) old-P ∙ square-at 4 (squareP x) i j a b) d)
+  pub moved-P : {card : List ℕ} {a b : ℕ} {r : List (List ℤ)} → card ≡ rowAt t row → a ≡ x′ .capacity → b ≡ partFor t card .capacity → r ≡ squareOf 4 (λ i j. mass a i j -ℤ mass b i j) → r ≡ squareOf 4 (λ i j. squareP x′ i j -ℤ squareP x i j)
+  moved-P ec ea eb er = er ∙ (λ d. squareOf 4 (λ i j. mass (ea d) i j -ℤ mass ((eb ∙ ap (λ (z : List ℕ). partFor t z .capacity) ec) d) i j))
 
   -- as it is written
   pub moved-held : {u : List (List ℤ)} → u ≡ squareOf 4 (λ i j. squareP x′ i j -ℤ squareP x i j) → Holds (length (x′ .corners)) (2 ^ 58) (λ i j. squareP x′ i j -ℤ squareP x i j) u

@@ -7,16 +7,19 @@ ghost use mathlib.Core.Bool.{cond};
 ghost use Prim.Native.Nat.{_+_, _-_, _*_, _^_, _<_, _≤_};
 ghost use lib.IntN.{_-ℤ_};
 ghost use lib.ListN.{length};
-ghost use Rattle.whole.specs.Squares.{at, squareOf, Holds};
+ghost use Rattle.whole.specs.Squares.{at, squareOf, Small, Holds};
 ghost use Rattle.paper.specs.Cards.{rowAt, rows, nodes, materials, elements, put};
+ghost use Rattle.paper.specs.Elements.{elementOf, formJudged};
 ghost use Rattle.paper.specs.Parts.{partFor};
 ghost use Rattle.paper.specs.Replacing.{stirs, formOf};
 ghost use Rattle.paper.specs.declared.Answer.the-variants.{Done};
 ghost use Rattle.laws.proofs.Decks.{Deck};
 ghost use Rattle.laws.proofs.Places.{squareP, squareA, addSquare};
 ghost use Rattle.triangle.specs.Forms.{numbers};
+ghost use Rattle.element.specs.Asks.{ElementCard};
+ghost use Rattle.part.specs.Asks.{Card, Solid};
 ghost use Rattle.packed.specs.Asks.{Takes};
-ghost use Rattle.change.specs.Asks.{InBodies, Changes, Renews};
+ghost use Rattle.change.specs.Asks.{InBodies, Changes, Renews, Added, Taken};
 
 // The element whose card stands in a row.
 fn element_in(table: &[u32], row: usize) -> Element
@@ -27,6 +30,14 @@ fn element_in(table: &[u32], row: usize) -> Element
     element::element((row + 1 - first) as u32)
 }
 
+// Of the element that a new card makes.
+fn judge_own(table: &[u32], row: usize, new: [u32; 6]) -> Answer
+    requires { ⌜ ElementCard (now table) new × InBodies (now table) row ⌝ }
+    ensures { λ r. ⌜ r ≡ formJudged (elementOf (now (table .entry)) new) (row - (nodes (now (table .entry)) + materials (now (table .entry)))) ⌝ }
+{
+    element::judge_card(table, new, element_in(table, row))
+}
+
 // Refusals 5 and 6 of the element that a new card makes or is of, before anything is written. An edge is of none.
 pub fn judge_form(table: &[u32], row: usize, new: [u32; 6]) -> Answer
     requires { ⌜ Changes (now table) row new ⌝ }
@@ -34,7 +45,7 @@ pub fn judge_form(table: &[u32], row: usize, new: [u32; 6]) -> Answer
 {
     let it = part::by_letter(new[0]);
     if it.conducts {
-        return element::judge_card(table, new, element_in(table, row));
+        return judge_own(table, row, new);
     }
     if !it.films {
         return Answer::Done;
@@ -47,13 +58,31 @@ pub fn judge_form(table: &[u32], row: usize, new: [u32; 6]) -> Answer
 
 // ---- squares
 
+// One square: what a card adds to A is added in it, or taken away.
+fn add_card(q: &mut [[i64; 4]; 4], table: &[u32], card: [u32; 6])
+    requires { ⌜ (length (now q) ≡ 4) × Small (2 ^ 60) (now q) × Card (now table) card × Solid (now table) card ⌝ }
+    ensures { λ _. ⌜ Added (now (table .entry)) card (now (q .entry)) (now (q .exit)) ⌝ }
+{
+    square::plus(q, part::square_a(table, card));
+}
+
+fn take_card(q: &mut [[i64; 4]; 4], table: &[u32], card: [u32; 6])
+    requires { ⌜ (length (now q) ≡ 4) × Small (2 ^ 60) (now q) × Card (now table) card × Solid (now table) card ⌝ }
+    ensures { λ _. ⌜ Taken (now (table .entry)) card (now (q .entry)) (now (q .exit)) ⌝ }
+{
+    square::minus(q, part::square_a(table, card));
+}
+
 // To A.
 pub fn square(table: &[u32], row: usize, new: [u32; 6]) -> [[i64; 4]; 4]
     requires { ⌜ Renews (now table) row new ⌝ }
     ensures { λ r. ⌜ Holds (length (partFor (now (table .entry)) new .corners)) (2 ^ 58) (λ i j. squareA (partFor (now (table .entry)) new) i j -ℤ squareA (partFor (now (table .entry)) (rowAt (now (table .entry)) row)) i j) r ⌝ }
 {
     let old = element::card_at(table, row);
-    square::minus(part::square_a(table, new), part::square_a(table, old))
+    let mut q: [[i64; 4]; 4] = [[0; 4]; 4];
+    add_card(&mut q, table, new);
+    take_card(&mut q, table, old);
+    q
 }
 
 // To P: none where nothing is stored.
@@ -62,7 +91,7 @@ pub fn stored(table: &[u32], row: usize, new: [u32; 6]) -> [[i64; 4]; 4]
     ensures { λ r. ⌜ r ≡ squareOf 4 (λ i j. squareP (partFor (now (table .entry)) new) i j -ℤ squareP (partFor (now (table .entry)) (rowAt (now (table .entry)) row)) i j) ⌝ }
 {
     let old = element::card_at(table, row);
-    square::minus(part::square_p(table, new), part::square_p(table, old))
+    square::mass_moved(part::stored(table, new), part::stored(table, old))
 }
 
 // ---- writing

@@ -1,7 +1,7 @@
 -- The cards of a deck in turn: each adds its square.
 use mathlib.Core.Path.{_≡_, refl, sym, ap, subst, _∙_}
-use mathlib.Core.Bool.{Bool, true, false, cond, _&&_}
-use mathlib.Core.List.{List, []}
+use mathlib.Core.Bool.{Bool, true, false, cond, _&&_, _||_}
+use mathlib.Core.List.{List}
 use Prim.Native.Nat.{ℕ, zero, suc, _+_, _-_, _*_, _^_, _≤_, _<_}
 use native.Mathlib.Omega.{arith}
 use lib.IntN.{ℤ, pos, natAbs, _+ℤ_}
@@ -17,7 +17,7 @@ use Rattle.paper.specs.Kinds.{about, kindOf, kindAt}
 use Rattle.paper.specs.Cards.{rowAt, letter, rows, nodes, field}
 use Rattle.paper.specs.Corners.{mass, spread}
 use Rattle.paper.specs.Elements.{elementOf}
-use Rattle.paper.specs.Parts.{Part, nothing, loaded, partOf, partFor, partAt}
+use Rattle.paper.specs.Parts.{Part, partOf, partFor, partAt}
 use Rattle.paper.specs.Matrices.{addsP, addsA}
 use Rattle.paper.specs.declared.Kind.{Kind}
 use Rattle.paper.specs.declared.Kind.the-variants.{D, N, M, E, «V», H, F, G, T, Z, Other}
@@ -27,58 +27,77 @@ use Rattle.laws.proofs.Tables.{row-field}
 use Rattle.laws.proofs.Spans.{part-corners, body-inner, in-loads}
 use Rattle.laws.proofs.Square.{part-sound}
 use Rattle.laws.proofs.Elements.{sound, part-distinct}
+use Rattle.laws.proofs.Weights.{part-P, part-A}
 use Rattle.laws.proofs.Places.{addSquare, squareP, squareA, added-P, added-A}
 use Rattle.triangle.specs.Forms.{numbers}
 use Rattle.part.specs.Forms.{cornersOf, doesBy, does}
 use Rattle.part.specs.Asks.{Card, Solid, Full}
 use Rattle.part.specs.declared.Corners.{Corners}
-use Rattle.part.proofs.Parts.{card-at}
-use Rattle.packed.specs.Asks.{Takes, Sound, Walked}
-use Rattle.packed.proofs.Squares.{takes, gives, unchanged}
+use Rattle.part.specs.declared.Does.{Does}
+use Rattle.part.proofs.Parts.{As, as-kind, card-at}
+use Rattle.packed.specs.Asks.{Takes, Sound, Walked, addsTo, has}
+use Rattle.packed.proofs.Squares.{takes, gives}
 
 -- ---- the card in a row, as its six numbers
 
 pub part-row : (t : List ℕ) (row : ℕ) → partAt t row ≡ partFor t (rowAt t row)
 part-row t row = ap (λ (l : ℕ). partOf t (rowAt t row) (kindOf l)) (sym (row-field t row 0 (omega arith)))
 
--- ---- a card that stirs nothing adds nothing
+-- ---- a card that has no square adds nothing
 
-idle : (ns : List ℕ) (q : ℕ → ℤ) (i j : ℕ) → (addsP (loaded ns q) i j ≡ pos 0) × (addsA (loaded ns q) i j ≡ pos 0)
-unfolding addsP addsA spread mass
-idle ns q i j = (
-  sum-none n _ (λ a la. sum-none n _ (λ b lb. nil (eqb (getD ns a 0) (suc i) && eqb (getD ns b 0) (suc j)) (eqb a b))),
-  sum-none n _ (λ a la. sum-none n _ (λ b lb. nil₃ (eqb (getD ns a 0) (suc i) && eqb (getD ns b 0) (suc j)) (eqb a b))),
-)
+idle-P : (x : Part) → x .capacity ≡ 0 → (i j : ℕ) → addsP x i j ≡ pos 0
+unfolding addsP spread mass
+idle-P x e i j =
+    sum-none n _ (λ a la. sum-none n _ (λ b lb. nil (eqb (getD (x .corners) a 0) (suc i) && eqb (getD (x .corners) b 0) (suc j)) (eqb a b) (x .capacity) e))
   where
     n : ℕ
-    n = length ns
+    n = length (x .corners)
 
-    nil : (t s : Bool) → cond t (cond s (pos (2 * 0)) (pos 0)) (pos 0) ≡ pos 0
-    nil true true = refl
-    nil true false = refl
-    nil false s = refl
+    nil : (t s : Bool) (c : ℕ) → c ≡ 0 → cond t (cond s (pos (2 * c)) (pos c)) (pos 0) ≡ pos 0
+    nil true true c z = rw z
+    nil true false c z = rw z
+    nil false s c z = refl
 
-    nil₃ : (t s : Bool) → cond t (pos 0 +ℤ cond s (pos (2 * 0)) (pos 0) +ℤ cond s (pos (2 * 0)) (pos 0)) (pos 0) ≡ pos 0
-    nil₃ true true = refl
-    nil₃ true false = refl
-    nil₃ false s = refl
+idle-A : (x : Part) → ((a b : ℕ) → x .conductance a b ≡ pos 0) → x .capacity ≡ 0 → x .film ≡ 0 → (i j : ℕ) → addsA x i j ≡ pos 0
+unfolding addsA spread mass
+idle-A x k e f i j =
+    sum-none n _
+    (λ a la. sum-none n _ (λ b lb. nil (eqb (getD (x .corners) a 0) (suc i) && eqb (getD (x .corners) b 0) (suc j)) (eqb a b) (x .conductance a b) (x .capacity) (x .film) (k a b) e f))
+  where
+    n : ℕ
+    n = length (x .corners)
 
-idle-kind : (t card : List ℕ) (kind : Kind) → partOf t card kind .stirs ≡ false → (i j : ℕ) → (addsP (partOf t card kind) i j ≡ pos 0) × (addsA (partOf t card kind) i j ≡ pos 0)
-unfolding partOf
-idle-kind t card D e = idle [] _
-idle-kind t card N e = idle [] _
-idle-kind t card M e = idle [] _
-idle-kind t card E e = never (sym e)
-idle-kind t card «V» e = never (sym e)
-idle-kind t card H e = idle _ _
-idle-kind t card F e = never (sym e)
-idle-kind t card G e = never (sym e)
-idle-kind t card T e = idle [] _
-idle-kind t card Z e = idle [] _
-idle-kind t card Other e = idle [] _
+    nil : (t s : Bool) (k : ℤ) (c f : ℕ) → k ≡ pos 0 → c ≡ 0 → f ≡ 0 → cond t (k +ℤ cond s (pos (2 * c)) (pos c) +ℤ cond s (pos (2 * f)) (pos f)) (pos 0) ≡ pos 0
+    nil true true k c f p q r = rw (p, q, r)
+    nil true false k c f p q r = rw (p, q, r)
+    nil false s k c f p q r = refl
 
-pub idle-row : (t : List ℕ) (row : ℕ) → partAt t row .stirs ≡ false → (i j : ℕ) → (addsP (partAt t row) i j ≡ pos 0) × (addsA (partAt t row) i j ≡ pos 0)
-idle-row t row = idle-kind t (rowAt t row) (kindIn t row)
+-- what neither conducts nor films adds to neither, what only films not to P
+idle-by : (all : Bool) (t card : List ℕ) (it : Does) (x : Part) → As t card it x → has all it ≡ false → (i j : ℕ) → addsTo all x i j ≡ pos 0
+idle-by true t card it x h q =
+    let (c, f) = neither (it .conducts) (it .films) q in
+    idle-A x (λ a b. h .conductance a b ∙ rw c) (h .capacity ∙ rw c) (h .film ∙ rw f)
+  where
+    neither : (c f : Bool) → (c || true && f) ≡ false → (c ≡ false) × (f ≡ false)
+    neither true f q = never (sym q)
+    neither false f q = (refl, q)
+idle-by false t card it x h q = idle-P x (h .capacity ∙ rw (first (it .conducts) (it .films) q))
+  where
+    first : (c f : Bool) → (c || false && f) ≡ false → c ≡ false
+    first true f q = never (sym q)
+    first false f q = refl
+
+pub idle-row : (all : Bool) (t : List ℕ) (row : ℕ) → has all (doesBy (kindIn t row)) ≡ false → (i j : ℕ) → addsTo all (partAt t row) i j ≡ pos 0
+idle-row all t row = idle-by all t (rowAt t row) (doesBy (kindIn t row)) (partAt t row) (as-kind t (rowAt t row) (kindIn t row))
+
+-- what has a square stirs
+pub has-stirs : (all : Bool) (t : List ℕ) (row : ℕ) → has all (doesBy (kindIn t row)) ≡ true → partAt t row .stirs ≡ true
+has-stirs all t row q = as-kind t (rowAt t row) (kindIn t row) .stirs ∙ go all (doesBy (kindIn t row) .conducts) (doesBy (kindIn t row) .films) q
+  where
+    go : (all c f : Bool) → (c || all && f) ≡ true → (c || f) ≡ true
+    go all true f q = refl
+    go true false f q = q
+    go false false f q = never q
 
 -- ---- a card that stirs: it stands before Z, and if it conducts it is an element of some area
 
@@ -168,6 +187,11 @@ walk-none n adds xs ys long e = e ∙ ap (λ (k : ℕ). replicate k (pos 0)) lon
 pub walk-more : (n row : ℕ) (adds : ℕ → ℕ → ℕ → ℤ) (xs ys : List ℤ) → xs ≡ partly n adds row → ys ≡ lower n (λ i j. entry xs i j +ℤ adds row i j) → ys ≡ partly n adds (row + 1)
 walk-more n row adds xs ys e g =
     g ∙ lower-ext n _ _ (λ i j a b. (λ d. (ap (λ (l : List ℤ). entry l i j) e ∙ lower-at n i j (λ i j. sum row (λ r. adds r i j)) a b) d +ℤ adds row i j) ∙ sym (sum-more row (λ r. adds r i j)))
+
+-- how large it is
+pub walk-size : (all : Bool) (t : List ℕ) (s : Sound t) (row i j : ℕ) → row ≤ rows t → natAbs (sum row (λ r. addsTo all (partAt t r) i j)) ≤ 2 ^ 33
+walk-size true t s row i j h = part-A t (s .deck) (s .passed) row i j h
+walk-size false t s row i j h = part-P t (s .deck) (s .passed) row i j h
 
 -- what a turn asks
 pub walk-card : (t : List ℕ) (adds : ℕ → ℕ → ℕ → ℤ) (row : ℕ) (xs : List ℤ) → Sound t → row < rows t → xs ≡ partly (nodes t) adds row → ((i j : ℕ) → natAbs (sum row (λ r. adds r i j)) ≤ 2 ^ 33) → Walked t row xs

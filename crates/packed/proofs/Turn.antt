@@ -1,4 +1,4 @@
--- A turn of the walk, as code tells it: whether a card stirs, its six numbers, corners and square.
+-- A turn of the walk, as code tells it: whether a card has a square, its six numbers, corners and square.
 use mathlib.Core.Path.{_≡_, sym, ap, subst, _∙_}
 use mathlib.Core.Bool.{Bool, true, false, not}
 use mathlib.Core.List.{List}
@@ -9,37 +9,30 @@ use lib.ListN.{length}
 use Rattle.whole.specs.Packed.{entry, lower}
 use Rattle.whole.specs.Squares.{at, Holds}
 use Rattle.paper.specs.Kinds.{kindOf}
-use Rattle.paper.specs.Cards.{rowAt, letter, field, nodes}
-use Rattle.paper.specs.Parts.{Part, partOf, partFor, partAt}
-use Rattle.paper.specs.Matrices.{addsP, addsA}
+use Rattle.paper.specs.Cards.{rowAt, field, nodes}
+use Rattle.paper.specs.Parts.{Part, partFor, partAt}
+use Rattle.laws.proofs.Decks.{kindIn}
 use Rattle.laws.proofs.Places.{addSquare, squareP, squareA}
 use Rattle.triangle.specs.Forms.{numbers}
-use Rattle.part.specs.Forms.{cornersOf}
+use Rattle.part.specs.Forms.{cornersOf, doesBy}
 use Rattle.part.specs.Asks.{Card, Solid, Full}
 use Rattle.part.specs.declared.Corners.{Corners}
-use Rattle.packed.specs.Asks.{Takes, Walked}
+use Rattle.packed.specs.Asks.{Takes, Walked, addsTo, has}
 use Rattle.packed.proofs.Squares.{unchanged}
-use Rattle.packed.proofs.Assembling.{idle-row, stirring, solid-row, walk-takes, a-gives, p-gives}
+use Rattle.packed.proofs.Assembling.{idle-row, has-stirs, stirring, solid-row, walk-takes, a-gives, p-gives}
 
-module _ (t : List ℕ) (row : ℕ) {l : ℕ} (el : l ≡ field t row 0) {b : Bool} (eb : (s c : List ℕ) → b ≡ partOf s c (kindOf l) .stirs) where
-  stirs-is : b ≡ partAt t row .stirs
-  stirs-is = eb t (rowAt t row) ∙ ap (λ (k : ℕ). partOf t (rowAt t row) (kindOf k) .stirs) el
+module _ (all : Bool) (t : List ℕ) (row : ℕ) {l : ℕ} (el : l ≡ field t row 0) {b : Bool} (eb : b ≡ has all (doesBy (kindOf l))) where
+  has-is : b ≡ has all (doesBy (kindIn t row))
+  has-is = eb ∙ ap (λ (k : ℕ). has all (doesBy (kindOf k))) el
 
-  -- it does not
-  module _ (q : not b ≡ true) (xs : List ℤ) (k : Walked t row xs) where
-    still : partAt t row .stirs ≡ false
-    still = sym stirs-is ∙ not-true b q
+  -- it has none
+  pub stays : not b ≡ true → (xs : List ℤ) → Walked t row xs → xs ≡ lower (nodes t) (λ i j. entry xs i j +ℤ addsTo all (partAt t row) i j)
+  stays q xs k = unchanged (nodes t) xs (addsTo all (partAt t row)) (k .long) (idle-row all t row (sym has-is ∙ not-true b q))
 
-    pub stays-A : xs ≡ lower (nodes t) (λ i j. entry xs i j +ℤ addsA (partAt t row) i j)
-    stays-A = unchanged (nodes t) xs (addsA (partAt t row)) (k .long) (λ i j. idle-row t row still i j .1)
-
-    pub stays-P : xs ≡ lower (nodes t) (λ i j. entry xs i j +ℤ addsP (partAt t row) i j)
-    stays-P = unchanged (nodes t) xs (addsP (partAt t row)) (k .long) (λ i j. idle-row t row still i j .0)
-
-  -- it does
+  -- it has one
   module _ (q : not b ≡ false) (xs : List ℤ) (k : Walked t row xs) {card : List ℕ} (ec : card ≡ rowAt t row) where
     moves : partAt t row .stirs ≡ true
-    moves = sym stirs-is ∙ not-false b q
+    moves = has-stirs all t row (sym has-is ∙ not-false b q)
 
     pub turn-card : Card t card
     turn-card = subst (Card t) (sym ec) (stirring t row (k .sound .deck) (k .inside) moves)
@@ -57,10 +50,10 @@ module _ (t : List ℕ) (row : ℕ) {l : ℕ} (el : l ≡ field t row 0) {b : Bo
       pub turn-takes : {b : ℕ} {r : List (List ℤ)} (f : Part → ℕ → ℕ → ℤ) → Holds (length (partFor t card .corners)) b (f (partFor t card)) r → b ≤ 2 ^ 58 → Takes (c .count) xs (numbers (c .nodes)) r
       turn-takes {r = r} f s l = walk-takes t row xs k moves c full at-row r f (in-row f s) l
 
-      pub turn-a-gives : {b : ℕ} {r : List (List ℤ)} {ys : List ℤ} → Holds (length (partFor t card .corners)) b (squareA (partFor t card)) r → ys ≡ addSquare (c .count) xs (numbers (c .nodes)) (at r)
-          → ys ≡ lower (nodes t) (λ i j. entry xs i j +ℤ addsA (partAt t row) i j)
-      turn-a-gives s g = a-gives t row xs k moves c full at-row (in-row squareA s) g
+      pub turn-a-gives : {b : ℕ} {r : List (List ℤ)} {ys : List ℤ} → all ≡ true → Holds (length (partFor t card .corners)) b (squareA (partFor t card)) r → ys ≡ addSquare (c .count) xs (numbers (c .nodes)) (at r)
+          → ys ≡ lower (nodes t) (λ i j. entry xs i j +ℤ addsTo all (partAt t row) i j)
+      turn-a-gives {ys = ys} z s g = subst (λ (a : Bool). ys ≡ lower (nodes t) (λ i j. entry xs i j +ℤ addsTo a (partAt t row) i j)) (sym z) (a-gives t row xs k moves c full at-row (in-row squareA s) g)
 
-      pub turn-p-gives : {b : ℕ} {r : List (List ℤ)} {ys : List ℤ} → Holds (length (partFor t card .corners)) b (squareP (partFor t card)) r → ys ≡ addSquare (c .count) xs (numbers (c .nodes)) (at r)
-          → ys ≡ lower (nodes t) (λ i j. entry xs i j +ℤ addsP (partAt t row) i j)
-      turn-p-gives s g = p-gives t row xs k moves c full at-row (in-row squareP s) g
+      pub turn-p-gives : {b : ℕ} {r : List (List ℤ)} {ys : List ℤ} → all ≡ false → Holds (length (partFor t card .corners)) b (squareP (partFor t card)) r → ys ≡ addSquare (c .count) xs (numbers (c .nodes)) (at r)
+          → ys ≡ lower (nodes t) (λ i j. entry xs i j +ℤ addsTo all (partAt t row) i j)
+      turn-p-gives {ys = ys} z s g = subst (λ (a : Bool). ys ≡ lower (nodes t) (λ i j. entry xs i j +ℤ addsTo a (partAt t row) i j)) (sym z) (p-gives t row xs k moves c full at-row (in-row squareP s) g)

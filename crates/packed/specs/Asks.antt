@@ -1,5 +1,6 @@
 -- What the functions ask of slices, corners, squares and decks.
 use mathlib.Core.Path.{_≡_}
+use mathlib.Core.Bool.{Bool, true, false, _&&_, _||_}
 use mathlib.Core.List.{List}
 use Prim.Native.Nat.{ℕ, suc, _-_, _*_, _≤_, _<_, _^_}
 use lib.IntN.{ℤ, natAbs}
@@ -7,9 +8,12 @@ use lib.ListN.{length, getD}
 use Rattle.whole.specs.Packed.{matrix, cell, place, Bounded}
 use Rattle.whole.specs.Squares.{Small}
 use Rattle.paper.specs.Cards.{rows, nodes, elements}
+use Rattle.paper.specs.Parts.{Part}
+use Rattle.paper.specs.Matrices.{addsP, addsA}
 use Rattle.paper.specs.Building.{elementsFrom}
 use Rattle.paper.specs.declared.Answer.the-variants.{Done}
 use Rattle.laws.proofs.Decks.{Deck, In}
+use Rattle.part.specs.declared.Does.{Does}
 
 -- a place in the slice for the nodes a and b
 pub record AddsAt (xs : List ℤ) (a b : ℕ) : Type 0 where
@@ -49,6 +53,14 @@ pub record Walked (t : List ℕ) (row : ℕ) (xs : List ℤ) : Type 0 where
   pub inside : row < rows t
   pub long : length xs ≡ matrix (nodes t)
   pub small : Bounded (2 ^ 58) xs
+
+-- what a part adds to A, or to P; and whether a kind that does so has a square there
+abbrev pub addsTo : Bool → Part → ℕ → ℕ → ℤ
+addsTo true = addsA
+addsTo false = addsP
+
+abbrev pub has : Bool → Does → Bool
+has all it = it .conducts || all && it .films
 
 -- a slice of n rows, and a node among them
 pub record Clears (xs : List ℤ) (n node : ℕ) : Type 0 where

@@ -7,17 +7,20 @@ ghost use Prim.Native.Nat.{ℕ, suc, _+_, _-_, _*_, _^_, _≤_, _<_};
 ghost use lib.Dec.{eqb};
 ghost use lib.IntN.{ℤ, pos, natAbs, _+ℤ_};
 ghost use lib.ListN.{length, replicate};
+ghost use Rattle.whole.specs.Sums.{sum};
 ghost use Rattle.whole.specs.Packed.{matrix, place, entry, lower};
 ghost use Rattle.whole.specs.Squares.{at};
 ghost use Rattle.whole.proofs.Packed.{add};
-ghost use Rattle.paper.specs.Cards.{nodes};
+ghost use Rattle.paper.specs.Kinds.{kindOf};
+ghost use Rattle.paper.specs.Cards.{nodes, rows};
 ghost use Rattle.paper.specs.Parts.{partAt};
 ghost use Rattle.paper.specs.Matrices as matrices;
-ghost use Rattle.paper.specs.Matrices.{addsP, addsA, fixes, fixed, cleared};
+ghost use Rattle.paper.specs.Matrices.{fixes, fixed, cleared};
 ghost use Rattle.laws.proofs.Decks.{Deck};
 ghost use Rattle.laws.proofs.Places.{addRow, addSquare};
 ghost use Rattle.triangle.specs.Forms.{numbers};
-ghost use Rattle.packed.specs.Asks.{AddsAt, AddsRow, Takes, Sound, Walked, Clears, Fixes};
+ghost use Rattle.part.specs.Forms.{doesBy};
+ghost use Rattle.packed.specs.Asks.{AddsAt, AddsRow, Takes, Sound, Walked, addsTo, has, Clears, Fixes};
 
 // ---- places
 
@@ -70,47 +73,58 @@ pub fn add_square(xs: &mut [i64], c: Corners, q: [[i64; 4]; 4])
 
 // ---- P and A
 
-// What the card in a row adds to A.
-fn add_to_a(table: &[u32], row: usize, xs: &mut [i64])
+// Whether a card of this letter has a square in A, or in P.
+fn adds(letter: u32, all: bool) -> bool
+    ensures { λ r. ⌜ r ≡ has all (doesBy (kindOf letter)) ⌝ }
+{
+    let it = part::by_letter(letter);
+    if it.conducts {
+        return true;
+    }
+    if all {
+        return it.films;
+    }
+    false
+}
+
+// What the card in a row adds to A, or to P.
+fn add_card(table: &[u32], row: usize, xs: &mut [i64], all: bool)
     requires { ⌜ Walked (now table) row (now xs) ⌝ }
-    ensures { λ _. ⌜ now (xs .exit) ≡ lower (nodes (now (table .entry))) (λ i j. entry (now (xs .entry)) i j +ℤ addsA (partAt (now (table .entry)) row) i j) ⌝ }
+    ensures { λ _. ⌜ now (xs .exit) ≡ lower (nodes (now (table .entry))) (λ i j. entry (now (xs .entry)) i j +ℤ addsTo all (partAt (now (table .entry)) row) i j) ⌝ }
 {
-    if !part::stirs(element::field(table, row, 0)) {
+    if !adds(element::field(table, row, 0), all) {
         return;
     }
     let card = element::card_at(table, row);
     let c = part::corners_of(table, card);
-    add_square(xs, c, part::square_a(table, card));
-}
-
-// What it adds to P and to A.
-fn add_card(table: &[u32], row: usize, p: &mut [i64], a: &mut [i64])
-    requires { ⌜ Walked (now table) row (now p) × Walked (now table) row (now a) ⌝ }
-    ensures { λ _. ⌜ now (p .exit) ≡ lower (nodes (now (table .entry))) (λ i j. entry (now (p .entry)) i j +ℤ addsP (partAt (now (table .entry)) row) i j) ⌝ }
-    ensures { λ _. ⌜ now (a .exit) ≡ lower (nodes (now (table .entry))) (λ i j. entry (now (a .entry)) i j +ℤ addsA (partAt (now (table .entry)) row) i j) ⌝ }
-{
-    if !part::stirs(element::field(table, row, 0)) {
+    if all {
+        add_square(xs, c, part::square_a(table, card));
         return;
     }
-    let card = element::card_at(table, row);
-    let c = part::corners_of(table, card);
-    add_square(p, c, part::square_p(table, card));
-    add_square(a, c, part::square_a(table, card));
+    add_square(xs, c, part::square_p(table, card));
 }
 
-// P and A, in one walk.
+// A, or P: of a square at a time.
+fn assemble_one(table: &[u32], xs: &mut [i64], all: bool)
+    requires { ⌜ Sound (now table) × (length (now xs) ≡ matrix (nodes (now table))) ⌝ }
+    ensures { λ _. ⌜ now (xs .exit) ≡ lower (nodes (now (table .entry))) (λ i j. sum (rows (now (table .entry))) (λ row. addsTo all (partAt (now (table .entry)) row) i j)) ⌝ }
+{
+    whole::slices::fill(xs, 0);
+    let mut row = 0;
+    while row * 6 < table.len() {
+        add_card(table, row, xs, all);
+        row += 1;
+    }
+}
+
+// P and A.
 pub fn assemble(table: &[u32], p: &mut [i64], a: &mut [i64])
     requires { ⌜ Sound (now table) × (length (now p) ≡ matrix (nodes (now table))) × (length (now a) ≡ matrix (nodes (now table))) ⌝ }
     ensures { λ _. ⌜ now (p .exit) ≡ lower (nodes (now (table .entry))) (matrices.P (now (table .entry))) ⌝ }
     ensures { λ _. ⌜ now (a .exit) ≡ lower (nodes (now (table .entry))) (matrices.A (now (table .entry))) ⌝ }
 {
-    whole::slices::fill(p, 0);
-    whole::slices::fill(a, 0);
-    let mut row = 0;
-    while row * 6 < table.len() {
-        add_card(table, row, p, a);
-        row += 1;
-    }
+    assemble_one(table, p, false);
+    assemble_one(table, a, true);
 }
 
 // A alone.
@@ -118,12 +132,7 @@ pub fn assemble_a(table: &[u32], xs: &mut [i64])
     requires { ⌜ Sound (now table) × (length (now xs) ≡ matrix (nodes (now table))) ⌝ }
     ensures { λ _. ⌜ now (xs .exit) ≡ lower (nodes (now (table .entry))) (matrices.A (now (table .entry))) ⌝ }
 {
-    whole::slices::fill(xs, 0);
-    let mut row = 0;
-    while row * 6 < table.len() {
-        add_to_a(table, row, xs);
-        row += 1;
-    }
+    assemble_one(table, xs, true);
 }
 
 // ---- A'

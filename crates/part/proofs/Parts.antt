@@ -76,6 +76,21 @@ as-kind t card Other = idle t card
 pub as-part : (t card : List ℕ) → As t card (does card) (partFor t card)
 as-part t card = as-kind t card (kindAt card)
 
+-- what conducts has no film
+pub conducts-alone : (kind : Kind) → doesBy kind .conducts ≡ true → doesBy kind .films ≡ false
+unfolding doesBy
+conducts-alone D q = never q
+conducts-alone N q = never q
+conducts-alone M q = never q
+conducts-alone E q = refl
+conducts-alone «V» q = refl
+conducts-alone H q = never q
+conducts-alone F q = never q
+conducts-alone G q = never q
+conducts-alone T q = never q
+conducts-alone Z q = never q
+conducts-alone Other q = never q
+
 -- at most four corners, and a value with two fields after it
 pub few-by : (kind : Kind) → (doesBy kind .corners ≤ 4) × (doesBy kind .value ≤ 3)
 unfolding doesBy

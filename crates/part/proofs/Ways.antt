@@ -6,10 +6,11 @@ use Prim.Native.Nat.{ℕ, zero, suc, _+_, _*_, _^_, _≤_, _<_}
 use native.Mathlib.Omega.{arith}
 use borrow.Author.Tests.{eq-eqb, ne-eqb}
 use lib.Dec.{eqb}
-use lib.IntN.{ℤ, pos, _+ℤ_}
+use lib.IntN.{ℤ, pos, _+ℤ_, +ℤ-idl, +ℤ-idr}
 use lib.ListN.{length, getD, take}
 use Rattle.whole.specs.Squares.{at, squareOf, Small, Holds}
-use Rattle.whole.proofs.Squares.{holds-square, holds-same, holds-plus}
+use Rattle.whole.proofs.Signs.{natAbs-plus}
+use Rattle.whole.proofs.Squares.{holds-square, holds-same}
 use Rattle.paper.specs.Kinds.{kindAt}
 use Rattle.paper.specs.Cards.{rowAt, elements}
 use Rattle.paper.specs.Corners.{Shape, square, mass}
@@ -24,14 +25,14 @@ use Rattle.laws.proofs.Decks.{In}
 use Rattle.laws.proofs.Edge.{Ranges}
 use Rattle.laws.proofs.Places.{squareP, squareA}
 use Rattle.triangle.specs.Asks.{Placed}
-use Rattle.square.proofs.Held.{holds-mass}
+use Rattle.square.proofs.Held.{mass-size, holds-mass}
 use Rattle.element.specs.Asks.{FlatCard, ElementCard, conducted, Conducts, EdgeCard}
 use Rattle.element.proofs.Ranges.{placed-of}
 use Rattle.part.specs.Forms.{cornersOf, firstNodes, doesBy, does, baseBy, baseOf}
 use Rattle.part.specs.Asks.{Card, Full}
 use Rattle.part.specs.declared.Does.{Does}
 use Rattle.part.specs.declared.Corners.{Corners}
-use Rattle.part.proofs.Parts.{As, filmOver, Over, as-kind, as-part, few-by, length-first, face-shape, first, corner-count, four-at-most, small-corners, heating, conducting, naming, filming, held-P, film-size}
+use Rattle.part.proofs.Parts.{As, filmOver, Over, as-kind, as-part, conducts-alone, few-by, length-first, face-shape, first, corner-count, four-at-most, small-corners, heating, conducting, naming, filming, film-size}
 
 same-first : (n : ℕ) {a b c d a′ b′ c′ d′ : ℕ} → (0 < n → a ≡ a′) → (1 < n → b ≡ b′) → (2 < n → c ≡ c′) → (3 < n → d ≡ d′) → take n (a ∷ b ∷ c ∷ d ∷ []) ≡ take n (a′ ∷ b′ ∷ c′ ∷ d′ ∷ [])
 same-first zero p q r s = refl
@@ -45,6 +46,15 @@ same-first (suc (suc (suc (suc n)))) p q r s = λ i. p (omega arith) i ∷ q (om
 module _ (kind : Kind) (it : Does) (e : it ≡ doesBy kind) (t card : List ℕ) where
   pub stirs-is : it .conducts || it .films ≡ partOf t card kind .stirs
   stirs-is = ap (λ (d : Does). d .conducts || d .films) e ∙ sym (as-kind t card kind .stirs)
+
+-- nothing of nothing
+no-mass : (i j : ℕ) → pos 0 ≡ mass 0 i j
+unfolding mass
+no-mass i j = go (eqb i j)
+  where
+    go : (t : Bool) → pos 0 ≡ cond t (pos (2 * 0)) (pos 0)
+    go true = refl
+    go false = refl
 
 -- ---- by what a card's kind does
 
@@ -132,14 +142,35 @@ module _ (t card : List ℕ) (it : Does) (e : it ≡ does card) where
     conducts-by : {b : Bool} → it .conducts ≡ b → (i j : ℕ) → partFor t card .conductance i j ≡ cond b (square (length (elementOf t card .shape .corners)) (elementOf t card .between) i j) (pos 0)
     conducts-by q i j = as-part t card .conductance i j ∙ ap (λ (b : Bool). cond b (square (length (elementOf t card .shape .corners)) (elementOf t card .between) i j) (pos 0)) (told (λ d. d .conducts) q)
 
-    pub conducts-none : {r : List (List ℤ)} → it .conducts ≡ false → r ≡ squareOf 4 (λ i j. pos 0) → Holds (length (partFor t card .corners)) conducted (partFor t card .conductance) r
-    conducts-none q z =
-        holds-same (holds-square (length (partFor t card .corners)) 4 0 (λ i j. pos 0) (four-at-most t card h) z (λ i j k l. omega arith)) (omega arith) (λ i j k l. sym (conducts-by q i j))
-
-    pub conducts : {r : List (List ℤ)} → it .conducts ≡ true → Conducts t card r → Holds (length (partFor t card .corners)) conducted (partFor t card .conductance) r
+    conducts : {r : List (List ℤ)} → it .conducts ≡ true → Conducts t card r → Holds (length (partFor t card .corners)) conducted (partFor t card .conductance) r
     conducts {r} q z =
         subst (λ (n : ℕ). Holds n conducted (partFor t card .conductance) r) (sym (ap length (as-part t card .own (told (λ d. d .conducts) q))))
         (holds-same z (omega arith) (λ i j k l. sym (conducts-by q i j)))
+
+    -- ---- its square in A
+
+    -- what it conducts, with what it stores
+    module _ (q : it .conducts ≡ true) {k : List (List ℤ)} (hk : Conducts t card k) where
+      pub small-conducts : Small (2 ^ 60) k
+      small-conducts = record { each = λ i j. omega (arith, hk .small .each i j) }
+
+      no-film : partFor t card .film ≡ 0
+      no-film = sym (films-none (ap (λ (d : Does). d .films) e ∙ conducts-alone (kindAt card) (told (λ d. d .conducts) q)) .0)
+
+      pub in-A-conducts : {w : ℕ} {r : List (List ℤ)} → w ≡ partFor t card .capacity → w ≤ 2 ^ 37 → r ≡ squareOf 4 (λ i j. at k i j +ℤ mass w i j) → Holds (length (partFor t card .corners)) (2 ^ 57) (squareA (partFor t card)) r
+      in-A-conducts {w} ew lw er =
+          holds-same
+          (holds-square (length (partFor t card .corners)) 4 (2 ^ 57) (λ i j. at k i j +ℤ mass w i j) (four-at-most t card h) er
+          (λ i j _ _. omega (arith, natAbs-plus (at k i j) (mass w i j), hk .small .each i j, mass-size w i j)))
+          (omega arith)
+          (λ i j a b. (λ d. conducts q hk .each i j a b d +ℤ mass (ew d) i j) ∙ sym (+ℤ-idr _) ∙ (λ d. partFor t card .conductance i j +ℤ mass (partFor t card .capacity) i j +ℤ (no-mass i j ∙ ap (λ (n : ℕ). mass n i j) (sym no-film)) d))
+
+    -- what it films, where it conducts nothing
+    pub in-A-films : {f : ℕ} {r : List (List ℤ)} → it .conducts ≡ false → f ≡ partFor t card .film → f ≤ 349500 → r ≡ squareOf 4 (mass f) → Holds (length (partFor t card .corners)) (2 ^ 57) (squareA (partFor t card)) r
+    in-A-films {f} q ef lf er =
+        holds-same (holds-mass (length (partFor t card .corners)) f (2 ^ 57) (four-at-most t card h) (omega arith) er) (omega arith)
+        (λ i j a b. ap (λ (n : ℕ). mass n i j) ef ∙ sym (+ℤ-idl (mass (partFor t card .film) i j))
+        ∙ (λ d. sym (conducts-by q i j) d +ℤ (no-mass i j ∙ ap (λ (n : ℕ). mass n i j) (stores-none q .0)) d +ℤ mass (partFor t card .film) i j))
 
     -- ---- loads
     module _ {x : List ℕ} {n : ℕ} (b : x ≡ baseOf t card) (c : n ≡ does x .corners) where
@@ -179,31 +210,8 @@ module _ (t card : List ℕ) (h : Card t card) {x : List ℕ} {n : ℕ} (b : x �
       let few : n ≤ 4 = omega (arith, c, few-by (kindAt x)) in
       (record { few = few; full = ap length is ∙ length-first n x few }, is ∙ (λ i. firstNodes (base-count i) (b i)) ∙ sym (first t card h .is))
 
--- ---- squares
+-- ---- its square in P
 
-module _ (t card : List ℕ) (h : Card t card) where
-  abbrev n : ℕ
-  n = length (partFor t card .corners)
-
-  abbrev InP : List (List ℤ) → Type 0
-  InP m = m ≡ squareOf 4 (squareP (partFor t card))
-
-  pub in-P : {c : ℕ} {m : List (List ℤ)} → c ≡ partFor t card .capacity → m ≡ squareOf 4 (mass c) → InP m
+module _ (t card : List ℕ) where
+  pub in-P : {c : ℕ} {m : List (List ℤ)} → c ≡ partFor t card .capacity → m ≡ squareOf 4 (mass c) → m ≡ squareOf 4 (squareP (partFor t card))
   in-P ec e = e ∙ ap (λ (v : ℕ). squareOf 4 (mass v)) ec
-
-  module _ {k m w q : List (List ℤ)} {f : ℕ} (hk : Holds n conducted (partFor t card .conductance) k) (hm : InP m)
-      (ef : f ≡ partFor t card .film) (lf : f ≤ 349500) (ew : w ≡ squareOf 4 (mass f)) (eq : q ≡ squareOf 4 (λ i j. at k i j +ℤ at m i j)) where
-    film-held : Holds n (2 ^ 20) (mass (partFor t card .film)) w
-    film-held = subst (λ (v : ℕ). Holds n (2 ^ 20) (mass v) w) ef (holds-mass n f (2 ^ 20) (four-at-most t card h) (omega arith) ew)
-
-    within : Holds n (conducted + 2 ^ 38) (λ i j. partFor t card .conductance i j +ℤ squareP (partFor t card) i j) q
-    within = holds-plus 4 (four-at-most t card h) hk (held-P t card h hm) eq
-
-    pub asks-second : Small (2 ^ 60) q × Small (2 ^ 60) w
-    asks-second = (record { each = λ i j. omega (arith, within .small .each i j) }, record { each = λ i j. omega (arith, film-held .small .each i j) })
-
-    pub in-A : {r : List (List ℤ)} → r ≡ squareOf 4 (λ i j. at q i j +ℤ at w i j) → Holds n (2 ^ 57) (squareA (partFor t card)) r
-    in-A e = holds-same (holds-plus 4 (four-at-most t card h) within film-held e) (omega arith) (λ i j a b. refl)
-
-  pub asks-first : {k m : List (List ℤ)} → Holds n conducted (partFor t card .conductance) k → InP m → Small (2 ^ 60) k × Small (2 ^ 60) m
-  asks-first hk hm = (record { each = λ i j. omega (arith, hk .small .each i j) }, record { each = λ i j. omega (arith, held-P t card h hm .small .each i j) })

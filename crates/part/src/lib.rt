@@ -13,7 +13,6 @@ ghost use Rattle.whole.specs.Squares.{squareOf, Holds};
 ghost use Rattle.paper.specs.Kinds.{kindOf};
 ghost use Rattle.paper.specs.Parts.{heatShare, partOf, partFor, least, leastRow};
 ghost use Rattle.laws.proofs.Places.{squareP, squareA};
-ghost use Rattle.element.specs.Asks.{conducted};
 ghost use Rattle.part.specs.Forms.{cornersOf, line, doesBy, does, baseOf};
 ghost use Rattle.part.specs.Asks.{Card, Solid, Full};
 
@@ -154,10 +153,10 @@ pub fn least_row(c: Corners) -> usize
     m - 1
 }
 
-// ---- what it stores, conducts and films
+// ---- what it stores, films and conducts
 
 // Its capacity.
-fn stored(table: &[u32], card: [u32; 6]) -> u64
+pub fn stored(table: &[u32], card: [u32; 6]) -> u64
     requires { ⌜ Card (now table) card ⌝ }
     ensures { λ r. ⌜ (r ≡ partFor (now (table .entry)) card .capacity) × (r ≤ 2 ^ 37) ⌝ }
 {
@@ -183,17 +182,6 @@ fn film(table: &[u32], card: [u32; 6]) -> u64
     triangle::film(card[at], element::shape_of(table, base(table, card)))
 }
 
-fn conductance(table: &[u32], card: [u32; 6]) -> [[i64; 4]; 4]
-    requires { ⌜ Card (now table) card × Solid (now table) card ⌝ }
-    ensures { λ r. ⌜ Holds (length (partFor (now (table .entry)) card .corners)) conducted (partFor (now (table .entry)) card .conductance) r ⌝ }
-{
-    let it = by_letter(card[0]);
-    if !it.conducts {
-        return [[0, 0, 0, 0], [0, 0, 0, 0], [0, 0, 0, 0], [0, 0, 0, 0]];
-    }
-    element::conductance(table, card)
-}
-
 // Its square in P: what it stores.
 pub fn square_p(table: &[u32], card: [u32; 6]) -> [[i64; 4]; 4]
     requires { ⌜ Card (now table) card ⌝ }
@@ -202,13 +190,16 @@ pub fn square_p(table: &[u32], card: [u32; 6]) -> [[i64; 4]; 4]
     square::mass(stored(table, card))
 }
 
-// Its square in A: all three.
+// Its square in A. What conducts has no film, and what has a film stores nothing.
 pub fn square_a(table: &[u32], card: [u32; 6]) -> [[i64; 4]; 4]
     requires { ⌜ Card (now table) card × Solid (now table) card ⌝ }
     ensures { λ r. ⌜ Holds (length (partFor (now (table .entry)) card .corners)) (2 ^ 57) (squareA (partFor (now (table .entry)) card)) r ⌝ }
 {
-    let within = square::plus(conductance(table, card), square_p(table, card));
-    square::plus(within, square::mass(film(table, card)))
+    let it = by_letter(card[0]);
+    if it.conducts {
+        return square::with_mass(element::conductance(table, card), stored(table, card));
+    }
+    square::mass(film(table, card))
 }
 
 // ---- loads

@@ -1,17 +1,22 @@
 -- What the code's expressions are, as the machine has them, and that none overflows.
-use mathlib.Core.Path.{_≡_, ap, _∙_}
-use mathlib.Core.List.{List}
-use Prim.Native.Nat.{ℕ, suc, _+_, _*_, _-_, _^_, _≤_, _<_}
+use mathlib.Core.Path.{_≡_, sym, subst, _∙_}
+use mathlib.Core.List.{List, [], _∷_}
+use Prim.Native.Nat.{ℕ, zero, suc, _+_, _*_, _^_, _≤_, _<_}
 use native.Mathlib.Omega.{arith}
-use lib.Dec.{lit<}
+use lib.Dec.{lit<, lit≤}
 use lib.IntN.{ℤ, pos, negℤ, natAbs, _+ℤ_, _-ℤ_, _*ℤ_, +ℤ-idl}
 use lib.Signed.{mag}
 use mir.Syntax.{w64}
 use mir.Val.{toZ}
-use Rattle.whole.proofs.Signs.{natAbs-neg, got}
-use Rattle.whole.proofs.Calc.{Is, rd, num, cast, lit, of, res, plus, minus, times, again}
+use Rattle.whole.specs.Sums.{table}
+use Rattle.whole.specs.Nearest.{nearest}
+use Rattle.whole.specs.Packed.{tri, cell, lower, Bounded}
+use Rattle.whole.specs.Squares.{pairsOf, among}
+use Rattle.whole.proofs.Signs.{natAbs-plus, natAbs-neg, got}
+use Rattle.whole.proofs.Squares.{pairs-small}
+use Rattle.whole.proofs.Calc.{Is, rd, num, cast, lit, of, res, plus, minus, times, again, wide}
 use Rattle.paper.specs.Corners.{from, area}
-use Rattle.paper.specs.Tetrahedron.{Space, Tetrahedron, face, b, c, d, sixfold}
+use Rattle.paper.specs.Tetrahedron.{Space, Tetrahedron, face, b, c, d, sixfold, S, pair}
 use Rattle.laws.proofs.Faces.{OnGrid, edge-size, face-size}
 use Rattle.laws.proofs.Solids.{Placed, Sized, prismSize, prism-size, termSize, term-size}
 
@@ -37,53 +42,112 @@ pub area-is : {f g : List ℕ} {p q r : ℕ} {x y z w : ℤ} → Is (rd x) (from
 unfolding area
 area-is x y z w = record { one = times x y; other = times z w; both = minus (again (times x y) (lit< tt)) (again (times z w) (lit< tt)) }
 
--- ---- a face by its number
-
-pub last-face : (f g : List ℕ) (a : ℕ) → 3 ≤ a → area f g 0 1 2 ≡ face f g a
-unfolding face
-last-face f g a h = let e : suc (suc (suc (a - 3))) ≡ a = omega arith in ap (face f g) e
-
 -- ---- k times two faces
 
-pub record Term (k : ℕ) (f g : List ℕ) (i j : ℕ) (p q : ℤ) : Type 0 where
-  pub faces : Is (rd p *ℤ rd q) (face f g i *ℤ face f g j) (1023 * 1023 * (1023 * 1023))
-  pub all : Is (toZ w64 k *ℤ rd (rd p *ℤ rd q)) (pos k *ℤ (face f g i *ℤ face f g j)) termSize
+pub record Term (k : ℕ) (f : List ℤ) (i j : ℕ) : Type 0 where
+  pub faces : Is (rd (cell f i) *ℤ rd (cell f j)) (cell f i *ℤ cell f j) (1023 * 1023 * (1023 * 1023))
+  pub all : Is (toZ w64 k *ℤ rd (rd (cell f i) *ℤ rd (cell f j))) (pos k *ℤ (cell f i *ℤ cell f j)) termSize
 
-pub term-is : {f g : List ℕ} {i j : ℕ} {p q : ℤ} (k : ℕ) → k ≤ 500000 → Is (rd p) (face f g i) (1023 * 1023) → Is (rd q) (face f g j) (1023 * 1023) → Term k f g i j p q
-term-is k h p q = record { faces = times p q; all = times (cast k h (lit< tt)) (again (times p q) (lit< tt)) }
+pub term-is : (k : ℕ) (f : List ℤ) (i j : ℕ) → k ≤ 500000 → Bounded (1023 * 1023) f → Term k f i j
+term-is k f i j h b =
+    let p = num (cell f i) (b .each i) (lit< tt) in
+    let q = num (cell f j) (b .each j) (lit< tt) in
+    record { faces = times p q; all = times (cast k h (lit< tt)) (again (times p q) (lit< tt)) }
 
--- ---- a pair's dividend: what three calls of `term` gave, summed
+-- ---- what a pair has, and what it gets along one axis: p is the pair's number, z what `term` gave
 
-pub record Flux (e : Tetrahedron) (i j : ℕ) (p q r : ℤ) : Type 0 where
-  pub all : Is (rd (rd p +ℤ rd q) +ℤ rd r) (pos (e .kx) *ℤ (b (e .space) i *ℤ b (e .space) j) +ℤ pos (e .ky) *ℤ (c (e .space) i *ℤ c (e .space) j) +ℤ pos (e .kz) *ℤ (d (e .space) i *ℤ d (e .space) j)) (termSize + termSize + termSize)
+module _ (p : List ℤ) (k : ℕ) (f : List ℤ) (hp : Bounded (2 * termSize) p) (hk : k ≤ 500000) (hf : Bounded (1023 * 1023) f) where
+  pub more-is : {z : ℤ} (n i j : ℕ) → mag z < 2 ^ 63 → z ≡ pos k *ℤ (cell f i *ℤ cell f j) → Is (rd (cell p n) +ℤ rd z) (cell p n +ℤ pos k *ℤ (cell f i *ℤ cell f j)) (3 * termSize)
+  more-is n i j m e = wide (plus (num (cell p n) (hp .each n) (lit< tt)) (res m e (of (term-is k f i j hk hf .all .size)))) (lit≤ tt)
 
-got-term : {z : ℤ} (k : ℕ) (f g : List ℕ) (i j : ℕ) → k ≤ 500000 → OnGrid f → OnGrid g → mag z < 2 ^ 63 → z ≡ pos k *ℤ (face f g i *ℤ face f g j) → Is (rd z) (pos k *ℤ (face f g i *ℤ face f g j)) termSize
-got-term k f g i j h m l o e = res o e (of (term-size k f g i j h m l))
+-- ---- the pairs after each axis
 
--- along one axis
-abbrev Along : ℤ → ℕ → List ℕ → List ℕ → ℕ → ℕ → Type 0
-Along z k f g i j = z ≡ pos k *ℤ (face f g i *ℤ face f g j)
+module _ (e : Tetrahedron) (z : Sized e) where
+  abbrev s : Space
+  s = e .space
 
-pub two-terms : {p q : ℤ} (e : Tetrahedron) (i j : ℕ) → Sized e
-    → mag p < 2 ^ 63 → Along p (e .kx) (e .space .shape .ys) (e .space .zs) i j
-    → mag q < 2 ^ 63 → Along q (e .ky) (e .space .zs) (e .space .shape .xs) i j
-    → Is (rd p +ℤ rd q) (pos (e .kx) *ℤ (b (e .space) i *ℤ b (e .space) j) +ℤ pos (e .ky) *ℤ (c (e .space) i *ℤ c (e .space) j)) (termSize + termSize)
-unfolding b c
-two-terms e i j z mp hp mq hq =
-    let s = e .space in
-    let g = z .placed in
-    plus (got-term (e .kx) (s .shape .ys) (s .zs) i j (z .kx) (g .y) (g .z) mp hp) (got-term (e .ky) (s .zs) (s .shape .xs) i j (z .ky) (g .z) (g .x) mq hq)
+  abbrev x : ℕ → ℕ → ℤ
+  x i j = pos (e .kx) *ℤ (b s i *ℤ b s j)
 
-pub flux : {p q r : ℤ} (e : Tetrahedron) (i j : ℕ) → Sized e
-    → mag p < 2 ^ 63 → Along p (e .kx) (e .space .shape .ys) (e .space .zs) i j
-    → mag q < 2 ^ 63 → Along q (e .ky) (e .space .zs) (e .space .shape .xs) i j
-    → mag r < 2 ^ 63 → Along r (e .kz) (e .space .shape .xs) (e .space .shape .ys) i j
-    → Flux e i j p q r
-unfolding d
-flux e i j z mp hp mq hq mr hr =
-    let s = e .space in
-    let w = got-term (e .kz) (s .shape .xs) (s .shape .ys) i j (z .kz) (z .placed .x) (z .placed .y) mr hr in
-    record { all = plus (again (two-terms e i j z mp hp mq hq) (lit< tt)) w }
+  abbrev y : ℕ → ℕ → ℤ
+  y i j = pos (e .ky) *ℤ (c s i *ℤ c s j)
+
+  abbrev w : ℕ → ℕ → ℤ
+  w i j = pos (e .kz) *ℤ (d s i *ℤ d s j)
+
+  -- what one axis adds
+  abbrev Adds : List ℤ → List ℤ → ℕ → List ℤ → Type 0
+  Adds p q k f = q ≡ pairsOf 4 (λ i j. among p i j +ℤ pos k *ℤ (cell f i *ℤ cell f j))
+
+  x-size : (i j : ℕ) → natAbs (x i j) ≤ termSize
+  unfolding b
+  x-size i j = term-size (e .kx) (s .shape .ys) (s .zs) i j (z .kx) (z .placed .y) (z .placed .z)
+
+  y-size : (i j : ℕ) → natAbs (y i j) ≤ termSize
+  unfolding c
+  y-size i j = term-size (e .ky) (s .zs) (s .shape .xs) i j (z .ky) (z .placed .z) (z .placed .x)
+
+  w-size : (i j : ℕ) → natAbs (w i j) ≤ termSize
+  unfolding d
+  w-size i j = term-size (e .kz) (s .shape .xs) (s .shape .ys) i j (z .kz) (z .placed .x) (z .placed .y)
+
+  module _ {p₁ fs : List ℤ} (ef : fs ≡ table 4 (b s)) (e₁ : Adds (pos 0 ∷ pos 0 ∷ pos 0 ∷ pos 0 ∷ pos 0 ∷ pos 0 ∷ []) p₁ (e .kx) fs) where
+    first : p₁ ≡ pairsOf 4 x
+    unfolding pairsOf lower table among tri
+    first =
+        e₁ ∙ (λ t. pairsOf 4 (λ i j. among (pos 0 ∷ pos 0 ∷ pos 0 ∷ pos 0 ∷ pos 0 ∷ pos 0 ∷ []) i j +ℤ pos (e .kx) *ℤ (cell (ef t) i *ℤ cell (ef t) j)))
+        ∙ (λ t. +ℤ-idl (x 1 0) t ∷ +ℤ-idl (x 2 0) t ∷ +ℤ-idl (x 2 1) t ∷ +ℤ-idl (x 3 0) t ∷ +ℤ-idl (x 3 1) t ∷ +ℤ-idl (x 3 2) t ∷ [])
+
+    pub first-small : Bounded (2 * termSize) p₁
+    first-small = subst (Bounded (2 * termSize)) (sym first) (pairs-small 4 (2 * termSize) x (λ i j h l. omega (arith, x-size i j)))
+
+    module _ {p₂ gs : List ℤ} (eg : gs ≡ table 4 (c s)) (e₂ : Adds p₁ p₂ (e .ky) gs) where
+      second : p₂ ≡ pairsOf 4 (λ i j. x i j +ℤ y i j)
+      unfolding pairsOf lower table among tri
+      second = e₂ ∙ (λ t. pairsOf 4 (λ i j. among (first t) i j +ℤ pos (e .ky) *ℤ (cell (eg t) i *ℤ cell (eg t) j)))
+
+      pub second-small : Bounded (2 * termSize) p₂
+      second-small =
+          subst (Bounded (2 * termSize)) (sym second) (pairs-small 4 (2 * termSize) (λ i j. x i j +ℤ y i j) (λ i j h l. omega (arith, natAbs-plus (x i j) (y i j), x-size i j, y-size i j)))
+
+      module _ {p₃ hs : List ℤ} (eh : hs ≡ table 4 (d s)) (e₃ : Adds p₂ p₃ (e .kz) hs) where
+        third : p₃ ≡ pairsOf 4 (λ i j. x i j +ℤ y i j +ℤ w i j)
+        unfolding pairsOf lower table among tri
+        third = e₃ ∙ (λ t. pairsOf 4 (λ i j. among (second t) i j +ℤ pos (e .kz) *ℤ (cell (eh t) i *ℤ cell (eh t) j)))
+
+        pub third-small : Bounded (3 * termSize) p₃
+        third-small =
+            subst (Bounded (3 * termSize)) (sym third) (pairs-small 4 (3 * termSize) (λ i j. x i j +ℤ y i j +ℤ w i j)
+            (λ i j h l. omega (arith, natAbs-plus (x i j +ℤ y i j) (w i j), natAbs-plus (x i j) (y i j), x-size i j, y-size i j, w-size i j)))
+
+        -- and rounded
+        pub pairs-are : {p₄ : List ℤ} {n : ℕ} → n ≡ S s → p₄ ≡ pairsOf 4 (λ i j. nearest (among p₃ i j) (120 * n)) → p₄ ≡ pairsOf 4 (pair e)
+        unfolding pairsOf lower table among tri pair
+        pairs-are es e₄ = e₄ ∙ (λ t. pairsOf 4 (λ i j. nearest (among (third t) i j) (120 * es t)))
+
+-- before the first axis
+pub none-small : (m : ℕ) → Bounded m (pos 0 ∷ pos 0 ∷ pos 0 ∷ pos 0 ∷ pos 0 ∷ pos 0 ∷ [])
+none-small m = record { each = each }
+  where
+    each : (k : ℕ) → natAbs (cell (pos 0 ∷ pos 0 ∷ pos 0 ∷ pos 0 ∷ pos 0 ∷ pos 0 ∷ []) k) ≤ m
+    each zero = omega arith
+    each (suc zero) = omega arith
+    each (suc (suc zero)) = omega arith
+    each (suc (suc (suc zero))) = omega arith
+    each (suc (suc (suc (suc zero)))) = omega arith
+    each (suc (suc (suc (suc (suc zero))))) = omega arith
+    each (suc (suc (suc (suc (suc (suc k)))))) = omega arith
+
+-- four faces of the grid
+pub four-faces : {l : List ℤ} (f g : List ℕ) → l ≡ table 4 (face f g) → OnGrid f → OnGrid g → Bounded (1023 * 1023) l
+four-faces f g e h k = subst (Bounded (1023 * 1023)) (sym e) (record { each = each })
+  where
+    each : (a : ℕ) → natAbs (cell (table 4 (face f g)) a) ≤ 1023 * 1023
+    each zero = unfold table in face-size f g 0 h k
+    each (suc zero) = unfold table in face-size f g 1 h k
+    each (suc (suc zero)) = unfold table in face-size f g 2 h k
+    each (suc (suc (suc zero))) = unfold table in face-size f g 3 h k
+    each (suc (suc (suc (suc a)))) = unfold table in omega arith
 
 -- ---- and S, of three calls of `prism`
 

@@ -7,13 +7,15 @@ ghost use mathlib.Core.Path.{_≡_};
 ghost use mathlib.Core.Bool.{_&&_};
 ghost use Prim.Native.Nat.{_+_, _*_, _^_, _<_, _≤_};
 ghost use lib.IntN.{pos, negℤ, natAbs, _+ℤ_, _*ℤ_};
+ghost use Rattle.whole.specs.Sums.{table};
+ghost use Rattle.whole.specs.Nearest.{nearest};
 ghost use Rattle.whole.specs.Packed.{cell, Bounded};
 ghost use Rattle.whole.specs.Squares.{squareOf, pairsOf, among};
 ghost use Rattle.paper.specs.Corners.{from, area, square};
 ghost use Rattle.paper.specs.Tetrahedron.{face, S, pair, u};
 ghost use Rattle.paper.specs.Elements.{solidOf, soft, fair, formJudged};
 ghost use Rattle.laws.proofs.Faces.{OnGrid};
-ghost use Rattle.laws.proofs.Solids.{Placed, Sized};
+ghost use Rattle.laws.proofs.Solids.{Placed, Sized, prismSize, termSize};
 ghost use Rattle.solid.specs.Forms.{asSpace, asTetrahedron};
 ghost use Rattle.solid.specs.Asks.{Filled, Step};
 
@@ -51,21 +53,17 @@ fn area(f: [u32; 4], g: [u32; 4], p: usize, q: usize, r: usize) -> i64
     apart(f, p, q) * apart(g, p, r) - apart(f, p, r) * apart(g, p, q)
 }
 
-// The face across from corner a. All four turn the same way.
-fn face(f: [u32; 4], g: [u32; 4], a: usize) -> i64
+// The faces across from each corner. All four turn the same way.
+fn faces(f: [u32; 4], g: [u32; 4]) -> [i64; 4]
     requires { ⌜ OnGrid f × OnGrid g ⌝ }
-    ensures { λ r. ⌜ r ≡ face f g a ⌝ }
+    ensures { λ r. ⌜ r ≡ table 4 (face f g) ⌝ }
 {
-    if a == 0 {
-        return area(f, g, 1, 3, 2);
-    }
-    if a == 1 {
-        return area(f, g, 0, 2, 3);
-    }
-    if a == 2 {
-        return area(f, g, 0, 3, 1);
-    }
-    area(f, g, 0, 1, 2)
+    [
+        area(f, g, 1, 3, 2),
+        area(f, g, 0, 2, 3),
+        area(f, g, 0, 3, 1),
+        area(f, g, 0, 1, 2),
+    ]
 }
 
 // The edge to corner 1 times the face across from it.
@@ -73,7 +71,7 @@ fn prism(h: [u32; 4], f: [u32; 4], g: [u32; 4]) -> i64
     requires { ⌜ OnGrid h × OnGrid f × OnGrid g ⌝ }
     ensures { λ r. ⌜ r ≡ from h 0 1 *ℤ face f g 1 ⌝ }
 {
-    apart(h, 0, 1) * face(f, g, 1)
+    apart(h, 0, 1) * area(f, g, 0, 2, 3)
 }
 
 // S. Either turning sense is accepted.
@@ -89,52 +87,70 @@ pub fn six_volumes(s: Space) -> u64
 
 // ---- conductance
 
-// Along one axis. Faces are worked out anew for each pair: no array of them is kept.
-fn term(k: u32, f: [u32; 4], g: [u32; 4], i: usize, j: usize) -> i64
-    requires { ⌜ (k ≤ 500000) × OnGrid f × OnGrid g ⌝ }
-    ensures { λ r. ⌜ r ≡ pos k *ℤ (face f g i *ℤ face f g j) ⌝ }
+// k times two faces.
+fn term(k: u32, f: &[i64; 4], i: usize, j: usize) -> i64
+    requires { ⌜ (k ≤ 500000) × Bounded (1023 * 1023) (now f) × (i < 4) × (j < 4) ⌝ }
+    ensures { λ r. ⌜ r ≡ pos k *ℤ (cell (now (f .entry)) i *ℤ cell (now (f .entry)) j) ⌝ }
 {
-    k as i64 * (face(f, g, i) * face(f, g, j))
+    k as i64 * (f[i] * f[j])
 }
 
-// Of corners i and j, where s is S.
-fn pair(e: Tetrahedron, s: u64, i: usize, j: usize) -> i64
-    requires { ⌜ Filled (asTetrahedron e) s ⌝ }
-    ensures { λ r. ⌜ r ≡ pair (asTetrahedron e) i j ⌝ }
+// What the pairs 21, 31, 32, 41, 42, 43 get along one axis, of its faces.
+fn add_axis(p: &mut [i64; 6], k: u32, f: [i64; 4])
+    requires { ⌜ Bounded (2 * termSize) (now p) × (k ≤ 500000) × Bounded (1023 * 1023) f ⌝ }
+    ensures { λ _. ⌜ now (p .exit) ≡ pairsOf 4 (λ i j. among (now (p .entry)) i j +ℤ pos k *ℤ (cell f i *ℤ cell f j)) ⌝ }
 {
-    let x = e.space.x;
-    let y = e.space.y;
-    let z = e.space.z;
-    whole::nearest(
-        term(e.kx, y, z, i, j) + term(e.ky, z, x, i, j) + term(e.kz, x, y, i, j),
-        (120 * s) as i64,
-    )
+    *p = [
+        p[0] + term(k, &f, 1, 0),
+        p[1] + term(k, &f, 2, 0),
+        p[2] + term(k, &f, 2, 1),
+        p[3] + term(k, &f, 3, 0),
+        p[4] + term(k, &f, 3, 1),
+        p[5] + term(k, &f, 3, 2),
+    ];
 }
 
-// 21, 31, 32, 41, 42, 43.
+// Each over 120·S, where s is S.
+fn round(p: &mut [i64; 6], s: u64)
+    requires { ⌜ Bounded (3 * termSize) (now p) × (1 ≤ s) × (s ≤ 3 * prismSize) ⌝ }
+    ensures { λ _. ⌜ now (p .exit) ≡ pairsOf 4 (λ i j. nearest (among (now (p .entry)) i j) (120 * s)) ⌝ }
+{
+    let d = (120 * s) as i64;
+    *p = [
+        whole::nearest(p[0], d),
+        whole::nearest(p[1], d),
+        whole::nearest(p[2], d),
+        whole::nearest(p[3], d),
+        whole::nearest(p[4], d),
+        whole::nearest(p[5], d),
+    ];
+}
+
+// 21, 31, 32, 41, 42, 43: each axis adds to them in turn, so that only one's faces are kept.
 fn pairs(e: Tetrahedron, s: u64) -> [i64; 6]
     requires { ⌜ Filled (asTetrahedron e) s ⌝ }
     ensures { λ r. ⌜ r ≡ pairsOf 4 (pair (asTetrahedron e)) ⌝ }
 {
-    [
-        pair(e, s, 1, 0),
-        pair(e, s, 2, 0),
-        pair(e, s, 2, 1),
-        pair(e, s, 3, 0),
-        pair(e, s, 3, 1),
-        pair(e, s, 3, 2),
-    ]
+    let x = e.space.x;
+    let y = e.space.y;
+    let z = e.space.z;
+    let mut p: [i64; 6] = [0; 6];
+    add_axis(&mut p, e.kx, faces(y, z));
+    add_axis(&mut p, e.ky, faces(z, x));
+    add_axis(&mut p, e.kz, faces(x, y));
+    round(&mut p, s);
+    p
 }
 
 // Minus the sum of a corner's three rounded neighbours.
-fn diagonal(p: [i64; 6], i: usize, j: usize, k: usize) -> i64
-    requires { ⌜ Bounded (2 ^ 54) p × (i < 6) × (j < 6) × (k < 6) ⌝ }
-    ensures { λ r. ⌜ r ≡ negℤ (cell p i +ℤ cell p j +ℤ cell p k) ⌝ }
+fn diagonal(p: i64, q: i64, r: i64) -> i64
+    requires { ⌜ (natAbs p ≤ 2 ^ 54) × (natAbs q ≤ 2 ^ 54) × (natAbs r ≤ 2 ^ 54) ⌝ }
+    ensures { λ d. ⌜ d ≡ negℤ (p +ℤ q +ℤ r) ⌝ }
 {
-    0 - (p[i] + p[j] + p[k])
+    0 - (p + q + r)
 }
 
-// Of six pairs: the only square that there is.
+// The square of six pairs.
 fn of_pairs(p: [i64; 6]) -> [[i64; 4]; 4]
     requires { ⌜ Bounded (2 ^ 54) p ⌝ }
     ensures { λ r. ⌜ r ≡ squareOf 4 (square 4 (among p)) ⌝ }
@@ -146,10 +162,10 @@ fn of_pairs(p: [i64; 6]) -> [[i64; 4]; 4]
     let e = p[4];
     let f = p[5];
     [
-        [diagonal(p, 0, 1, 3), a, b, d],
-        [a, diagonal(p, 0, 2, 4), c, e],
-        [b, c, diagonal(p, 1, 2, 5), f],
-        [d, e, f, diagonal(p, 3, 4, 5)],
+        [diagonal(a, b, d), a, b, d],
+        [a, diagonal(a, c, e), c, e],
+        [b, c, diagonal(b, c, f), f],
+        [d, e, f, diagonal(d, e, f)],
     ]
 }
 

@@ -1,21 +1,34 @@
 -- Refusal 6, test by test.
 use mathlib.Core.Path.{_≡_, refl, ap, _∙_}
 use mathlib.Core.Bool.{Bool, true, false, not, _&&_, _||_}
-use Prim.Native.Nat.{ℕ, suc, _^_, _≤_, _<_}
-use native.Mathlib.Omega.{arith}
+use mathlib.Core.List.{List}
+use Prim.Native.Nat.{ℕ, _≤_, _<_}
 use borrow.Author.Tests.{le-leb, lt-leb}
 use lib.Dec.{leb}
 use lib.IntN.{ℤ, natAbs}
 use lib.ListN.{length}
-use lib.Signed.{mag}
-use Rattle.whole.specs.Sums.{any}
-use Rattle.whole.proofs.Signs.{got}
+use mir.Syntax.{w64}
+use mir.Val.{SFits}
+use Rattle.whole.specs.Sums.{any, table}
+use Rattle.whole.specs.Packed.{cell, lower}
+use Rattle.whole.specs.Squares.{pairsOf}
+use Rattle.whole.proofs.Signs.{read}
 use Rattle.whole.proofs.Calc.{rd}
 use Rattle.paper.specs.Elements.{Element, soft, fair}
 
--- the size of what a call gave
-pub size-of-call : {z v : ℤ} {n : ℕ} → n ≡ natAbs (rd z) → mag z < 2 ^ 63 → z ≡ v → n ≡ natAbs v
-size-of-call {z} e m q = e ∙ ap natAbs (got z m ∙ q)
+-- the sizes of three pairs that were read
+module _ (f : ℕ → ℕ → ℤ) {p : List ℤ} (e : p ≡ pairsOf 3 f) {n : ℕ} where
+  pub size-10 : SFits w64 (cell p 0) → n ≡ natAbs (rd (cell p 0)) → n ≡ natAbs (f 1 0)
+  unfolding pairsOf lower table
+  size-10 h q = q ∙ ap natAbs (read h ∙ ap (λ (l : List ℤ). cell l 0) e)
+
+  pub size-20 : SFits w64 (cell p 1) → n ≡ natAbs (rd (cell p 1)) → n ≡ natAbs (f 2 0)
+  unfolding pairsOf lower table
+  size-20 h q = q ∙ ap natAbs (read h ∙ ap (λ (l : List ℤ). cell l 1) e)
+
+  pub size-21 : SFits w64 (cell p 2) → n ≡ natAbs (rd (cell p 2)) → n ≡ natAbs (f 2 1)
+  unfolding pairsOf lower table
+  size-21 h q = q ∙ ap natAbs (read h ∙ ap (λ (l : List ℤ). cell l 2) e)
 
 module _ (it : Element) (corners : length (it .shape .corners) ≡ 3) where
   -- u and the three pairs

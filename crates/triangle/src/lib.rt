@@ -5,11 +5,13 @@ use paper::Element;
 use paper::Node;
 use paper::Refusal;
 ghost use mathlib.Core.Path.{_≡_};
-ghost use Prim.Native.Nat.{_+_, _<_, _≤_};
-ghost use lib.IntN.{pos, natAbs, _-ℤ_};
+ghost use Prim.Native.Nat.{_+_, _*_, _^_, _<_, _≤_};
+ghost use lib.IntN.{pos, natAbs, _+ℤ_, _-ℤ_, _*ℤ_};
 ghost use lib.ListN.{getD};
 ghost use Rattle.whole.specs.Sums.{table};
-ghost use Rattle.whole.specs.Squares.{squareOf};
+ghost use Rattle.whole.specs.Nearest.{nearest};
+ghost use Rattle.whole.specs.Packed.{cell, Bounded};
+ghost use Rattle.whole.specs.Squares.{squareOf, pairsOf, among};
 ghost use Rattle.whole.specs.Largest.{squared};
 ghost use Rattle.paper.specs.Corners.{from, square};
 ghost use Rattle.paper.specs.Triangle.{b, c, S, longest², thin, pair, u, faceFilm};
@@ -114,36 +116,56 @@ pub fn area(s: Shape, number: Element) -> Area
 
 // ---- conductance
 
-// Of corners i and j, where s is S.
-fn pair(e: Triangle, s: u64, i: usize, j: usize) -> i64
-    requires { ⌜ Solid (asBody e) s × (i < 3) × (j < 3) ⌝ }
-    ensures { λ r. ⌜ r ≡ pair (asBody e) i j ⌝ }
+// kx·bi·bj + ky·ci·cj.
+fn flux(kx: u32, b: &[i64; 3], ky: u32, c: &[i64; 3], i: usize, j: usize) -> i64
+    requires { ⌜ (kx ≤ 500000) × Bounded 4095 (now b) × (ky ≤ 500000) × Bounded 4095 (now c) × (i < 3) × (j < 3) ⌝ }
+    ensures { λ r. ⌜ r ≡ pos kx *ℤ (cell (now (b .entry)) i *ℤ cell (now (b .entry)) j) +ℤ pos ky *ℤ (cell (now (c .entry)) i *ℤ cell (now (c .entry)) j) ⌝ }
 {
-    let shape = e.shape;
-    let b = b(shape);
-    let c = c(shape);
-    let kx = e.kx as i64;
-    let ky = e.ky as i64;
-    let t = e.thickness as i64;
-    whole::nearest(
-        t * (kx * (b[i] * b[j]) + ky * (c[i] * c[j])),
-        (2_000 * s) as i64,
-    )
+    kx as i64 * (b[i] * b[j]) + ky as i64 * (c[i] * c[j])
 }
 
-// A diagonal is minus the sum of its two rounded neighbours.
+// A pair of its flux, where s is S.
+fn over(t: u32, flux: i64, s: u64) -> i64
+    requires { ⌜ (t ≤ 4000) × (natAbs flux ≤ 1000000 * (4095 * 4095)) × (1 ≤ s) × (s ≤ 4095 * 4095) ⌝ }
+    ensures { λ r. ⌜ r ≡ nearest (pos t *ℤ flux) (2000 * s) ⌝ }
+{
+    whole::nearest(t as i64 * flux, (2_000 * s) as i64)
+}
+
+// 21, 31, 32: b and c are worked out once.
+fn pairs(e: Triangle, s: u64) -> [i64; 3]
+    requires { ⌜ Solid (asBody e) s ⌝ }
+    ensures { λ r. ⌜ r ≡ pairsOf 3 (pair (asBody e)) ⌝ }
+{
+    let b = b(e.shape);
+    let c = c(e.shape);
+    [
+        over(e.thickness, flux(e.kx, &b, e.ky, &c, 1, 0), s),
+        over(e.thickness, flux(e.kx, &b, e.ky, &c, 2, 0), s),
+        over(e.thickness, flux(e.kx, &b, e.ky, &c, 2, 1), s),
+    ]
+}
+
+// The square of three pairs: a diagonal is minus the sum of its two rounded neighbours.
+fn of_pairs(p: [i64; 3]) -> [[i64; 3]; 3]
+    requires { ⌜ Bounded (2 ^ 45) p ⌝ }
+    ensures { λ r. ⌜ r ≡ squareOf 3 (square 3 (among p)) ⌝ }
+{
+    let a = p[0];
+    let b = p[1];
+    let c = p[2];
+    [
+        [0 - (a + b), a, b],
+        [a, 0 - (a + c), c],
+        [b, c, 0 - (b + c)],
+    ]
+}
+
 pub fn conductance(e: Triangle, s: u64) -> [[i64; 3]; 3]
     requires { ⌜ Solid (asBody e) s ⌝ }
     ensures { λ r. ⌜ r ≡ squareOf 3 (square 3 (pair (asBody e))) ⌝ }
 {
-    let p = pair(e, s, 0, 1);
-    let q = pair(e, s, 0, 2);
-    let r = pair(e, s, 1, 2);
-    [
-        [0 - (p + q), p, q],
-        [p, 0 - (p + r), r],
-        [q, r, 0 - (q + r)],
-    ]
+    of_pairs(pairs(e, s))
 }
 
 // ---- capacity and film
@@ -176,13 +198,14 @@ fn fair(e: Triangle, s: u64, ms: u32) -> bool
     if SOFT < capacity(e, s, ms) {
         return false;
     }
-    if SOFT < whole::size(pair(e, s, 1, 0)) {
+    let p = pairs(e, s);
+    if SOFT < whole::size(p[0]) {
         return false;
     }
-    if SOFT < whole::size(pair(e, s, 2, 0)) {
+    if SOFT < whole::size(p[1]) {
         return false;
     }
-    whole::size(pair(e, s, 2, 1)) <= SOFT
+    whole::size(p[2]) <= SOFT
 }
 
 pub fn judge(e: Triangle, ms: u32, number: Element) -> Answer

@@ -1,7 +1,7 @@
 use borrow.Author.Needs.{needs}
 use Rattle.change.proofs.judge_form.Statement.{statement}
 use Rattle.change.proofs.judge_form.Tie as tie
-use mathlib.Core.Path.{sym, subst}
+use mathlib.Core.Path.{refl, sym, subst}
 use borrow.Author.Tests.{not-true, not-false}
 use Rattle.paper.specs.Cards.{elements}
 use Rattle.laws.proofs.Decks.{In}
@@ -13,14 +13,12 @@ array-read-by-letter c = search needs
 by-letter-requires : tie.Need-by-letter-requires
 by-letter-requires c κs = search needs
 
-element-in-requires : tie.Need-element-in-requires
-element-in-requires c κs = own-row (c .before .before .before .args .table .now) (c .before .before .before .args .row) (c .before .before .before .args .t3) (c .before .before .before .pre) (c .before .by-letter .result) (c .before .by-letter .ensures) (c .if1 .taken)
-
-judge-card-requires : tie.Need-judge-card-requires
-judge-card-requires c κs = element-card (c .before .before .before .before .args .table .now) (c .before .before .before .before .args .row) (c .before .before .before .before .args .t3) (c .before .before .before .before .pre) (c .before .before .by-letter .result) (c .before .before .by-letter .ensures) (c .before .if1 .taken)
+judge-own-requires : tie.Need-judge-own-requires
+judge-own-requires c κs =
+    (element-card (c .before .before .before .args .table .now) (c .before .before .before .args .row) (c .before .before .before .args .t3) (c .before .before .before .pre) (c .before .by-letter .result) (c .before .by-letter .ensures) (c .if1 .taken), own-row (c .before .before .before .args .table .now) (c .before .before .before .args .row) (c .before .before .before .args .t3) (c .before .before .before .pre) (c .before .by-letter .result) (c .before .by-letter .ensures) (c .if1 .taken) .1)
 
 returns : tie.Need-returns
-returns c = judged-own (c .before .before .before .before .before .args .table .now) (c .before .before .before .before .before .args .row) (c .before .before .before .before .before .args .t3) (c .before .before .before .before .before .pre) (c .before .before .before .by-letter .result) (c .before .before .before .by-letter .ensures) (c .before .before .if1 .taken) (c .judge-card .ensures) (c .before .element-in .ensures)
+returns c = judged-own (c .before .before .before .before .args .table .now) (c .before .before .before .before .args .row) (c .before .before .before .before .args .t3) (c .before .before .before .before .pre) (c .before .before .by-letter .result) (c .before .before .by-letter .ensures) (c .before .if1 .taken) (c .judge-own .ensures) refl
 
 returns-2 : tie.Need-returns-2
 returns-2 c = judged-none (c .before .before .before .before .before .args .table .now) (c .before .before .before .before .before .args .row) (c .before .before .before .before .before .args .t3) (c .before .before .before .before .before .pre) (c .before .before .before .by-letter .result) (c .before .before .before .by-letter .ensures) (c .before .before .if1 .left) (not-true (c .before .before .before .by-letter .result .films) (c .if2 .taken))
@@ -47,8 +45,7 @@ judge-form-spec =
     (tie.spec
     array-read-by-letter
     by-letter-requires
-    element-in-requires
-    judge-card-requires
+    judge-own-requires
     returns
     returns-2
     array-read-element

@@ -1,25 +1,28 @@
--- A square asks the same of either card: which of them is taken off, the result alone tells.
+-- Either card's square may be taken off: which of them is, the result alone tells.
 use Rattle.change.proofs.square.Statement.{statement}
 use Rattle.change.proofs.square.Tie as tie
+use mathlib.Core.Path.{refl}
 use Rattle.change.proofs.Forming.{row-room, asks-new, asks-old}
-use Rattle.change.proofs.Moving.{small-A, moved-A}
+use Rattle.change.proofs.Moving.{none-small, added-fits, moved-A}
 
 card-at-requires : tie.Need-card-at-requires
 card-at-requires c κs = row-room (c .before .args .table .now) (c .before .args .row) (c .before .args .new) (c .before .pre .changes)
 
-square-a-requires : tie.Need-square-a-requires
-square-a-requires c κs = asks-new (c .before .before .args .table .now) (c .before .before .args .row) (c .before .before .args .new) (c .before .before .pre)
+add-card-requires : tie.Need-add-card-requires
+add-card-requires c κs =
+    let it = asks-new (c .before .before .before .args .table .now) (c .before .before .before .args .row) (c .before .before .before .args .new) (c .before .before .before .pre) in
+    (refl, none-small, it .0, it .1)
 
-square-a-requires-2 : tie.Need-square-a-requires-2
-square-a-requires-2 c κs = search (asks-old (c .before .before .before .args .table .now) (c .before .before .before .args .row) (c .before .before .before .args .new) (c .before .before .before .pre) (c .before .card-at .ensures), asks-new (c .before .before .before .args .table .now) (c .before .before .before .args .row) (c .before .before .before .args .new) (c .before .before .before .pre))
-
-minus-requires : tie.Need-minus-requires
-minus-requires c κs = small-A (c .before .square-a .ensures) (c .square-a2 .ensures)
+take-card-requires : tie.Need-take-card-requires
+take-card-requires c κs =
+    search (
+      added-fits (c .before .before .before .before .before .args .table .now) (c .before .before .before .before .before .args .row) (c .before .before .before .before .before .args .new) (c .before .before .before .before .before .pre .changes) (c .before .add-card .ensures),
+      asks-old (c .before .before .before .before .before .args .table .now) (c .before .before .before .before .before .args .row) (c .before .before .before .before .before .args .new) (c .before .before .before .before .before .pre) (c .before .before .before .card-at .ensures),
+      asks-new (c .before .before .before .before .before .args .table .now) (c .before .before .before .before .before .args .row) (c .before .before .before .before .before .args .new) (c .before .before .before .before .before .pre),
+    )
 
 returns : tie.Need-returns
-returns c = moved-A (c .before .before .before .before .before .args .table .now) (c .before .before .before .before .before .args .row) (c .before .before .before .before .before .args .new) (c .before .before .before .before .before .pre .changes) (c .before .before .before .card-at .ensures) (c .before .before .square-a .ensures) (c .before .square-a2 .ensures) (c .minus .ensures)
+returns c = moved-A (c .before .before .before .before .before .before .args .table .now) (c .before .before .before .before .before .before .args .row) (c .before .before .before .before .before .before .args .new) (c .before .before .before .before .before .before .pre .changes) (c .before .before .add-card .ensures) (c .before .before .before .before .card-at .ensures) (c .take-card .ensures)
 
 pub square-spec : {M : Type 1} → statement M
-square-spec =
-    tie.close
-    (tie.spec card-at-requires square-a-requires square-a-requires-2 minus-requires returns)
+square-spec = tie.close (tie.spec card-at-requires add-card-requires take-card-requires returns)

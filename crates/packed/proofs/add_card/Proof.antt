@@ -4,60 +4,61 @@ use Rattle.packed.proofs.add_card.Tie as tie
 use native.Mathlib.Omega.{arith}
 use Rattle.laws.proofs.Places.{squareP, squareA}
 use Rattle.part.proofs.Parts.{held-P}
-use Rattle.packed.proofs.Turn.{stays-A, stays-P, turn-card, turn-solid, turn-takes, turn-a-gives, turn-p-gives}
+use Rattle.packed.proofs.Turn.{stays, turn-card, turn-solid, turn-takes, turn-a-gives, turn-p-gives}
 
 field-requires : tie.Need-field-requires
 field-requires c κs = search needs
 
-stirs-requires : tie.Need-stirs-requires
-stirs-requires c κs = search needs
+adds-requires : tie.Need-adds-requires
+adds-requires c κs = search needs
 
 returns : tie.Need-returns
-returns c = (stays-P (c .before .before .before .before .args .table .now) (c .before .before .before .before .args .row) (c .before .before .field .ensures) (c .before .stirs .ensures) (c .if1 .taken) (c .before .before .before .before .args .p .now) (c .before .before .before .before .pre .0), stays-A (c .before .before .before .before .args .table .now) (c .before .before .before .before .args .row) (c .before .before .field .ensures) (c .before .stirs .ensures) (c .if1 .taken) (c .before .before .before .before .args .a .now) (c .before .before .before .before .pre .1))
+returns c = stays (c .before .before .before .before .args .all) (c .before .before .before .before .args .table .now) (c .before .before .before .before .args .row) (c .before .before .field .ensures) (c .before .adds .ensures) (c .if1 .taken) (c .before .before .before .before .args .xs .now) (c .before .before .before .before .pre)
 
 card-at-requires : tie.Need-card-at-requires
 card-at-requires c κs = search needs
 
 corners-of-requires : tie.Need-corners-of-requires
-corners-of-requires c κs = turn-card (c .before .before .before .before .before .args .table .now) (c .before .before .before .before .before .args .row) (c .before .before .before .field .ensures) (c .before .before .stirs .ensures) (c .before .if1 .left) (c .before .before .before .before .before .args .p .now) (c .before .before .before .before .before .pre .0) (c .card-at .ensures)
-
-square-p-requires : tie.Need-square-p-requires
-square-p-requires c κs = turn-card (c .before .before .before .before .before .before .before .args .table .now) (c .before .before .before .before .before .before .before .args .row) (c .before .before .before .before .before .field .ensures) (c .before .before .before .before .stirs .ensures) (c .before .before .before .if1 .left) (c .before .before .before .before .before .before .before .args .p .now) (c .before .before .before .before .before .before .before .pre .0) (c .before .before .card-at .ensures)
-
-add-square-requires : tie.Need-add-square-requires
-add-square-requires c κs = turn-takes (c .before .before .before .before .before .before .before .before .args .table .now) (c .before .before .before .before .before .before .before .before .args .row) (c .before .before .before .before .before .before .field .ensures) (c .before .before .before .before .before .stirs .ensures) (c .before .before .before .before .if1 .left) (c .before .before .before .before .before .before .before .before .args .p .now) (c .before .before .before .before .before .before .before .before .pre .0) (c .before .before .before .card-at .ensures) (c .before .before .corners-of .result) (c .before .before .corners-of .ensures .0) (c .before .before .corners-of .ensures .1) squareP (held-P _ _ (turn-card (c .before .before .before .before .before .before .before .before .args .table .now) (c .before .before .before .before .before .before .before .before .args .row) (c .before .before .before .before .before .before .field .ensures) (c .before .before .before .before .before .stirs .ensures) (c .before .before .before .before .if1 .left) (c .before .before .before .before .before .before .before .before .args .p .now) (c .before .before .before .before .before .before .before .before .pre .0) (c .before .before .before .card-at .ensures)) (c .square-p .ensures)) (omega arith)
+corners-of-requires c κs = turn-card (c .before .before .before .before .before .args .all) (c .before .before .before .before .before .args .table .now) (c .before .before .before .before .before .args .row) (c .before .before .before .field .ensures) (c .before .before .adds .ensures) (c .before .if1 .left) (c .before .before .before .before .before .args .xs .now) (c .before .before .before .before .before .pre) (c .card-at .ensures)
 
 square-a-requires : tie.Need-square-a-requires
-square-a-requires c κs = turn-solid (c .before .before .before .before .before .before .before .before .before .before .before .args .table .now) (c .before .before .before .before .before .before .before .before .before .before .before .args .row) (c .before .before .before .before .before .before .before .before .before .field .ensures) (c .before .before .before .before .before .before .before .before .stirs .ensures) (c .before .before .before .before .before .before .before .if1 .left) (c .before .before .before .before .before .before .before .before .before .before .before .args .a .now) (c .before .before .before .before .before .before .before .before .before .before .before .pre .1) (c .before .before .before .before .before .before .card-at .ensures)
+square-a-requires c κs = turn-solid (c .before .before .before .before .before .before .before .before .args .all) (c .before .before .before .before .before .before .before .before .args .table .now) (c .before .before .before .before .before .before .before .before .args .row) (c .before .before .before .before .before .before .field .ensures) (c .before .before .before .before .before .adds .ensures) (c .before .before .before .before .if1 .left) (c .before .before .before .before .before .before .before .before .args .xs .now) (c .before .before .before .before .before .before .before .before .pre) (c .before .before .before .card-at .ensures)
 
-add-square-requires-2 : tie.Need-add-square-requires-2
-add-square-requires-2 c κs = turn-takes (c .before .before .before .before .before .before .before .before .before .before .before .before .args .table .now) (c .before .before .before .before .before .before .before .before .before .before .before .before .args .row) (c .before .before .before .before .before .before .before .before .before .before .field .ensures) (c .before .before .before .before .before .before .before .before .before .stirs .ensures) (c .before .before .before .before .before .before .before .before .if1 .left) (c .before .before .before .before .before .before .before .before .before .before .before .before .args .a .now) (c .before .before .before .before .before .before .before .before .before .before .before .before .pre .1) (c .before .before .before .before .before .before .before .card-at .ensures) (c .before .before .before .before .before .before .corners-of .result) (c .before .before .before .before .before .before .corners-of .ensures .0) (c .before .before .before .before .before .before .corners-of .ensures .1) squareA (c .square-a .ensures) (omega arith)
+add-square-requires : tie.Need-add-square-requires
+add-square-requires c κs = turn-takes (c .before .before .before .before .before .before .before .before .before .args .all) (c .before .before .before .before .before .before .before .before .before .args .table .now) (c .before .before .before .before .before .before .before .before .before .args .row) (c .before .before .before .before .before .before .before .field .ensures) (c .before .before .before .before .before .before .adds .ensures) (c .before .before .before .before .before .if1 .left) (c .before .before .before .before .before .before .before .before .before .args .xs .now) (c .before .before .before .before .before .before .before .before .before .pre) (c .before .before .before .before .card-at .ensures) (c .before .before .before .corners-of .result) (c .before .before .before .corners-of .ensures .0) (c .before .before .before .corners-of .ensures .1) squareA (c .square-a .ensures) (omega arith)
 
 same-length : tie.Need-same-length
 same-length c = search needs
 
+returns-2 : tie.Need-returns-2
+returns-2 c = turn-a-gives (c .before .before .before .before .before .before .before .before .before .before .before .args .all) (c .before .before .before .before .before .before .before .before .before .before .before .args .table .now) (c .before .before .before .before .before .before .before .before .before .before .before .args .row) (c .before .before .before .before .before .before .before .before .before .field .ensures) (c .before .before .before .before .before .before .before .before .adds .ensures) (c .before .before .before .before .before .before .before .if1 .left) (c .before .before .before .before .before .before .before .before .before .before .before .args .xs .now) (c .before .before .before .before .before .before .before .before .before .before .before .pre) (c .before .before .before .before .before .before .card-at .ensures) (c .before .before .before .before .before .corners-of .result) (c .before .before .before .before .before .corners-of .ensures .0) (c .before .before .before .before .before .corners-of .ensures .1) (c .before .before .before .before .if2 .taken) (c .before .before .square-a .ensures) (c .before .add-square .ensures)
+
+square-p-requires : tie.Need-square-p-requires
+square-p-requires c κs = turn-card (c .before .before .before .before .before .before .before .before .args .all) (c .before .before .before .before .before .before .before .before .args .table .now) (c .before .before .before .before .before .before .before .before .args .row) (c .before .before .before .before .before .before .field .ensures) (c .before .before .before .before .before .adds .ensures) (c .before .before .before .before .if1 .left) (c .before .before .before .before .before .before .before .before .args .xs .now) (c .before .before .before .before .before .before .before .before .pre) (c .before .before .before .card-at .ensures)
+
+add-square-requires-2 : tie.Need-add-square-requires-2
+add-square-requires-2 c κs = turn-takes (c .before .before .before .before .before .before .before .before .before .args .all) (c .before .before .before .before .before .before .before .before .before .args .table .now) (c .before .before .before .before .before .before .before .before .before .args .row) (c .before .before .before .before .before .before .before .field .ensures) (c .before .before .before .before .before .before .adds .ensures) (c .before .before .before .before .before .if1 .left) (c .before .before .before .before .before .before .before .before .before .args .xs .now) (c .before .before .before .before .before .before .before .before .before .pre) (c .before .before .before .before .card-at .ensures) (c .before .before .before .corners-of .result) (c .before .before .before .corners-of .ensures .0) (c .before .before .before .corners-of .ensures .1) squareP (held-P _ _ (turn-card (c .before .before .before .before .before .before .before .before .before .args .all) (c .before .before .before .before .before .before .before .before .before .args .table .now) (c .before .before .before .before .before .before .before .before .before .args .row) (c .before .before .before .before .before .before .before .field .ensures) (c .before .before .before .before .before .before .adds .ensures) (c .before .before .before .before .before .if1 .left) (c .before .before .before .before .before .before .before .before .before .args .xs .now) (c .before .before .before .before .before .before .before .before .before .pre) (c .before .before .before .before .card-at .ensures)) (c .square-p .ensures)) (omega arith)
+
 same-length-2 : tie.Need-same-length-2
 same-length-2 c = search needs
 
-returns-2 : tie.Need-returns-2
-returns-2 c = (
-  turn-p-gives (c .before .before .before .before .before .before .before .before .before .before .before .before .before .before .args .table .now) (c .before .before .before .before .before .before .before .before .before .before .before .before .before .before .args .row) (c .before .before .before .before .before .before .before .before .before .before .before .before .field .ensures) (c .before .before .before .before .before .before .before .before .before .before .before .stirs .ensures) (c .before .before .before .before .before .before .before .before .before .before .if1 .left) (c .before .before .before .before .before .before .before .before .before .before .before .before .before .before .args .p .now) (c .before .before .before .before .before .before .before .before .before .before .before .before .before .before .pre .0) (c .before .before .before .before .before .before .before .before .before .card-at .ensures) (c .before .before .before .before .before .before .before .before .corners-of .result) (c .before .before .before .before .before .before .before .before .corners-of .ensures .0) (c .before .before .before .before .before .before .before .before .corners-of .ensures .1) (held-P _ _ (turn-card (c .before .before .before .before .before .before .before .before .before .before .before .before .before .before .args .table .now) (c .before .before .before .before .before .before .before .before .before .before .before .before .before .before .args .row) (c .before .before .before .before .before .before .before .before .before .before .before .before .field .ensures) (c .before .before .before .before .before .before .before .before .before .before .before .stirs .ensures) (c .before .before .before .before .before .before .before .before .before .before .if1 .left) (c .before .before .before .before .before .before .before .before .before .before .before .before .before .before .args .p .now) (c .before .before .before .before .before .before .before .before .before .before .before .before .before .before .pre .0) (c .before .before .before .before .before .before .before .before .before .card-at .ensures)) (c .before .before .before .before .before .before .square-p .ensures)) (c .before .before .before .before .before .add-square .ensures),
-  turn-a-gives (c .before .before .before .before .before .before .before .before .before .before .before .before .before .before .args .table .now) (c .before .before .before .before .before .before .before .before .before .before .before .before .before .before .args .row) (c .before .before .before .before .before .before .before .before .before .before .before .before .field .ensures) (c .before .before .before .before .before .before .before .before .before .before .before .stirs .ensures) (c .before .before .before .before .before .before .before .before .before .before .if1 .left) (c .before .before .before .before .before .before .before .before .before .before .before .before .before .before .args .a .now) (c .before .before .before .before .before .before .before .before .before .before .before .before .before .before .pre .1) (c .before .before .before .before .before .before .before .before .before .card-at .ensures) (c .before .before .before .before .before .before .before .before .corners-of .result) (c .before .before .before .before .before .before .before .before .corners-of .ensures .0) (c .before .before .before .before .before .before .before .before .corners-of .ensures .1) (c .before .before .square-a .ensures) (c .before .add-square2 .ensures),
-)
+returns-3 : tie.Need-returns-3
+returns-3 c = turn-p-gives (c .before .before .before .before .before .before .before .before .before .before .before .args .all) (c .before .before .before .before .before .before .before .before .before .before .before .args .table .now) (c .before .before .before .before .before .before .before .before .before .before .before .args .row) (c .before .before .before .before .before .before .before .before .before .field .ensures) (c .before .before .before .before .before .before .before .before .adds .ensures) (c .before .before .before .before .before .before .before .if1 .left) (c .before .before .before .before .before .before .before .before .before .before .before .args .xs .now) (c .before .before .before .before .before .before .before .before .before .before .before .pre) (c .before .before .before .before .before .before .card-at .ensures) (c .before .before .before .before .before .corners-of .result) (c .before .before .before .before .before .corners-of .ensures .0) (c .before .before .before .before .before .corners-of .ensures .1) (c .before .before .before .before .if2 .left) (held-P _ _ (turn-card (c .before .before .before .before .before .before .before .before .before .before .before .args .all) (c .before .before .before .before .before .before .before .before .before .before .before .args .table .now) (c .before .before .before .before .before .before .before .before .before .before .before .args .row) (c .before .before .before .before .before .before .before .before .before .field .ensures) (c .before .before .before .before .before .before .before .before .adds .ensures) (c .before .before .before .before .before .before .before .if1 .left) (c .before .before .before .before .before .before .before .before .before .before .before .args .xs .now) (c .before .before .before .before .before .before .before .before .before .before .before .pre) (c .before .before .before .before .before .before .card-at .ensures)) (c .before .before .square-p .ensures)) (c .before .add-square2 .ensures)
 
 pub add-card-spec : {M : Type 1} → statement M
 add-card-spec =
     tie.close
     (tie.spec
     field-requires
-    stirs-requires
+    adds-requires
     returns
     card-at-requires
     corners-of-requires
-    square-p-requires
-    add-square-requires
     square-a-requires
-    add-square-requires-2
+    add-square-requires
     same-length
+    returns-2
+    square-p-requires
+    add-square-requires-2
     same-length-2
-    returns-2)
+    returns-3)

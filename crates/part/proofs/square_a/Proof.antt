@@ -1,17 +1,29 @@
 use borrow.Author.Needs.{needs}
 use Rattle.part.proofs.square_a.Statement.{statement}
 use Rattle.part.proofs.square_a.Tie as tie
+use mathlib.Core.Path.{sym, ap, _∙_}
 use native.Mathlib.Omega.{arith}
-use Rattle.part.proofs.Ways.{asks-first, asks-second, in-A}
+use Rattle.part.specs.declared.Does.{Does}
+use Rattle.part.proofs.Ways.{is-element, small-conducts, in-A-conducts, in-A-films}
+
+array-read-by-letter : tie.Need-array-read-by-letter
+array-read-by-letter c = search needs
+
+by-letter-requires : tie.Need-by-letter-requires
+by-letter-requires c κs = search needs
 
 conductance-requires : tie.Need-conductance-requires
-conductance-requires c κs = search needs
+conductance-requires c κs =
+    (is-element (c .before .before .before .args .table .now) (c .before .before .before .args .t2) (c .before .by-letter .result) (c .before .by-letter .ensures) (c .before .before .before .pre .0) (c .if1 .taken), c .before .before .before .pre .1 .some (sym (ap (λ (d : Does). d .conducts) (c .before .by-letter .ensures)) ∙ c .if1 .taken))
 
-square-p-requires : tie.Need-square-p-requires
-square-p-requires c κs = search needs
+stored-requires : tie.Need-stored-requires
+stored-requires c κs = search needs
 
-plus-requires : tie.Need-plus-requires
-plus-requires c κs = asks-first (c .before .before .before .args .table .now) (c .before .before .before .args .card) (c .before .before .before .pre .0) (c .before .conductance .ensures) (c .square-p .ensures)
+with-mass-requires : tie.Need-with-mass-requires
+with-mass-requires c κs = (small-conducts (c .before .before .before .before .before .args .table .now) (c .before .before .before .before .before .args .t2) (c .before .before .before .by-letter .result) (c .before .before .before .by-letter .ensures) (c .before .before .before .before .before .pre .0) (c .before .before .if1 .taken) (c .before .conductance .ensures), c .stored .ensures .1)
+
+returns : tie.Need-returns
+returns c = in-A-conducts (c .before .before .before .before .before .before .args .table .now) (c .before .before .before .before .before .before .args .t2) (c .before .before .before .before .by-letter .result) (c .before .before .before .before .by-letter .ensures) (c .before .before .before .before .before .before .pre .0) (c .before .before .before .if1 .taken) (c .before .before .conductance .ensures) (c .before .stored .ensures .0) (c .before .stored .ensures .1) (c .with-mass .ensures)
 
 film-requires : tie.Need-film-requires
 film-requires c κs = search needs
@@ -19,20 +31,19 @@ film-requires c κs = search needs
 mass-requires : tie.Need-mass-requires
 mass-requires c κs = omega (arith, c .film .ensures)
 
-plus-requires-2 : tie.Need-plus-requires-2
-plus-requires-2 c κs = asks-second (c .before .before .before .before .before .before .args .table .now) (c .before .before .before .before .before .before .args .card) (c .before .before .before .before .before .before .pre .0) (c .before .before .before .before .conductance .ensures) (c .before .before .before .square-p .ensures) (c .before .film .ensures .0) (c .before .film .ensures .1) (c .mass .ensures) (c .before .before .plus .ensures)
-
-returns : tie.Need-returns
-returns c = in-A (c .before .before .before .before .before .before .before .args .table .now) (c .before .before .before .before .before .before .before .args .card) (c .before .before .before .before .before .before .before .pre .0) (c .before .before .before .before .before .conductance .ensures) (c .before .before .before .before .square-p .ensures) (c .before .before .film .ensures .0) (c .before .before .film .ensures .1) (c .before .mass .ensures) (c .before .before .before .plus .ensures) (c .plus2 .ensures)
+returns-2 : tie.Need-returns-2
+returns-2 c = in-A-films (c .before .before .before .before .before .args .table .now) (c .before .before .before .before .before .args .t2) (c .before .before .before .by-letter .result) (c .before .before .before .by-letter .ensures) (c .before .before .before .before .before .pre .0) (c .before .before .if1 .left) (c .before .film .ensures .0) (c .before .film .ensures .1) (c .mass .ensures)
 
 pub square-a-spec : {M : Type 1} → statement M
 square-a-spec =
     tie.close
     (tie.spec
+    array-read-by-letter
+    by-letter-requires
     conductance-requires
-    square-p-requires
-    plus-requires
+    stored-requires
+    with-mass-requires
+    returns
     film-requires
     mass-requires
-    plus-requires-2
-    returns)
+    returns-2)

@@ -10,7 +10,7 @@ mass-requires : tie.Need-mass-requires
 mass-requires c κs = search needs
 
 returns : tie.Need-returns
-returns c = in-P (c .before .before .before .args .table .now) (c .before .before .before .args .card) (c .before .before .before .pre) (c .before .stored .ensures .0) (c .mass .ensures)
+returns c = in-P (c .before .before .before .args .table .now) (c .before .before .before .args .card) (c .before .stored .ensures .0) (c .mass .ensures)
 
 pub square-p-spec : {M : Type 1} → statement M
 square-p-spec = tie.close (tie.spec stored-requires mass-requires returns)

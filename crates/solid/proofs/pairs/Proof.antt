@@ -1,45 +1,52 @@
--- Six calls.
+-- Axis by axis, then rounded.
 use borrow.Author.Needs.{needs}
 use Rattle.solid.proofs.pairs.Statement.{statement}
 use Rattle.solid.proofs.pairs.Tie as tie
-use mathlib.Core.List.{[], _∷_}
-use Rattle.whole.specs.Sums.{table}
-use Rattle.whole.specs.Packed.{lower}
-use Rattle.whole.specs.Squares.{pairsOf}
-use Rattle.solid.proofs.Machine.{told}
+use mathlib.Core.Path.{_∙_}
+use native.Mathlib.Omega.{arith}
+use Rattle.paper.specs.Tetrahedron as paper
+use Rattle.laws.proofs.Solids.{S-size}
+use Rattle.solid.specs.Forms.{asTetrahedron}
+use Rattle.solid.proofs.Machine.{none-small, four-faces, first-small, second-small, third-small, pairs-are}
 
-pair-requires : tie.Need-pair-requires
-pair-requires c κs = search needs
+faces-requires : tie.Need-faces-requires
+faces-requires c κs = search needs
 
-pair-requires-2 : tie.Need-pair-requires-2
-pair-requires-2 c κs = search needs
+add-axis-requires : tie.Need-add-axis-requires
+add-axis-requires c κs = (none-small _, c .before .before .before .before .before .pre .sized .kx, four-faces _ _ (c .faces .ensures) (c .before .before .before .before .before .pre .sized .placed .y) (c .before .before .before .before .before .pre .sized .placed .z))
 
-pair-requires-3 : tie.Need-pair-requires-3
-pair-requires-3 c κs = search needs
+faces-requires-2 : tie.Need-faces-requires-2
+faces-requires-2 c κs = search needs
 
-pair-requires-4 : tie.Need-pair-requires-4
-pair-requires-4 c κs = search needs
+add-axis-requires-2 : tie.Need-add-axis-requires-2
+unfolding paper.b
+add-axis-requires-2 c κs = (first-small (asTetrahedron (c .before .before .before .before .before .before .before .before .args .e)) (c .before .before .before .before .before .before .before .before .pre .sized) (c .before .before .before .faces .ensures) (c .before .before .add-axis .ensures), c .before .before .before .before .before .before .before .before .pre .sized .ky, four-faces _ _ (c .faces2 .ensures) (c .before .before .before .before .before .before .before .before .pre .sized .placed .z) (c .before .before .before .before .before .before .before .before .pre .sized .placed .x))
 
-pair-requires-5 : tie.Need-pair-requires-5
-pair-requires-5 c κs = search needs
+faces-requires-3 : tie.Need-faces-requires-3
+faces-requires-3 c κs = search needs
 
-pair-requires-6 : tie.Need-pair-requires-6
-pair-requires-6 c κs = search needs
+add-axis-requires-3 : tie.Need-add-axis-requires-3
+unfolding paper.b paper.c
+add-axis-requires-3 c κs = (second-small (asTetrahedron (c .before .before .before .before .before .before .before .before .before .before .before .args .e)) (c .before .before .before .before .before .before .before .before .before .before .before .pre .sized) (c .before .before .before .before .before .before .faces .ensures) (c .before .before .before .before .before .add-axis .ensures) (c .before .before .before .faces2 .ensures) (c .before .before .add-axis2 .ensures), c .before .before .before .before .before .before .before .before .before .before .before .pre .sized .kz, four-faces _ _ (c .faces3 .ensures) (c .before .before .before .before .before .before .before .before .before .before .before .pre .sized .placed .x) (c .before .before .before .before .before .before .before .before .before .before .before .pre .sized .placed .y))
+
+round-requires : tie.Need-round-requires
+unfolding paper.b paper.c paper.d
+round-requires c κs =
+    (third-small (asTetrahedron (c .before .before .before .before .before .before .before .before .before .before .before .before .before .args .e)) (c .before .before .before .before .before .before .before .before .before .before .before .before .before .pre .sized) (c .before .before .before .before .before .before .before .before .faces .ensures) (c .before .before .before .before .before .before .before .add-axis .ensures) (c .before .before .before .before .before .faces2 .ensures) (c .before .before .before .before .add-axis2 .ensures) (c .before .before .faces3 .ensures) (c .before .add-axis3 .ensures), c .before .before .before .before .before .before .before .before .before .before .before .before .before .pre .some, omega (arith, c .before .before .before .before .before .before .before .before .before .before .before .before .before .pre .is, S-size _ (c .before .before .before .before .before .before .before .before .before .before .before .before .before .pre .sized .placed)))
 
 returns : tie.Need-returns
-unfolding pairsOf lower table
-returns c =
-    λ t. told (c .before .before .before .before .before .pair .ok) (c .before .before .before .before .before .pair .ensures) t ∷ told (c .before .before .before .before .pair2 .ok) (c .before .before .before .before .pair2 .ensures) t ∷ told (c .before .before .before .pair3 .ok) (c .before .before .before .pair3 .ensures) t
-    ∷ told (c .before .before .pair4 .ok) (c .before .before .pair4 .ensures) t ∷ told (c .before .pair5 .ok) (c .before .pair5 .ensures) t ∷ told (c .pair6 .ok) (c .pair6 .ensures) t ∷ []
+unfolding paper.b paper.c paper.d
+returns c = pairs-are (asTetrahedron (c .before .before .before .before .before .before .before .before .before .before .before .before .before .before .args .e)) (c .before .before .before .before .before .before .before .before .before .before .before .before .before .before .pre .sized) (c .before .before .before .before .before .before .before .before .before .faces .ensures) (c .before .before .before .before .before .before .before .before .add-axis .ensures) (c .before .before .before .before .before .before .faces2 .ensures) (c .before .before .before .before .before .add-axis2 .ensures) (c .before .before .before .faces3 .ensures) (c .before .before .add-axis3 .ensures) (c .before .before .before .before .before .before .before .before .before .before .before .before .before .before .pre .is) (c .round .ensures)
 
 pub pairs-spec : {M : Type 1} → statement M
 pairs-spec =
     tie.close
     (tie.spec
-    pair-requires
-    pair-requires-2
-    pair-requires-3
-    pair-requires-4
-    pair-requires-5
-    pair-requires-6
+    faces-requires
+    add-axis-requires
+    faces-requires-2
+    add-axis-requires-2
+    faces-requires-3
+    add-axis-requires-3
+    round-requires
     returns)

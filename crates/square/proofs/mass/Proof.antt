@@ -2,34 +2,33 @@
 use borrow.Author.Needs.{needs}
 use Rattle.square.proofs.mass.Statement.{statement}
 use Rattle.square.proofs.mass.Tie as tie
-use mathlib.Core.List.{[], _∷_}
+use mathlib.Core.Path.{_∙_}
+use mathlib.Core.Bool.{cond}
+use Prim.Native.Nat.{_*_}
 use native.Mathlib.Omega.{arith}
+use lib.Dec.{eqb}
 use mir.Syntax.{w64}
 use mir.Facts.{toZ-pos}
-use mathlib.Core.Path.{_≡_}
-use Prim.Native.Nat.{_*_}
-use lib.IntN.{pos}
-use mir.Val.{toZ}
-use Rattle.whole.specs.Sums.{table}
+use Rattle.whole.specs.Squares.{squareOf}
 use Rattle.paper.specs.Corners.{mass}
-use Rattle.whole.specs.Squares.{rowsOf}
 
-mul-d : tie.Need-mul-d
-mul-d c = search needs
+mul-of-two : tie.Need-mul-of-two
+mul-of-two c = search needs
 
-cast-d : tie.Need-cast-d
-cast-d c = search needs
+cast-of-two : tie.Need-cast-of-two
+cast-of-two c = search needs
 
-cast-o : tie.Need-cast-o
-cast-o c = search needs
+cast-of-two-2 : tie.Need-cast-of-two-2
+cast-of-two-2 c = search needs
+
+of-two-requires : tie.Need-of-two-requires
+of-two-requires c κs = search needs
 
 returns : tie.Need-returns
-unfolding rowsOf mass table
+unfolding mass
 returns c =
-    let w = c .args .w in
-    let o : toZ w64 w ≡ pos w = toZ-pos w64 (omega arith) in
-    let e : toZ w64 (2 * w) ≡ pos (2 * w) = toZ-pos w64 (omega arith) in
-    λ d. (e d ∷ o d ∷ o d ∷ o d ∷ []) ∷ (o d ∷ e d ∷ o d ∷ o d ∷ []) ∷ (o d ∷ o d ∷ e d ∷ o d ∷ []) ∷ (o d ∷ o d ∷ o d ∷ e d ∷ []) ∷ []
+    c .of-two .ensures
+    ∙ (λ t. squareOf 4 (λ i j. cond (eqb i j) (toZ-pos w64 {n = 2 * c .before .args .w} (omega arith) t) (toZ-pos w64 {n = c .before .args .w} (omega arith) t)))
 
 pub mass-spec : {M : Type 1} → statement M
-mass-spec = tie.close (tie.spec mul-d cast-d cast-o returns)
+mass-spec = tie.close (tie.spec mul-of-two cast-of-two cast-of-two-2 of-two-requires returns)

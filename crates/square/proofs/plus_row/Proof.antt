@@ -3,68 +3,69 @@ use borrow.Author.Needs.{needs}
 use Rattle.square.proofs.plus_row.Statement.{statement}
 use Rattle.square.proofs.plus_row.Tie as tie
 use mathlib.Core.List.{[], _∷_}
-use Rattle.whole.specs.Packed.{cell}
+use lib.Dec.{lit<}
 use Rattle.whole.specs.Sums.{table}
+use Rattle.whole.specs.Packed.{cell}
 use Rattle.whole.proofs.Calc.{fits, again}
 use Rattle.square.proofs.Machine.{add-is}
 
-array-copy-out-t7 : tie.Need-array-copy-out-t7
-array-copy-out-t7 c = search needs
+element-copy-out-t5 : tie.Need-element-copy-out-t5
+element-copy-out-t5 c = search needs
 
-array-copy-out-t10 : tie.Need-array-copy-out-t10
-array-copy-out-t10 c = search needs
+element-copy-out-t8 : tie.Need-element-copy-out-t8
+element-copy-out-t8 c = search needs
 
-add-t11 : tie.Need-add-t11
-add-t11 c = fits (add-is (cell (c .before .before .args .t1) 0) (cell (c .before .before .args .t2) 0) (c .before .before .pre 0)) (c .before .before .pre 0)
+add-t9 : tie.Need-add-t9
+add-t9 c = fits (add-is (cell (c .before .before .args .r .now) 0) (cell (c .before .before .args .p .now) 0) (c .before .before .pre .0 .each 0) (c .before .before .pre .1 .each 0)) (lit< tt)
 
-array-copy-out-t14 : tie.Need-array-copy-out-t14
-array-copy-out-t14 c = search needs
+element-copy-out-t12 : tie.Need-element-copy-out-t12
+element-copy-out-t12 c = search needs
 
-array-copy-out-t17 : tie.Need-array-copy-out-t17
-array-copy-out-t17 c = search needs
+element-copy-out-t15 : tie.Need-element-copy-out-t15
+element-copy-out-t15 c = search needs
 
-add-t18 : tie.Need-add-t18
-add-t18 c = fits (add-is (cell (c .before .before .before .before .args .t1) 1) (cell (c .before .before .before .before .args .t2) 1) (c .before .before .before .before .pre 1)) (c .before .before .before .before .pre 1)
+add-t16 : tie.Need-add-t16
+add-t16 c = fits (add-is (cell (c .before .before .before .before .args .r .now) 1) (cell (c .before .before .before .before .args .p .now) 1) (c .before .before .before .before .pre .0 .each 1) (c .before .before .before .before .pre .1 .each 1)) (lit< tt)
 
-array-copy-out-t21 : tie.Need-array-copy-out-t21
-array-copy-out-t21 c = search needs
+element-copy-out-t19 : tie.Need-element-copy-out-t19
+element-copy-out-t19 c = search needs
 
-array-copy-out-t24 : tie.Need-array-copy-out-t24
-array-copy-out-t24 c = search needs
+element-copy-out-t22 : tie.Need-element-copy-out-t22
+element-copy-out-t22 c = search needs
 
-add-t25 : tie.Need-add-t25
-add-t25 c = fits (add-is (cell (c .before .before .before .before .before .before .args .t1) 2) (cell (c .before .before .before .before .before .before .args .t2) 2) (c .before .before .before .before .before .before .pre 2)) (c .before .before .before .before .before .before .pre 2)
+add-t23 : tie.Need-add-t23
+add-t23 c = fits (add-is (cell (c .before .before .before .before .before .before .args .r .now) 2) (cell (c .before .before .before .before .before .before .args .p .now) 2) (c .before .before .before .before .before .before .pre .0 .each 2) (c .before .before .before .before .before .before .pre .1 .each 2)) (lit< tt)
 
-array-copy-out-t28 : tie.Need-array-copy-out-t28
-array-copy-out-t28 c = search needs
+element-copy-out-t26 : tie.Need-element-copy-out-t26
+element-copy-out-t26 c = search needs
 
-array-copy-out-t31 : tie.Need-array-copy-out-t31
-array-copy-out-t31 c = search needs
+element-copy-out-t29 : tie.Need-element-copy-out-t29
+element-copy-out-t29 c = search needs
 
-add-t32 : tie.Need-add-t32
-add-t32 c = fits (add-is (cell (c .before .before .before .before .before .before .before .before .args .t1) 3) (cell (c .before .before .before .before .before .before .before .before .args .t2) 3) (c .before .before .before .before .before .before .before .before .pre 3)) (c .before .before .before .before .before .before .before .before .pre 3)
+add-t30 : tie.Need-add-t30
+add-t30 c = fits (add-is (cell (c .before .before .before .before .before .before .before .before .args .r .now) 3) (cell (c .before .before .before .before .before .before .before .before .args .p .now) 3) (c .before .before .before .before .before .before .before .before .pre .0 .each 3) (c .before .before .before .before .before .before .before .before .pre .1 .each 3)) (lit< tt)
 
 returns : tie.Need-returns
 unfolding table
 returns c =
-    let p = c .before .before .before .before .before .before .before .before .args .t1 in
-    let q = c .before .before .before .before .before .before .before .before .args .t2 in
-    λ d. again (add-is (cell p 0) (cell q 0) (c .before .before .before .before .before .before .before .before .pre 0)) (c .before .before .before .before .before .before .before .before .pre 0) .eq d ∷ again (add-is (cell p 1) (cell q 1) (c .before .before .before .before .before .before .before .before .pre 1)) (c .before .before .before .before .before .before .before .before .pre 1) .eq d ∷ again (add-is (cell p 2) (cell q 2) (c .before .before .before .before .before .before .before .before .pre 2)) (c .before .before .before .before .before .before .before .before .pre 2) .eq d ∷ again (add-is (cell p 3) (cell q 3) (c .before .before .before .before .before .before .before .before .pre 3)) (c .before .before .before .before .before .before .before .before .pre 3) .eq d ∷ []
+    let r = c .before .before .before .before .before .before .before .before .before .args .r .now in
+    let p = c .before .before .before .before .before .before .before .before .before .args .p .now in
+    λ t. again (add-is (cell r 0) (cell p 0) (c .before .before .before .before .before .before .before .before .before .pre .0 .each 0) (c .before .before .before .before .before .before .before .before .before .pre .1 .each 0)) (lit< tt) .eq t ∷ again (add-is (cell r 1) (cell p 1) (c .before .before .before .before .before .before .before .before .before .pre .0 .each 1) (c .before .before .before .before .before .before .before .before .before .pre .1 .each 1)) (lit< tt) .eq t ∷ again (add-is (cell r 2) (cell p 2) (c .before .before .before .before .before .before .before .before .before .pre .0 .each 2) (c .before .before .before .before .before .before .before .before .before .pre .1 .each 2)) (lit< tt) .eq t ∷ again (add-is (cell r 3) (cell p 3) (c .before .before .before .before .before .before .before .before .before .pre .0 .each 3) (c .before .before .before .before .before .before .before .before .before .pre .1 .each 3)) (lit< tt) .eq t ∷ []
 
 pub plus-row-spec : {M : Type 1} → statement M
 plus-row-spec =
     tie.close
     (tie.spec
-    array-copy-out-t7
-    array-copy-out-t10
-    add-t11
-    array-copy-out-t14
-    array-copy-out-t17
-    add-t18
-    array-copy-out-t21
-    array-copy-out-t24
-    add-t25
-    array-copy-out-t28
-    array-copy-out-t31
-    add-t32
+    element-copy-out-t5
+    element-copy-out-t8
+    add-t9
+    element-copy-out-t12
+    element-copy-out-t15
+    add-t16
+    element-copy-out-t19
+    element-copy-out-t22
+    add-t23
+    element-copy-out-t26
+    element-copy-out-t29
+    add-t30
     returns)
