@@ -78,9 +78,9 @@ pub fn square(table: &[u32], row: usize, new: [u32; 6]) -> [[i64; 4]; 4]
     requires { ⌜ Renews (now table) row new ⌝ }
     ensures { λ r. ⌜ Holds (length (partFor (now (table .entry)) new .corners)) (2 ^ 58) (λ i j. squareA (partFor (now (table .entry)) new) i j -ℤ squareA (partFor (now (table .entry)) (rowAt (now (table .entry)) row)) i j) r ⌝ }
 {
-    let old = element::card_at(table, row);
     let mut q: [[i64; 4]; 4] = [[0; 4]; 4];
     add_card(&mut q, table, new);
+    let old = element::card_at(table, row);
     take_card(&mut q, table, old);
     q
 }

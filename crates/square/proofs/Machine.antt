@@ -6,7 +6,8 @@ use native.Mathlib.Omega.{arith}
 use lib.Dec.{lit<, lit≤}
 use lib.IntN.{ℤ, natAbs, _+ℤ_, _-ℤ_}
 use lib.ListN.{length, getD, set}
-use Rattle.whole.specs.Packed.{Bounded}
+use Rattle.whole.specs.Sums.{table}
+use Rattle.whole.specs.Packed.{cell, Bounded}
 use Rattle.whole.specs.Squares.{Small}
 use Rattle.whole.proofs.Calc.{Is, rd, num, plus, minus, wide}
 
@@ -38,6 +39,10 @@ fourth [] r s t = refl
 fourth (x ∷ []) r s t = refl
 fourth (x ∷ y ∷ []) r s t = refl
 fourth (x ∷ y ∷ z ∷ q) r s t = refl
+
+-- what a row becomes of another, where it is read as it was
+pub same-row : (f : ℤ → ℤ → ℤ) (p : List ℤ) {r s : List ℤ} → r ≡ s → table 4 (λ k. f (cell r k) (cell p k)) ≡ table 4 (λ k. f (cell s k) (cell p k))
+same-row f p e = ap (λ (l : List ℤ). table 4 (λ k. f (cell l k) (cell p k))) e
 
 pub all-four : (q : List (List ℤ)) (r s t u : List ℤ) → length q ≡ 4 → set (set (set (set q 0 r) 1 s) 2 t) 3 u ≡ r ∷ s ∷ t ∷ u ∷ []
 all-four [] r s t u h = absurd (omega arith)
