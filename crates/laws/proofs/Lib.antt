@@ -4,6 +4,7 @@ pub mod Outcomes
 pub mod Tables
 pub mod Update
 pub mod KeptFactor
+pub mod Narrowed
 pub mod Finished
 pub mod Letters
 pub mod Decks
@@ -47,6 +48,9 @@ pub mod Calls
 pub mod Left
 pub mod Carried
 pub mod Running
+pub mod KeptCalls
+pub mod Widened
+pub mod KeptLeft
 pub mod Balance
 pub mod Book
 pub mod Rounds

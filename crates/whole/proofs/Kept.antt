@@ -12,7 +12,7 @@ use borrow.Author.Tests.{le-leb, lt-leb, leb-true, leb-false, eq-eqb, ne-eqb}
 use lib.Dec.{leb, eqb}
 use lib.IntN.{ℤ, pos}
 use lib.ListN.{length, take, drop, set, length-append, List·getD-append}
-use lib.Seq.{getD-append-add, getD-set-same, getD-set-other, ext-getD}
+use lib.Seq.{take-all, take-append-le, getD-take, getD-append-add, getD-set-same, getD-set-other, ext-getD}
 use Rattle.whole.specs.Sums.{table}
 use Rattle.whole.specs.Packed.{tri, cell, place, entry, lower}
 use Rattle.whole.proofs.Sums.{table-length, table-at, table-ext}
@@ -102,6 +102,18 @@ kept-ext first (suc n) f g h = λ d.
     kept-ext first n f g (λ i j l. h i j (omega arith)) d
     ++ table-ext (suc n - first n) (λ k. f n (first n + k)) (λ k. g n (first n + k)) (λ k l. h n (first n + k) (omega arith) (omega arith) (omega arith)) d
 
+-- the first m of n rows
+pub kept-take : (first : ℕ → ℕ) (m n : ℕ) (f : ℕ → ℕ → ℤ) → m ≤ n → take (starts first m) (keptLower first n f) ≡ keptLower first m f
+unfolding keptLower starts
+kept-take first m zero f h = let z : m ≡ 0 = omega arith in rw z refl
+kept-take first m (suc n) f h =
+    ⊎-elim
+    (λ e. rw e (take-all (starts first (suc n)) (keptLower first (suc n) f) (omega (arith, length-kept first (suc n) f))))
+    (λ l.
+    let last = table (suc n - first n) (λ k. f n (first n + k)) in
+    take-append-le (starts first m) (keptLower first n f) last (omega (arith, length-kept first n f, starts-le first m n (NatL.le-of-suc-le-suc l))) ∙ kept-take first m n f (NatL.le-of-suc-le-suc l))
+    (NatL.eq-or-lt-of-le h)
+
 -- ---- reading back
 
 pub cell-in : (first : ℕ → ℕ) (ks : List ℤ) (i j : ℕ) → first i ≤ j → keptCell first ks i j ≡ cell ks (spot first i j)
@@ -163,6 +175,15 @@ expand-left first n i j ks h l a = lower-cell n i j (keptEntry first ks) h l ∙
 pub expand-vanishes : (first : ℕ → ℕ) → Low first → (n : ℕ) (ks : List ℤ) → Vanishes first n (expand first n ks)
 expand-vanishes first low n ks i j h a = let l : j ≤ i = omega (arith, low i) in expand-entry first n i j ks h l ∙ entry-left first ks i j l a
 
+-- what is expanded is told by the first numbers, as many as the matrix length
+pub expand-front : (first : ℕ → ℕ) → Low first → (n : ℕ) (ks ls : List ℤ) → ((k : ℕ) → k < starts first n → cell ks k ≡ cell ls k) → expand first n ks ≡ expand first n ls
+unfolding expand
+expand-front first low n ks ls same =
+    lower-ext n (keptEntry first ks) (keptEntry first ls) (λ i j h l.
+    by-first first i j
+    (λ a. entry-in first ks i j a l ∙ same (spot first i j) (spot-below first low i j n h l) ∙ sym (entry-in first ls i j a l))
+    (λ a. entry-left first ks i j l a ∙ sym (entry-left first ls i j l a)))
+
 -- THEOREM. What vanishes left of the first columns is lost by nothing.
 pub expand-shrink : (first : ℕ → ℕ) → Low first → (n : ℕ) (xs : List ℤ) → length xs ≡ tri n → Vanishes first n xs → expand first n (shrink first n xs) ≡ xs
 unfolding expand shrink
@@ -185,15 +206,29 @@ same-cell first low ks ls (suc m) h k l = go (decLt k (starts first m)) (λ l′
         let at : spot first m j ≡ k = omega arith in
         ap (cell ks) (sym at) ∙ h m j (omega arith) (omega arith) (omega (arith, low m)) ∙ ap (cell ls) at
 
--- THEOREM. Kept rows of the matrix length come back from the packed triangle.
-pub shrink-expand : (first : ℕ → ℕ) → Low first → (n : ℕ) (ks : List ℤ) → length ks ≡ starts first n → shrink first n (expand first n ks) ≡ ks
+-- THEOREM. Kept rows come back from the packed triangle: each number where it stood, and all of them where they have the matrix length.
+pub shrink-cell : (first : ℕ → ℕ) → Low first → (n : ℕ) (ks : List ℤ) (k : ℕ) → k < starts first n → cell (shrink first n (expand first n ks)) k ≡ cell ks k
 unfolding shrink
-shrink-expand first low n ks e =
-    ext-getD (pos 0) (keptLower first n (entry (expand first n ks))) ks (length-kept first n (entry (expand first n ks)) ∙ sym e)
-    (λ k l. same-cell first low (keptLower first n (entry (expand first n ks))) ks n each k (omega (arith, length-kept first n (entry (expand first n ks)))))
+shrink-cell first low n ks = same-cell first low (keptLower first n (entry (expand first n ks))) ks n each
   where
     each : (i j : ℕ) → i < n → first i ≤ j → j ≤ i → cell (keptLower first n (entry (expand first n ks))) (spot first i j) ≡ cell ks (spot first i j)
     each i j h a l = kept-cell first low n i j (entry (expand first n ks)) h a l ∙ expand-entry first n i j ks h l ∙ entry-in first ks i j a l
+
+pub shrink-expand : (first : ℕ → ℕ) → Low first → (n : ℕ) (ks : List ℤ) → length ks ≡ starts first n → shrink first n (expand first n ks) ≡ ks
+shrink-expand first low n ks e =
+    let long = length-shrink first n (expand first n ks) in
+    ext-getD (pos 0) (shrink first n (expand first n ks)) ks (long ∙ sym e) (λ k l. shrink-cell first low n ks k (omega (arith, long)))
+
+-- THEOREM. The kept rows above row m are told by the packed rows above it.
+pub shrink-above : (first : ℕ → ℕ) (m n : ℕ) (xs ys : List ℤ) → m ≤ n → take (tri m) xs ≡ take (tri m) ys → take (starts first m) (shrink first n xs) ≡ take (starts first m) (shrink first n ys)
+unfolding shrink
+shrink-above first m n xs ys h e =
+    kept-take first m n (entry xs) h
+    ∙ kept-ext first m (entry xs) (entry ys) (λ i j l a b. front xs i j l b ∙ ap (λ (zs : List ℤ). entry zs i j) e ∙ sym (front ys i j l b))
+    ∙ sym (kept-take first m n (entry ys) h)
+  where
+    front : (zs : List ℤ) (i j : ℕ) → i < m → j ≤ i → entry zs i j ≡ entry (take (tri m) zs) i j
+    front zs i j l b = sym (getD-take (tri m) zs (place i j) (pos 0) (omega (arith, place-low i j b, tri-below i m l)))
 
 -- THEOREM. The kept rows of a matrix are those of its packed triangle, and expand to it where it vanishes left of the first columns.
 pub kept-shrunk : (first : ℕ → ℕ) (n : ℕ) (f : ℕ → ℕ → ℤ) → keptLower first n f ≡ shrink first n (lower n f)
