@@ -1,2 +1,3 @@
--- What refusal 10 tells of finished rows, and a row's steps.
+-- The packed factor along kept rows: what stands left of a first column, and a row's steps.
+mod Kept
 mod Steps

@@ -1,135 +1,140 @@
 -- What is left from row i is what is left of the whole.
+use borrow.Author.Needs.{needs}
+use Rattle.factor.proofs.rows.Statement.{statement}
+use Rattle.factor.proofs.rows.Tie as tie
 use mathlib.Core.Path.{_≡_, refl, _∙_}
 use mathlib.Core.List.{List, []}
 use Prim.Native.Nat.{ℕ, suc, _+_, _-_, _≤_, _<_}
 use native.Mathlib.Numerals.{add-one}
 use native.Mathlib.Omega.{arith}
-use borrow.Author.Needs.{needs}
 use lib.IntN.{ℤ}
-use lib.ListN.{length}
-use Rattle.whole.specs.Packed.{tri}
-use Rattle.whole.proofs.Packed.{tri-next, tri-below, tri-half, tri-small, tri-96}
+use lib.ListN.{length, getD}
 use Rattle.paper.specs.Refusals.{refused, done, then}
-use Rattle.paper.specs.Factor.{rowFrom, rowsFrom}
-use Rattle.laws.proofs.Finished.{Fin}
 use Rattle.paper.specs.declared.Answer.{Answer}
 use Rattle.paper.specs.declared.Answer.the-variants.{Done, Refused}
 use Rattle.paper.specs.declared.Refusal.{Refusal}
-use Rattle.factor.specs.Asks.{Fresh, Row, RowDone}
+use Rattle.starts.specs.Lent.{by, wide, Starts}
+use Rattle.starts.proofs.Lent.{wide-by}
 use Rattle.laws.proofs.Lent.{passed}
-use Rattle.factor.proofs.rows.Statement.{statement}
-use Rattle.factor.proofs.rows.Tie as tie
+use Rattle.laws.proofs.Finished.{Fin}
+use Rattle.whole.specs.Packed.{tri}
+use Rattle.whole.specs.Kept.{firstBy, expand}
+use Rattle.paper.specs.Factor.{rowFrom, rowsFrom}
+use Rattle.whole.proofs.RowStarts.{by-low}
+use Rattle.factor.specs.Asks.{Ready, Fresh, Row, Here, RowDone}
+use Rattle.factor.proofs.Steps.{fin-begin}
 
-record Inv (xs₀ ws₀ : List ℤ) (m n : ℕ) (xs ws : List ℤ) (i s : ℕ) : Type 0 where
-  upto : i ≤ n
-  few : n ≤ 96
-  room : tri n ≤ length xs
-  wroom : n ≤ length ws
-  finished : Fin xs i 0
-  fresh : Fresh xs (tri i)
-  start : s ≡ tri i
-  xlong : length xs ≡ length xs₀
+record Inv (st : List ℕ) (ks₀ ws₀ : List ℤ) (m : ℕ) (ks ws : List ℤ) (i : ℕ) : Type 0 where
+  upto : i ≤ length st
+  wroom : length st ≤ length ws
+  finished : Fin (expand (by st ks₀) (length st) ks) i 0
+  fresh : Fresh (expand (by st ks₀) (length st) ks) (tri i)
+  xlong : length ks ≡ length ks₀
   wlong : length ws ≡ length ws₀
-  rest : rowsFrom (n - i) i xs ≡ rowsFrom (n - m) m xs₀
+  rest : rowsFrom (length st - i) i (expand (by st ks₀) (length st) ks) ≡ rowsFrom (length st - m) m (wide st ks₀)
 
 abbrev Inv-loop : tie.InvT-loop
-Inv-loop work₀ ws₀ m n i₀ s₀ work ws i s = Inv work₀ ws₀ m n work ws i s
+Inv-loop work₀ ws₀ starts m long i₀ work ws i = Inv starts work₀ ws₀ m work ws i
 
 abbrev μ-loop : tie.MeasureT-loop
-μ-loop work₀ ws₀ m n i₀ s₀ work ws i s = n - i
+μ-loop work₀ ws₀ starts m long i₀ work ws i = length starts - i
 
-module _ {xs₀ ws₀ : List ℤ} {m n : ℕ} {xs ws : List ℤ} {i s : ℕ} (inv : Inv xs₀ ws₀ m n xs ws i s) (h : i < n) where
-  row-asks : Row xs ws s i 0
-  row-asks = record {
-    few = omega (arith, inv .few);
-    start = inv .start;
-    upto = omega arith;
-    room = omega (arith, inv .room, inv .start, tri-below i n h);
+start : {st : List ℕ} {ks ws : List ℤ} {m : ℕ} → Ready st ks m → length st ≤ length ws → Inv st ks ws m ks ws m
+start {st} {ks} {m} r w = record {
+  upto = r .upto;
+  wroom = w;
+  finished = passed (wide st ks) m (r .above);
+  fresh = r .fresh;
+  xlong = refl;
+  wlong = refl;
+  rest = refl;
+}
+
+module _ {st : List ℕ} {ks₀ ws₀ : List ℤ} {m : ℕ} (lent : Starts st (length ks₀)) {ks ws : List ℤ} {i : ℕ} (inv : Inv st ks₀ ws₀ m ks ws i) (h : i < length st) where
+  fresh-row : Row (by st ks₀) (length st) ks ws i (by st ks₀ i)
+  fresh-row = record {
+    few = lent .few;
+    inside = h;
+    long = inv .xlong ∙ lent .all;
+    from = omega arith;
+    upto = by-low st (length ks₀) i;
     wroom = omega (arith, inv .wroom);
-    finished = inv .finished;
-    fresh = λ q l. inv .fresh q (omega (arith, inv .start));
+    finished = fin-begin (by st ks₀) (length st) ks i (by-low st (length ks₀) i) h (inv .finished);
+    fresh = λ q l. inv .fresh q (omega arith);
     ws38 = λ k l. absurd (omega arith);
   }
 
-  starts : s + (i + 1) ≤ 4656
-  starts = omega (arith, inv .start, tri-below i n h, tri-96 n (inv .few))
-
-  stepped : then (rowFrom i i 0 xs []) (rowsFrom (n - (i + 1)) (i + 1)) ≡ rowsFrom (n - m) m xs₀
+  stepped : then (rowFrom i i 0 (expand (by st ks₀) (length st) ks) []) (rowsFrom (length st - (i + 1)) (i + 1)) ≡ rowsFrom (length st - m) m (wide st ks₀)
   unfolding rowsFrom
-  stepped = let z : n - i ≡ suc (n - (i + 1)) = omega arith in rw add-one (rw (z, add-one) at (inv .rest))
+  stepped = let z : length st - i ≡ suc (length st - (i + 1)) = omega arith in rw add-one (rw (z, add-one) at (inv .rest))
 
-  module _ {a : Answer} {ys : List ℤ} (p : RowDone a (rowFrom i i 0 xs []) i ys) where
-    stopped : {r : Refusal} → a ≡ Refused r → refused r ≡ rowsFrom (n - m) m xs₀
-    stopped {r} e = let q : refused r ≡ rowFrom i i 0 xs [] = rw e at (p .rest) in rw (← q) at stepped
-
-    more : a ≡ Done → {vs : List ℤ} → length ys ≡ length xs → length vs ≡ length ws → Inv xs₀ ws₀ m n ys vs (i + 1) (s + (i + 1))
-    more e lx lw = record {
-      upto = omega arith;
-      few = inv .few;
-      room = omega (arith, inv .room, lx);
-      wroom = omega (arith, inv .wroom, lw);
-      finished = p .finished e;
-      fresh = p .fresh e;
-      start = omega (arith, inv .start, tri-next i);
-      xlong = lx ∙ inv .xlong;
-      wlong = lw ∙ inv .wlong;
-      rest = let q : done ys ≡ rowFrom i i 0 xs [] = rw e at (p .rest) in rw (← q) at stepped;
+  -- the row's start and first column, as the code has them
+  module _ {s fi : ℕ} (es : s ≡ getD st i 0) (ef : fi ≡ firstBy st (length ks₀) i) where
+    here : Here st ks ws s fi i fi
+    here = record {
+      lent = rw (inv .xlong) lent;
+      start = rw (inv .xlong) (es ∙ lent .each i h);
+      first = rw (inv .xlong) ef;
+      row = rw (inv .xlong, ef) fresh-row;
     }
 
-last : {xs₀ ws₀ : List ℤ} {m n : ℕ} {xs ws : List ℤ} {i s : ℕ} → Inv xs₀ ws₀ m n xs ws i s → n ≤ i → done xs ≡ rowsFrom (n - m) m xs₀
+  module _ {a : Answer} {ls : List ℤ} (p : RowDone a (rowFrom i i 0 (wide st ks) []) (by st ks) (length st) i ls) where
+    row : RowDone a (rowFrom i i 0 (expand (by st ks₀) (length st) ks) []) (by st ks₀) (length st) i ls
+    row = rw (inv .xlong) at p
+
+    stopped : {r : Refusal} → a ≡ Refused r → refused r ≡ rowsFrom (length st - m) m (wide st ks₀)
+    stopped {r} e = let q : refused r ≡ rowFrom i i 0 (expand (by st ks₀) (length st) ks) [] = rw e at (row .rest) in rw (← q) at stepped
+
+    more : a ≡ Done → {vs : List ℤ} → length ls ≡ length ks → length vs ≡ length ws → Inv st ks₀ ws₀ m ls vs (i + 1)
+    more e lx lw = record {
+      upto = omega arith;
+      wroom = omega (arith, inv .wroom, lw);
+      finished = row .finished e;
+      fresh = row .fresh e;
+      xlong = lx ∙ inv .xlong;
+      wlong = lw ∙ inv .wlong;
+      rest = let q : done (expand (by st ks₀) (length st) ls) ≡ rowFrom i i 0 (expand (by st ks₀) (length st) ks) [] = rw e at (row .rest) in rw (← q) at stepped;
+    }
+
+last : {st : List ℕ} {ks₀ ws₀ : List ℤ} {m : ℕ} {ks ws : List ℤ} {i : ℕ} → Inv st ks₀ ws₀ m ks ws i → length st ≤ i → done (wide st ks) ≡ rowsFrom (length st - m) m (wide st ks₀)
 unfolding rowsFrom
-last {n} {i} inv h = let z : n - i ≡ 0 = omega arith in rw z at (inv .rest)
-
-add-s : tie.Need-add-s Inv-loop μ-loop
-add-s c = omega (arith, c .pre .0 .few, c .pre .0 .upto)
-
-mul-s : tie.Need-mul-s Inv-loop μ-loop
-mul-s c = omega (arith, tri-small (c .args .m) (omega (arith, c .pre .0 .few, c .pre .0 .upto)))
+last {st} {ks₀} {ks} {i} inv h = let z : length st - i ≡ 0 = omega arith in rw (wide-by st ks₀ ks (inv .xlong)) (rw z at (inv .rest))
 
 loop-holds : tie.Need-loop-holds Inv-loop μ-loop
-loop-holds c =
-    let r = c .pre .0 in
-    record { upto = r .upto; few = r .few; room = r .room; wroom = c .pre .1; finished = passed (c .args .work .now) (c .args .m) (r .above); fresh = r .fresh; start = tri-half (c .args .m); xlong = refl; wlong = refl; rest = refl }
+loop-holds c = start (c .before .pre .0) (c .before .pre .1)
+
+start-requires : tie.Need-start-requires Inv-loop μ-loop
+start-requires c κs = omega arith
+
+first-requires : tie.Need-first-requires Inv-loop μ-loop
+first-requires c κs = (c .before .before .before .before .pre .0 .lent, omega arith)
 
 row-requires : tie.Need-row-requires Inv-loop μ-loop
-row-requires c κs =
-    let v = c .before .before .before .loop in
-    row-asks (v .inv) (omega arith)
+row-requires c κs = here (c .before .before .before .before .before .before .before .pre .0 .lent) (c .before .before .before .before .before .loop .inv) (omega arith) (c .before .before .before .start .ensures) (c .before .before .first .ensures)
 
 enum-known-r : tie.Need-enum-known-r Inv-loop μ-loop
 enum-known-r c = search needs
 
 same-length : tie.Need-same-length Inv-loop μ-loop
-same-length c = c .before .before .before .before .before .row .kept .0 ∙ c .before .before .before .before .before .before .before .before .before .loop .inv .xlong
+same-length c = c .before .before .before .before .before .row .kept .0 ∙ c .before .before .before .before .before .before .before .before .before .before .before .loop .inv .xlong
 
 same-length-2 : tie.Need-same-length-2 Inv-loop μ-loop
-same-length-2 c = c .before .before .before .before .before .row .kept .1 .0 ∙ c .before .before .before .before .before .before .before .before .before .loop .inv .wlong
+same-length-2 c = c .before .before .before .before .before .row .kept .1 .0 ∙ c .before .before .before .before .before .before .before .before .before .before .before .loop .inv .wlong
 
 returns : tie.Need-returns Inv-loop μ-loop
-returns c =
-    let v = c .before .before .before .before .before .before .before .before .before .loop in
-    let k = c .before .before .before .before .before .row in
-    stopped (v .inv) (omega arith) (k .ensures) (c .before .r .given .1)
+returns c = stopped (c .before .before .before .before .before .before .before .before .before .before .before .before .before .pre .0 .lent) (c .before .before .before .before .before .before .before .before .before .before .before .loop .inv) (omega arith) (c .before .before .before .before .before .row .ensures) (c .before .r .given .1)
 
 enum-told : tie.Need-enum-told Inv-loop μ-loop
 enum-told c = search needs
 
 add-i : tie.Need-add-i Inv-loop μ-loop
-add-i c = omega (arith, c .before .before .before .before .before .before .before .before .loop .inv .few)
-
-add-s-2 : tie.Need-add-s-2 Inv-loop μ-loop
-add-s-2 c =
-    let v = c .before .before .before .before .before .before .before .before .loop in
-    omega (arith, starts (v .inv) (omega arith))
+add-i c = omega (arith, c .before .before .before .before .before .before .before .before .before .before .before .before .pre .0 .lent .few)
 
 loop-less : tie.Need-loop-less Inv-loop μ-loop
 loop-less c = omega arith
 
 loop-again : tie.Need-loop-again Inv-loop μ-loop
-loop-again c =
-    let v = c .before .before .before .before .before .before .before .before .loop in
-    let k = c .before .before .before .before .row in
-    more (v .inv) (omega arith) (k .ensures) (c .enum-told .given .1) (k .kept .0) (k .kept .1 .0)
+loop-again c = more (c .before .before .before .before .before .before .before .before .before .before .before .before .pre .0 .lent) (c .before .before .before .before .before .before .before .before .before .before .loop .inv) (omega arith) (c .before .before .before .before .row .ensures) (c .enum-told .given .1) (c .before .before .before .before .row .kept .0) (c .before .before .before .before .row .kept .1 .0)
 
 same-length-3 : tie.Need-same-length-3 Inv-loop μ-loop
 same-length-3 c = c .before .loop .inv .xlong
@@ -138,9 +143,7 @@ same-length-4 : tie.Need-same-length-4 Inv-loop μ-loop
 same-length-4 c = c .before .loop .inv .wlong
 
 returns-2 : tie.Need-returns-2 Inv-loop μ-loop
-returns-2 c =
-    let v = c .before .loop in
-    last (v .inv) (omega arith)
+returns-2 c = last (c .before .loop .inv) (omega arith)
 
 pub rows-spec : {M : Type 1} → statement M
 rows-spec =
@@ -148,9 +151,9 @@ rows-spec =
     (tie.spec
     Inv-loop
     μ-loop
-    add-s
-    mul-s
     loop-holds
+    start-requires
+    first-requires
     row-requires
     enum-known-r
     same-length
@@ -158,7 +161,6 @@ rows-spec =
     returns
     enum-told
     add-i
-    add-s-2
     loop-less
     loop-again
     same-length-3
