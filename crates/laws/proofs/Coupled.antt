@@ -19,10 +19,10 @@ use Rattle.whole.proofs.Kept.{Low, kept-expanded}
 use Rattle.whole.proofs.RowStarts.{starts-ext}
 use Rattle.paper.specs.Kinds.{about}
 use Rattle.paper.specs.Cards.{field, rowAt, rows, nodes, elements, elementRow, put}
-use Rattle.paper.specs.Corners.{Shape, shapeOf, spread}
+use Rattle.paper.specs.Corners.{shapeOf, spread}
 use Rattle.paper.specs.Tetrahedron.{spaceOf}
 use Rattle.paper.specs.Elements.{elementAt}
-use Rattle.paper.specs.Parts.{Part, namedShape, partOf, partAt}
+use Rattle.paper.specs.Parts.{namedShape, partOf, partAt}
 use Rattle.paper.specs.Matrices.{addsP, addsA, P, A, fixed, cleared}
 use Rattle.paper.specs.Coupled.{joinsAt, corner, coupled, firstOf}
 use Rattle.paper.specs.KeptCalls.{keptLong}
@@ -33,7 +33,7 @@ use Rattle.laws.proofs.Tables.{row-field}
 use Rattle.laws.proofs.Decks.{In, kindIn, Deck, Change}
 use Rattle.laws.proofs.Spans.{row-kind, is-solid, is-flat, is-body, cornersOf, cornersBy, names-H, names-F, element-corners, part-corners, inside-each}
 use Rattle.laws.proofs.Kept.{rows-same, nodes-same, kind-same, kind-keeps}
-use Rattle.laws.proofs.Firsts.{coupled-self, first-low, first-apart, joins-few}
+use Rattle.laws.proofs.Firsts.{first-low, first-apart, joins-few}
 
 -- ---- coupled nodes
 

@@ -1,8 +1,8 @@
 -- The calls over kept rows, as code meets them: a first refusal, or else document 01's call on what is lent with zeros put left of the first columns.
 use mathlib.Core.Path.{_≡_, refl, sym, ap, _∙_}
-use mathlib.Core.Bool.{Bool, true, false, cond, not, _&&_}
-use mathlib.Core.List.{List, []}
-use Prim.Native.Nat.{ℕ, zero, suc, _+_, _-_, _≤_, _<_}
+use mathlib.Core.Bool.{Bool, true, false, not, _&&_}
+use mathlib.Core.List.{List}
+use Prim.Native.Nat.{ℕ, zero, suc, _-_, _≤_, _<_}
 use native.Mathlib.Omega.{arith}
 use borrow.Author.Tests.{leb-true, eqb-true, not-false}
 use lib.Dec.{leb, eqb}
@@ -20,19 +20,19 @@ use Rattle.paper.specs.Coupled.{firstOf, strayRow}
 use Rattle.paper.specs.Step.{Settling}
 use Rattle.paper.specs.Calls.{whenDone, over, Lent, lent, Exit, left, StepExit, leftStep, endsStep, buildCall, replaceCall, stepCall}
 use Rattle.paper.specs.Running.{RunExit, leftRun, onward, stepExit, runFrom, runCall}
-use Rattle.paper.specs.KeptCalls.{Kept, kept, widened, onto, narrowed, keptLong, keptRoomy, keptEnough, lengthsJudged, startsJudged, leftKept, leftKeptStep, leftKeptRun, again, keptBuild, keptReplace, nodesJudged, keptStep, keptRun}
+use Rattle.paper.specs.KeptCalls.{Kept, kept, widened, onto, narrowed, keptLong, keptRoomy, keptEnough, lengthsJudged, startsJudged, leftKept, leftKeptStep, leftKeptRun, keptBuild, keptReplace, nodesJudged, keptStep, keptRun}
 use Rattle.paper.specs.declared.Answer.{Answer}
 use Rattle.paper.specs.declared.Answer.the-variants.{Done, Refused}
 use Rattle.paper.specs.declared.Refusal.{Refusal}
-use Rattle.paper.specs.declared.Refusal.the-variants.{Short}
+use Rattle.paper.specs.declared.Refusal.the-variants.{Short, Stray}
 use Rattle.paper.specs.declared.Stepped.{Stepped}
 use Rattle.paper.specs.declared.Stepped.the-variants as stepAnswer
 use Rattle.paper.specs.declared.Ran.{Ran}
 use Rattle.paper.specs.declared.Ran.the-variants as runAnswer
-use Rattle.laws.proofs.Outcomes.{done-refused, both-done, cond-done}
+use Rattle.laws.proofs.Outcomes.{done-refused, cond-done}
 use Rattle.laws.proofs.Firsts.{first-low}
 use Rattle.laws.proofs.Narrowed.{narrow-same, narrow-over}
-use Rattle.laws.proofs.Settled.{stepOutcome, step-is}
+use Rattle.laws.proofs.Settled.{stepOutcome}
 
 -- the packed triangle of a slice, by a deck's first columns
 abbrev pub wideOf : List ℕ → List ℤ → List ℤ
@@ -81,6 +81,14 @@ lengths-told z rest e =
       other = other;
     }
 
+pub lengths-pass : (z : Kept) (rest : Bool) → keptEnough z && rest ≡ true → lengthsJudged z rest ≡ Done
+unfolding lengthsJudged
+lengths-pass z rest e = rw e refl
+
+pub lengths-short : (z : Kept) (rest : Bool) → keptEnough z && rest ≡ false → lengthsJudged z rest ≡ Refused Short
+unfolding lengthsJudged
+lengths-short z rest e = rw e refl
+
 -- 17 is passed where no row's start is another than the deck's
 pub stray-none : (z : Kept) → startsJudged z ≡ Done → strayRow (z .lent .table) (nodes (z .lent .table)) (z .starts) ≡ 0
 unfolding startsJudged
@@ -89,6 +97,15 @@ stray-none z e = go (strayRow (z .lent .table) (nodes (z .lent .table)) (z .star
     go : (k : ℕ) → strayRow (z .lent .table) (nodes (z .lent .table)) (z .starts) ≡ k → strayRow (z .lent .table) (nodes (z .lent .table)) (z .starts) ≡ 0
     go zero q = q
     go (suc k) q = done-refused (rw q at e)
+
+pub stray-pass : (z : Kept) → strayRow (z .lent .table) (nodes (z .lent .table)) (z .starts) ≡ 0 → startsJudged z ≡ Done
+unfolding startsJudged
+stray-pass z e = rw e refl
+
+pub stray-refused : (z : Kept) (row : ℕ) → strayRow (z .lent .table) (nodes (z .lent .table)) (z .starts) ≡ row → (row ≡ 0 → ⊥) → startsJudged z ≡ Refused (Stray row)
+unfolding startsJudged
+stray-refused z zero e n = absurd (n refl)
+stray-refused z (suc k) e n = rw e refl
 
 -- THEOREM. Then the lent starts are the deck's, as far as its rows go.
 pub own-starts : (t st : List ℕ) → strayRow t (nodes t) st ≡ 0 → nodes t ≤ length st → take (nodes t) st ≡ rowStarts (firstOf t) (nodes t)
@@ -143,7 +160,7 @@ run-refused z r e = rw e refl
 abbrev pub working : List ℤ → Lent → Lent
 working w z = record { table = z .table; slices = z .slices; work = w; temperatures = z .temperatures; carried = z .carried }
 
-abbrev stepWorking : List ℤ → StepExit → StepExit
+abbrev pub stepWorking : List ℤ → StepExit → StepExit
 stepWorking w x = leftStep (x .answer) (working w (x .lent))
 
 abbrev exitWorking : List ℤ → Exit → Exit
@@ -201,7 +218,16 @@ module _ (t : List ℕ) (p a f w : List ℤ) (st : List ℕ) (old carried : List
     unfolding keptReplace widened
     replace-ends {r} card new ok e = rw (ok, ← e) (λ i. leftKept r (record { lent = sym over-is i; starts = st }))
 
-  -- THEOREM. One that writes no matrix: the card alone, or nothing.
+  -- THEOREM. A build that is refused before it writes: 5, 14 and 6.
+  pub build-alone : (r : Refusal) → buildJudged z ≡ Done
+      → left (Refused r) (lent t (wideOf t p) (wideOf t a) (wideOf t f) (wideOf t w) old carried) ≡ buildCall (lent t (wideOf t p) (wideOf t a) (wideOf t f) (wideOf t w) old carried)
+      → leftKept (Refused r) z ≡ keptBuild z
+  unfolding keptBuild widened narrowed
+  build-alone r ok e =
+      let same = narrow-same (firstOf t) (first-low t) (nodes t) in
+      rw (ok, ← e) (λ i. leftKept (Refused r) (record { lent = lent t (sym (same p) i) (sym (same a) i) (sym (same f) i) (sym (same w) i) old carried; starts = st }))
+
+  -- THEOREM. A replacement that writes no matrix: the card alone, or nothing.
   pub replace-alone : {r : Answer} {t″ : List ℕ} (card : ℕ) (new : List ℕ) → replaceJudged z card new ≡ Done
       → left r (lent t″ (wideOf t p) (wideOf t a) (wideOf t f) (wideOf t w) old carried) ≡ replaceCall (lent t (wideOf t p) (wideOf t a) (wideOf t f) (wideOf t w) old carried) card new
       → leftKept r (kept t″ p a f w st old carried) ≡ keptReplace z card new

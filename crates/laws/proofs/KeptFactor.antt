@@ -18,7 +18,7 @@ use Rattle.whole.proofs.Kept.{Low, Vanishes}
 use Rattle.paper.specs.Refusals.{done}
 use Rattle.paper.specs.Factor.{R, w, l, small, rowFrom, rowsFrom}
 use Rattle.paper.specs.declared.Refusal.the-variants.{Pivot, Bound}
-use Rattle.laws.proofs.Outcomes.{Ends, when-ends, then-ends, ends-map}
+use Rattle.laws.proofs.Outcomes.{Ends, when-ends, then-ends}
 
 module _ (first : ℕ → ℕ) (low : Low first) (n : ℕ) where
   -- rows of a matrix that vanishes

@@ -1,27 +1,24 @@
 -- What each call over kept rows leaves, of any deck and any slices: after a refusal, past the matrix length, above the least corner.
 use mathlib.Core.Path.{_≡_, refl, sym, ap, subst, _∙_}
 use mathlib.Core.Bool.{Bool, true, false, cond, _&&_}
-use mathlib.Core.List.{List, [], _++_}
-use Prim.Native.Nat.{ℕ, zero, suc, _+_, _-_, _≤_, _<_}
+use mathlib.Core.List.{List}
+use Prim.Native.Nat.{ℕ, zero, suc, _-_, _≤_, _<_}
 use native.Mathlib.Decide.{decLt}
 use native.Mathlib.Omega.{arith}
-use borrow.Author.Tests.{leb-true}
 use lib.Dec.{leb}
 use lib.IntN.{ℤ, pos}
-use lib.ListN.{length, take, drop, replicate, length-take, length-replicate, getD-replicate, drop-of-length-le, List·getD-eq-default, List·getD-append}
+use lib.ListN.{length, take, drop, replicate, length-replicate, getD-replicate, drop-of-length-le, List·getD-eq-default}
 use lib.Seq.{drop-at, take-take, take-append-le}
-use Rattle.whole.specs.Packed.{tri, cell, place, entry}
-use Rattle.whole.specs.Kept.{starts, spot, rowStarts, keptLower, keptCell, keptEntry, expand, shrink}
-use Rattle.whole.proofs.Packed.{lower-zeros, place-low, tri-below, tri-le}
+use Rattle.whole.specs.Packed.{tri, cell}
+use Rattle.whole.specs.Kept.{starts, spot, rowStarts, keptCell, keptEntry, expand, shrink}
+use Rattle.whole.proofs.Packed.{lower-zeros}
 use Rattle.whole.proofs.Kept.{starts-le, length-shrink, length-expand, shrink-above}
 use Rattle.whole.proofs.RowStarts.{length-starts}
-use Rattle.paper.specs.Refusals.{Outcome, refused, done, andThen, answerOf}
 use Rattle.paper.specs.Cards.{nodes, put}
 use Rattle.paper.specs.Judge.{judged, newJudged}
-use Rattle.paper.specs.Building.{Slices}
 use Rattle.paper.specs.Replacing.{stirs, firstRow}
 use Rattle.paper.specs.Coupled.{firstOf, strayRow}
-use Rattle.paper.specs.Calls.{whenDone, over, Lent, lent, Exit, StepExit, worked, inFactor, asLent, buildCall, replaceCall, stepCall}
+use Rattle.paper.specs.Calls.{whenDone, over, Lent, lent, worked, inFactor, asLent, buildCall, replaceCall, stepCall}
 use Rattle.paper.specs.Replacements.{on}
 use Rattle.paper.specs.Running.{Untouched}
 use Rattle.paper.specs.KeptCalls.{Kept, widened, onto, narrowed, keptLong, keptRoomy, keptEnough, lengthsJudged, startsJudged, KeptExit, KeptStepExit, KeptRunExit, keptBuild, keptReplace, nodesJudged, keptStep, keptRun}
@@ -30,7 +27,6 @@ use Rattle.paper.specs.declared.Answer.{Answer}
 use Rattle.paper.specs.declared.Answer.the-variants.{Done, Refused}
 use Rattle.paper.specs.declared.Refusal.{Refusal}
 use Rattle.paper.specs.declared.Refusal.the-variants.{Short}
-use Rattle.paper.specs.declared.Stepped.{Stepped}
 use Rattle.paper.specs.declared.Stepped.the-variants as stepAnswer
 use Rattle.laws.proofs.Outcomes.{done-refused, both-done}
 use Rattle.laws.proofs.Refused.{Plain, plain-told, plain-and, plain-cond, judged-plain, new-plain}
@@ -129,13 +125,16 @@ asLent-kept z works r h =
         ∙ narrow-zeros t (z .lent .work) h
 
 -- nothing was begun
-plain-kept : (z : Kept) (works : Bool) (r : Refusal) → inFactor r ≡ false → z ≡ keptAsLent works r z
-plain-kept z works r e = ap (λ (b : Bool). by b) (sym (and-false works) ∙ ap (λ (b : Bool). works && b) (sym e))
-  where
-    and-false : (b : Bool) → b && false ≡ false
-    and-false true = refl
-    and-false false = refl
+none-begun : (works : Bool) (r : Refusal) → inFactor r ≡ false → works && inFactor r ≡ false
+none-begun true r e = e
+none-begun false r e = refl
 
+pub plain-left : (x : Lent) (works : Bool) (r : Refusal) → inFactor r ≡ false → asLent works r x ≡ x
+plain-left x works r e = ap (λ (b : Bool). record { table = x .table; slices = x .slices; work = worked b x; temperatures = x .temperatures; carried = x .carried }) (none-begun works r e)
+
+plain-kept : (z : Kept) (works : Bool) (r : Refusal) → inFactor r ≡ false → z ≡ keptAsLent works r z
+plain-kept z works r e = ap by (sym (none-begun works r e))
+  where
     by : Bool → Kept
     by b = record {
       lent = record {
@@ -148,7 +147,7 @@ plain-kept z works r e = ap (λ (b : Bool). by b) (sym (and-false works) ∙ ap 
       starts = z .starts;
     }
 
-refused-one : {q r : Refusal} → Refused q ≡ Refused r → q ≡ r
+pub refused-one : {q r : Refusal} → Refused q ≡ Refused r → q ≡ r
 refused-one e = cc
 
 -- THEOREMS. All is as it was lent, the starts too, but for the work slice of a factor that was begun.
@@ -226,6 +225,16 @@ step-refused z r e = go (nodesJudged z) refl
     go Done k =
         let said = sym (step-answer z k) ∙ e in
         step-kept z k ∙ (λ i. record { lent = besides (z .lent) (leaves.step-refused (widened (z .lent)) r said i); starts = z .starts }) ∙ unfold widened in refl
+
+-- THEOREM. A step that settles is document 01's on the packed triangles.
+pub step-settled : (z : Kept) (c : ℕ) → keptStep z .answer ≡ stepAnswer.Settled c → let x = stepCall (widened (z .lent)) in
+    (x .answer ≡ stepAnswer.Settled c) × (keptStep z .kept .lent .temperatures ≡ x .lent .temperatures) × (keptStep z .kept .lent .carried ≡ x .lent .carried)
+step-settled z c e = go (nodesJudged z) refl
+  where
+    go : (a : Answer) → nodesJudged z ≡ a → let x = stepCall (widened (z .lent)) in
+        (x .answer ≡ stepAnswer.Settled c) × (keptStep z .kept .lent .temperatures ≡ x .lent .temperatures) × (keptStep z .kept .lent .carried ≡ x .lent .carried)
+    go (Refused q) k = absurd (let x = ap (λ (x : KeptStepExit). x .answer) (calls.step-refused z q k) ∙ e in let y : _≡_ {A = ℕ} 0 1 = cc in omega arith)
+    go Done k = (sym (step-answer z k) ∙ e, ap (λ (x : Kept). x .lent .temperatures) (step-kept z k), ap (λ (x : Kept). x .lent .carried) (step-kept z k))
 
 -- ---- past the matrix length
 

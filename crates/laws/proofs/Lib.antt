@@ -51,8 +51,13 @@ pub mod Running
 pub mod KeptCalls
 pub mod Widened
 pub mod KeptLeft
+pub mod KeptDemand3
+pub mod KeptNumbers
+pub mod KeptRuns
 pub mod Balance
 pub mod Book
+pub mod KeptBook
+pub mod KeptOwn
 pub mod Rounds
 pub mod Floats
 pub mod Recorded

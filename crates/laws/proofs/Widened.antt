@@ -1,39 +1,36 @@
 -- With zeros put left of the first columns, what a call over kept rows leaves is what document 01's call leaves, of any numbers.
 use mathlib.Core.Path.{_≡_, refl, sym, ap, subst, _∙_}
-use mathlib.Core.Bool.{Bool, true, false, cond, _&&_, _||_}
-use mathlib.Core.List.{List, [], _++_}
-use Prim.Native.Nat.{ℕ, zero, suc, _+_, _-_, _≤_, _<_}
+use mathlib.Core.Bool.{Bool, true, false, _&&_}
+use mathlib.Core.List.{List, _++_}
+use Prim.Native.Nat.{ℕ, _+_, _-_, _≤_, _<_}
 use native.Mathlib.Decide.{decLt}
 use native.Mathlib.Omega.{arith}
-use borrow.Author.Tests.{le-leb, leb-true}
-use lib.Dec.{leb}
+use borrow.Author.Tests.{leb-true}
 use lib.IntN.{ℤ, pos, _+ℤ_, _-ℤ_}
-use lib.ListN.{length, take, drop, replicate, length-replicate, getD-replicate, List·getD-eq-default}
-use lib.Seq.{take-all, length-take-le}
-use Rattle.whole.specs.Packed.{tri, cell, place, entry, lower}
+use lib.ListN.{length, take, drop, replicate, length-replicate, getD-replicate}
+use lib.Seq.{take-all}
+use Rattle.whole.specs.Packed.{tri, place, entry, lower}
 use Rattle.whole.specs.Kept.{starts, rowStarts, expand, shrink}
-use Rattle.whole.proofs.Tests.{and-told, cond-true, cond-false}
+use Rattle.whole.proofs.Tests.{cond-true, cond-false}
 use Rattle.whole.proofs.Lists.{join-length, join-front, join-back}
-use Rattle.whole.proofs.Packed.{length-lower, lower-at, place-low, tri-below, tri-le}
-use Rattle.whole.proofs.Kept.{Vanishes, length-expand, expand-vanishes}
+use Rattle.whole.proofs.Packed.{length-lower, place-low, tri-below, tri-le}
+use Rattle.whole.proofs.Kept.{length-expand, expand-vanishes}
 use Rattle.whole.proofs.RowStarts.{expand-ext}
-use Rattle.paper.specs.Refusals.{Outcome, refused, done, when, then, after, andThen, answerOf}
+use Rattle.paper.specs.Refusals.{Outcome, refused, done}
 use Rattle.paper.specs.Cards.{rows, nodes, put}
 use Rattle.paper.specs.Judge.{judged, newJudged}
 use Rattle.paper.specs.Parts.{partAt}
 use Rattle.paper.specs.Matrices.{addsP, addsA, P, A, fixed, cleared}
 use Rattle.paper.specs.Factor.{rowsFrom}
 use Rattle.paper.specs.Building.{Slices, slices, build}
-use Rattle.paper.specs.Lent.{roomy, enough, opened, lentJudged}
+use Rattle.paper.specs.Lent.{roomy, opened, lentJudged}
 use Rattle.paper.specs.Replacing.{formOf, moved, firstRow, redone, stirs, replaced}
 use Rattle.paper.specs.Coupled.{firstOf}
-use Rattle.paper.specs.Calls.{whenDone, over, Lent, lent, Exit, StepExit, long, closed, worked, inFactor, leaves, buildCall, replaceCall, stepCall}
+use Rattle.paper.specs.Calls.{whenDone, over, Lent, lent, long, closed, worked, inFactor, leaves, buildCall, replaceCall, stepCall}
 use Rattle.paper.specs.Replacements.{ready, present}
-use Rattle.paper.specs.Running.{RunExit, runCall}
-use Rattle.paper.specs.KeptCalls.{Kept, widened, onto, narrowed, keptLong, keptRoomy, lengthsJudged, startsJudged, KeptExit, KeptStepExit, KeptRunExit, again, keptBuild, keptReplace, nodesJudged, keptStep, keptRun}
-use Rattle.paper.specs.declared.Answer.{Answer}
-use Rattle.paper.specs.declared.Answer.the-variants.{Done, Refused}
-use Rattle.paper.specs.declared.Refusal.{Refusal}
+use Rattle.paper.specs.Running.{runCall}
+use Rattle.paper.specs.KeptCalls.{Kept, widened, onto, narrowed, keptLong, keptRoomy, lengthsJudged, again, keptBuild, keptReplace, nodesJudged, keptStep, keptRun}
+use Rattle.paper.specs.declared.Answer.the-variants.{Done}
 use Rattle.paper.specs.declared.Refusal.the-variants.{Short}
 use Rattle.laws.proofs.Outcomes.{after-done, when-done, then-done, done-inj, both-done, Ends, ends-done}
 use Rattle.laws.proofs.Decks.{Deck, Change}
@@ -44,12 +41,12 @@ use Rattle.laws.proofs.Firsts.{first-low}
 use Rattle.laws.proofs.KeptFactor.{lower-vanishes, Shaped, factor-vanishes}
 use Rattle.laws.proofs.Coupled.{part-P-left, part-A-left, P-left, A-left, A′-left, cleared-left, first-same}
 use Rattle.laws.proofs.Narrowed.{over-all, narrow-same, widen-back}
-use Rattle.laws.proofs.Built.{A′, Own, own}
+use Rattle.laws.proofs.Built.{A′, own}
 use Rattle.laws.proofs.Replaced.{from-fits}
 use Rattle.laws.proofs.Calls.{buildOutcome, replaceOutcome, build-table}
 use Rattle.laws.proofs.Left.{besides, step-same}
 use Rattle.laws.proofs.Running.{run-untouched}
-use Rattle.laws.proofs.KeptCalls.{wideOf, buildJudged, replaceJudged, Roomy, lengths-told}
+use Rattle.laws.proofs.KeptCalls.{wideOf, buildJudged, replaceJudged, lengths-told}
 
 -- ---- packed triangles that vanish left of a deck's first columns
 
@@ -179,7 +176,7 @@ leaves-blank new b x (done s) h e = record {
   work = worked-blank x b h;
 }
 
-ends-by : {X : Type 0} (P : X → Type 0) (o : Outcome X) → ((x : X) → o ≡ done x → P x) → Ends P o
+pub ends-by : {X : Type 0} (P : X → Type 0) (o : Outcome X) → ((x : X) → o ≡ done x → P x) → Ends P o
 ends-by P (refused r) f = tt
 ends-by P (done x) f = f x refl
 
@@ -199,18 +196,18 @@ unfolding opened
 all-present t s b = λ i.
     slices (take-all (tri (nodes t)) (s .p) (omega (arith, b .p .long)) i) (take-all (tri (nodes t)) (s .a) (omega (arith, b .a .long)) i) (take-all (tri (nodes t)) (s .factor) (omega (arith, b .factor .long)) i)
 
-module _ (x : Lent) (card : ℕ) (new : List ℕ) (six : length new ≡ 6) where
-  pub replace-leaves : BlankLent (x .table) x → BlankLent (x .table) (replaceCall x card new .lent)
+module _ (x : Lent) (card : ℕ) (new : List ℕ) (six : length new ≡ 6) (h : BlankLent (x .table) x) where
+  pub replace-made : (s : Slices) → replaceOutcome x card new ≡ done s → BlankSlices (x .table) s
+  replace-made s e =
+      let t = x .table in
+      let (j, e₁) = after-done (judged t) _ s e in
+      let (f, e₂) = after-done (newJudged t card new) _ s e₁ in
+      let (_, e₃) = after-done (lentJudged (nodes t) (x .slices) (roomy (nodes t) (x .work))) _ s e₂ in
+      replaced-blank t (card - 1) new (deck t j) (change t card new six j f) (deck (put t (card - 1) new) (stays t card new six j f)) (present x) s (subst (BlankSlices t) (sym (all-present t (x .slices) (h .slices))) (h .slices)) e₃
+
+  pub replace-leaves : BlankLent (x .table) (replaceCall x card new .lent)
   unfolding replaceCall
-  replace-leaves h = leaves-blank (put (x .table) (card - 1) new) (stirs (x .table) (card - 1)) x (replaceOutcome x card new) h (ends-by (BlankSlices (x .table)) (replaceOutcome x card new) made)
-    where
-      made : (s : Slices) → replaceOutcome x card new ≡ done s → BlankSlices (x .table) s
-      made s e =
-          let t = x .table in
-          let (j, e₁) = after-done (judged t) _ s e in
-          let (f, e₂) = after-done (newJudged t card new) _ s e₁ in
-          let (_, e₃) = after-done (lentJudged (nodes t) (x .slices) (roomy (nodes t) (x .work))) _ s e₂ in
-          replaced-blank t (card - 1) new (deck t j) (change t card new six j f) (deck (put t (card - 1) new) (stays t card new six j f)) (present x) s (subst (BlankSlices t) (sym (all-present t (x .slices) (h .slices))) (h .slices)) e₃
+  replace-leaves = leaves-blank (put (x .table) (card - 1) new) (stirs (x .table) (card - 1)) x (replaceOutcome x card new) h (ends-by (BlankSlices (x .table)) (replaceOutcome x card new) replace-made)
 
 -- ---- kept again
 
@@ -326,7 +323,7 @@ module _ (z : Kept) where
       ap (narrowed (z .lent)) e
       ∙ (λ i. lent t (same (z .lent .slices .p) i) (same (z .lent .slices .a) i) (same (z .lent .slices .factor) i) (same (z .lent .work) i) (x .temperatures) (x .carried))
 
-  besides-widened : (x : Lent) → x ≡ besides W x → widened (besides (z .lent) x) ≡ x
+  pub besides-widened : (x : Lent) → x ≡ besides W x → widened (besides (z .lent) x) ≡ x
   unfolding widened
   besides-widened x e = sym e
 

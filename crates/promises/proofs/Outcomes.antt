@@ -7,6 +7,7 @@ use lib.Dec.{eqb}
 use Rattle.paper.specs.Refusals.{numberOf, placeOf}
 use Rattle.paper.specs.Calls.{readCall, writeCall, Lent, buildCall, replaceCall, stepCall}
 use Rattle.paper.specs.Running.{runCall}
+use Rattle.paper.specs.KeptCalls.{Kept, keptBuild, keptReplace, keptStep, keptRun}
 use Rattle.paper.specs.Records.{importCall}
 use Rattle.paper.specs.declared.Refusal.{Refusal}
 use Rattle.paper.specs.declared.Refusal.the-variants.{Length, Trailer, Form, Range, Flat, Stiff, Pivot, Bound, Short, Foreign, OffScale, Unsettled, Replacement, Thin, Infinite, Garbled, Stray}
@@ -63,6 +64,18 @@ step-only z = only (stepCall z)
 
 pub run-only : (z : Lent) → Only (runCall z)
 run-only z = only (runCall z)
+
+pub kept-build-only : (z : Kept) → Only (keptBuild z)
+kept-build-only z = only (keptBuild z)
+
+pub kept-replace-only : (z : Kept) (card : ℕ) (new : List ℕ) → Only (keptReplace z card new)
+kept-replace-only z card new = only (keptReplace z card new)
+
+pub kept-step-only : (z : Kept) → Only (keptStep z)
+kept-step-only z = only (keptStep z)
+
+pub kept-run-only : (z : Kept) → Only (keptRun z)
+kept-run-only z = only (keptRun z)
 
 pub import-only : (table records second : List ℕ) → Only (importCall table records second)
 import-only table records second = only (importCall table records second)

@@ -41,6 +41,21 @@ first-holds (suc n) i f h = go (f i) refl h (λ q. first-holds n (suc i) f q)
 
 -- ---- a loop that looks for it
 
+pub first-most : (n i : ℕ) (f : ℕ → Bool) → firstFrom n i f ≤ i + n
+unfolding firstFrom
+first-most zero i f = omega arith
+first-most (suc n) i f = go (f i) (first-most n (suc i) f)
+  where
+    go : (b : Bool) → firstFrom n (suc i) f ≤ suc i + n → cond b (suc i) (firstFrom n (suc i) f) ≤ i + suc n
+    go true h = omega arith
+    go false h = omega arith
+
+-- there is none
+pub first-absent : (n i : ℕ) (f : ℕ → Bool) → ((k : ℕ) → i ≤ k → k < i + n → f k ≡ false) → firstFrom n i f ≡ 0
+unfolding firstFrom
+first-absent zero i f h = refl
+first-absent (suc n) i f h = rw (h i (omega arith) (omega arith)) (first-absent n (suc i) f (λ k a b. h k (omega arith) (omega arith)))
+
 pub record Looking (f : ℕ → Bool) (n i : ℕ) : Type 0 where
   pub upto : i ≤ n
   pub left : firstFrom n 0 f ≡ firstFrom (n - i) i f

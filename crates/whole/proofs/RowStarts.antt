@@ -57,6 +57,11 @@ unfolding starts
 starts-ext f g zero h = refl
 starts-ext f g (suc n) h = omega (arith, starts-ext f g n (λ i l. h i (omega arith)), h n (omega arith))
 
+pub rows-ext : (f g : ℕ → ℕ) (n : ℕ) → ((i : ℕ) → i < n → f i ≡ g i) → rowStarts f n ≡ rowStarts g n
+unfolding rowStarts
+rows-ext f g zero h = refl
+rows-ext f g (suc n) h = λ d. rows-ext f g n (λ i l. h i (omega arith)) d ++ starts-ext f g n (λ i l. h i (omega arith)) d ∷ []
+
 -- and so do the ways to the packed triangle and back
 same-cell : (f g : ℕ → ℕ) (n : ℕ) → ((i : ℕ) → i < n → f i ≡ g i) → (ks : List ℤ) (i j : ℕ) → i < n → j ≤ i → keptEntry f ks i j ≡ keptEntry g ks i j
 unfolding keptCell
