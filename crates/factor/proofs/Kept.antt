@@ -12,10 +12,11 @@ use Rattle.whole.specs.Nearest.{nearest}
 use Rattle.whole.specs.Sums.{sum}
 use Rattle.whole.specs.Packed.{tri, cell}
 use Rattle.whole.specs.Kept.{starts, spot, expand}
-use Rattle.whole.proofs.Sums.{sum-ext, sum-none, sum-skip}
+use Rattle.whole.proofs.Sums.{sum-ext, sum-skip}
 use Rattle.whole.proofs.Rounding.{left-none, right-none}
-use Rattle.whole.proofs.Kept.{Low, expand-cell, expand-left}
+use Rattle.whole.proofs.Kept.{Low, expand-cell, expand-left, expand-vanishes}
 use Rattle.paper.specs.Factor.{R, w, l, rowFrom}
+use Rattle.laws.proofs.KeptFactor.{Blank, w-none, l-none}
 use Rattle.factor.specs.Asks.{pastSum, wAt, lAt, along}
 
 -- w(i, j) and l(i, j), of kept rows
@@ -32,16 +33,14 @@ zeros n = replicate n (pos 0)
 module _ (first : ℕ → ℕ) (low : Low first) (n : ℕ) (ks : List ℤ) (i : ℕ) (h : i < n) where
   -- ---- left of the first column: w and l are 0, and nothing changes
 
+  blank : (j : ℕ) → Blank first low n i j (zeros j)
+  blank j = record { many = length-replicate j (pos 0); none = λ k q a. getD-replicate j k (pos 0) (pos 0) q }
+
   w-left : (j : ℕ) → j < first i → w (expand first n ks) (tri i) j (zeros j) ≡ pos 0
-  unfolding w
-  w-left j a = λ d. expand-left first n i j ks h (omega (arith, low i)) a d -ℤ none d
-    where
-      none : sum j (λ k. R (cell (expand first n ks) (tri j + k) *ℤ cell (zeros j) k)) ≡ pos 0
-      none = sum-none j _ (λ k q. ap (λ (z : ℤ). R (cell (expand first n ks) (tri j + k) *ℤ z)) (getD-replicate j k (pos 0) (pos 0) q) ∙ right-none (cell (expand first n ks) (tri j + k)) (2 ^ 20))
+  w-left j a = w-none first low n (expand first n ks) i j (zeros j) h a (expand-vanishes first low n ks) (blank j)
 
   l-left : (j : ℕ) → j < first i → l (expand first n ks) (tri i) j (zeros j) ≡ pos 0
-  unfolding l
-  l-left j a = let q = natAbs (cell (expand first n ks) (tri j + j)) in ap (λ (z : ℤ). nearest (z *ℤ pos (2 ^ 20)) q) (w-left j a) ∙ left-none (pos (2 ^ 20)) q
+  l-left j a = l-none first low n (expand first n ks) i j (zeros j) h a (expand-vanishes first low n ks) (blank j)
 
   stays : (j : ℕ) → j < first i → set (expand first n ks) (tri i + j) (pos 0) ≡ expand first n ks
   stays j a = ap (set (expand first n ks) (tri i + j)) (sym (expand-left first n i j ks h (omega (arith, low i)) a)) ∙ set-getD (expand first n ks) (tri i + j) (pos 0)

@@ -42,9 +42,9 @@ module _ (first : ℕ → ℕ) (low : Low first) (n : ℕ) where
       go (no q) = getD-set-other xs (tri i + j) (place i′ j′) v (pos 0) q ∙ z i′ j′ m k
 
   -- so far of row i: no w before its first column
-  record Blank (i j : ℕ) (ws : List ℤ) : Type 0 where
-    many : length ws ≡ j
-    none : (k : ℕ) → k < j → k < first i → cell ws k ≡ pos 0
+  pub record Blank (i j : ℕ) (ws : List ℤ) : Type 0 where
+    pub many : length ws ≡ j
+    pub none : (k : ℕ) → k < j → k < first i → cell ws k ≡ pos 0
 
   -- as long as it was, with the zeros that it had
   pub record Shaped (size : ℕ) (xs : List ℤ) : Type 0 where
@@ -52,7 +52,7 @@ module _ (first : ℕ → ℕ) (low : Low first) (n : ℕ) where
     pub zeros : Vanishes first n xs
 
   module _ (xs : List ℤ) (i j : ℕ) (ws : List ℤ) (h : i < n) (k : j < first i) (z : Vanishes first n xs) (b : Blank i j ws) where
-    w-none : w xs (tri i) j ws ≡ pos 0
+    pub w-none : w xs (tri i) j ws ≡ pos 0
     unfolding w
     w-none =
         λ d. here d
@@ -61,7 +61,7 @@ module _ (first : ℕ → ℕ) (low : Low first) (n : ℕ) where
         here : cell xs (tri i + j) ≡ pos 0
         here = ap (cell xs) (sym (place-low i j (omega (arith, low i)))) ∙ z i j h k
 
-    l-none : l xs (tri i) j ws ≡ pos 0
+    pub l-none : l xs (tri i) j ws ≡ pos 0
     unfolding l
     l-none = let q = natAbs (cell xs (tri j + j)) in ap (λ (y : ℤ). nearest (y *ℤ pos (2 ^ 20)) q) w-none ∙ left-none (pos (2 ^ 20)) q
 

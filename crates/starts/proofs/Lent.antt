@@ -1,26 +1,21 @@
 -- Laws of lent row starts: where rows end, reading and writing the packed triangle of kept rows, and the row starts of a deck and of
 -- packed triangles, which are as asked.
-use mathlib.Core.Path.{_≡_, refl, sym, ap, _∙_}
-use mathlib.Core.Bool.{Bool, true, false, not}
+use mathlib.Core.Path.{_≡_, refl, sym, ap, subst, _∙_}
 use mathlib.Core.Logic.{⊎-elim}
 use mathlib.Core.List.{List}
 use Prim.Native.Nat.{ℕ, suc, _+_, _-_, _≤_, _<_}
 use native.Mathlib.Nat as NatL
 use native.Mathlib.Omega.{arith}
-use borrow.Author.Tests.{eqb-true}
-use lib.Dec.{eqb}
-use lib.IntN.{ℤ, pos}
+use lib.IntN.{ℤ, pos, natAbs}
 use lib.ListN.{length, getD, set, length-set}
-use lib.Seq.{ext-getD}
 use Rattle.whole.specs.Packed.{tri, cell, entry}
-use Rattle.whole.specs.Kept.{starts, rowStarts, firstBy, expand, shrink}
-use Rattle.whole.proofs.Tests.{never}
-use Rattle.whole.proofs.Sums.{first-none}
+use Rattle.whole.specs.Kept.{starts, spot, rowStarts, firstBy, keptEntry, expand, shrink}
+use Rattle.whole.proofs.Packed.{place-low, place-swap, lower-within}
 use Rattle.whole.proofs.Lists.{getD-any, getD-past}
-use Rattle.whole.proofs.Kept.{Low, Vanishes, spot-end, spot-below, length-expand, expand-cell, expand-left, expand-vanishes, expand-set, shrink-expand}
+use Rattle.whole.proofs.Kept.{Low, Vanishes, spot-end, spot-below, by-first, entry-in, entry-left, length-expand, expand-cell, expand-left, expand-vanishes, expand-set, shrink-expand}
 use Rattle.whole.proofs.RowStarts.{by-low, length-starts, starts-at, starts-ext, expand-ext, told}
 use Rattle.paper.specs.Cards.{nodes}
-use Rattle.paper.specs.Coupled.{firstOf, strayRow}
+use Rattle.paper.specs.Coupled.{firstOf}
 use Rattle.laws.proofs.Firsts.{first-low}
 use Rattle.starts.specs.Lent.{Starts, by, wide, Turned, Covers, Laid}
 
@@ -56,6 +51,17 @@ module _ (st : List ℕ) (ks : List ℤ) where
   pub wide-vanishes : Vanishes (by st ks) (length st) (wide st ks)
   wide-vanishes = expand-vanishes (by st ks) wide-low (length st) ks
 
+  pub wide-none : (i j : ℕ) → i < length st → j < by st ks i → entry (wide st ks) j i ≡ pos 0
+  wide-none i j h a = ap (cell (wide st ks)) (place-swap j i) ∙ wide-vanishes i j h a
+
+  -- none is larger than the largest that is kept
+  pub wide-size : (b : ℕ) → ((k : ℕ) → natAbs (cell ks k) ≤ b) → (k : ℕ) → natAbs (cell (wide st ks) k) ≤ b
+  unfolding expand
+  wide-size b each = lower-within (length st) b (keptEntry (by st ks) ks) (λ i j h l.
+      by-first (by st ks) i j
+      (λ a. subst (λ (z : ℤ). natAbs z ≤ b) (sym (entry-in (by st ks) ks i j a l)) (each (spot (by st ks) i j)))
+      (λ a. subst (λ (z : ℤ). natAbs z ≤ b) (sym (entry-left (by st ks) ks i j l a)) (omega arith)))
+
   -- rows of the same length stand by the same first columns
   pub wide-by : (ls : List ℤ) → length ls ≡ length ks → wide st ls ≡ expand (by st ks) (length st) ls
   wide-by ls e = ap (λ (n : ℕ). expand (firstBy st n) (length st) ls) e
@@ -67,6 +73,18 @@ module _ (st : List ℕ) (ks : List ℤ) (lent : Starts st (length ks)) where
 
   pub wide-in : (i j : ℕ) → i < length st → j ≤ i → getD st i 0 + (j - by st ks i) < length ks
   wide-in i j h l = omega (arith, spot-below (by st ks) (wide-low st ks) i j (length st) h l, lent .each i h, lent .all)
+
+  -- at `at`, on either side of the diagonal
+  module _ (i j at : ℕ) (h : i < length st) (a : by st ks i ≤ j) (l : j ≤ i) (e : at ≡ getD st i 0 + (j - by st ks i)) where
+    pub entry-here : cell ks at ≡ entry (wide st ks) i j
+    entry-here = ap (cell ks) e ∙ sym (wide-cell i j h a l) ∙ ap (cell (wide st ks)) (sym (place-low i j l))
+
+    pub entry-across : cell ks at ≡ entry (wide st ks) j i
+    entry-across = entry-here ∙ ap (cell (wide st ks)) (place-swap i j)
+
+  -- the diagonal is a row's last
+  pub last-is : (i : ℕ) → i < length st → getD st (suc i) (length ks) - 1 ≡ getD st i 0 + (i - by st ks i)
+  last-is i h = omega (arith, ends lent i h, lent .each i h, spot-end (by st ks) (wide-low st ks) i)
 
   -- and set
   pub wide-set : (i j : ℕ) (v : ℤ) → i < length st → by st ks i ≤ j → j ≤ i → Turned st ks (set ks (getD st i 0 + (j - by st ks i)) v) (set (wide st ks) (tri i + j) v)
@@ -120,19 +138,3 @@ module _ (t : List ℕ) {long : ℕ} {st : List ℕ} where
 
   pub covers-packed : Laid long (λ i. 0) (nodes t) st → Covers t st long
   covers-packed laid i h = omega (arith, laid-first (λ i. omega arith) laid i h)
-
--- THEOREM. Row starts of which none is astray are the deck's.
-pub none-astray : (t st : List ℕ) (n : ℕ) → length st ≡ n → strayRow t n st ≡ 0 → st ≡ rowStarts (firstOf t) n
-unfolding strayRow
-none-astray t st n e z =
-    ext-getD 0 st (rowStarts (firstOf t) n) (e ∙ sym (length-starts (firstOf t) n))
-    (λ k l.
-    let h : k < n = omega (arith, e) in
-    is (getD st k 0) (starts (firstOf t) k) (first-none n 0 (λ i. not (eqb (getD st i 0) (starts (firstOf t) i))) z k (omega arith) (omega arith)) ∙ sym (starts-at (firstOf t) n k 0 h))
-  where
-    is : (a b : ℕ) → not (eqb a b) ≡ false → a ≡ b
-    is a b q = go (eqb a b) refl q
-      where
-        go : (x : Bool) → eqb a b ≡ x → not x ≡ false → a ≡ b
-        go true p r = eqb-true a b p
-        go false p r = never (sym r)
