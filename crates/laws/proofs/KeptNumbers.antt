@@ -18,35 +18,31 @@ use Rattle.whole.proofs.Sums.{first-ext}
 use Rattle.whole.proofs.RowStarts.{starts-ext}
 use Rattle.whole.proofs.Packed.{sides, place-swap, place-in, lower-ext, lower-eta}
 use Rattle.whole.proofs.Kept.{expand-entry, entry-low}
-use Rattle.paper.specs.Refusals.{Outcome, refused, done, when, unlessAt, after, andThen, answerOf}
+use Rattle.paper.specs.Refusals.{Outcome, refused, done, when, after, andThen, answerOf}
 use Rattle.paper.specs.Cards.{nodes, put}
 use Rattle.paper.specs.Judge.{judged, newJudged}
 use Rattle.paper.specs.Building.{Slices, slices, build}
-use Rattle.paper.specs.Lent.{foreign, laden, roomy, enough, opened, lentJudged}
+use Rattle.paper.specs.Lent.{foreign, roomy, enough, opened, lentJudged}
 use Rattle.paper.specs.Replacing.{stirs, replaced}
-use Rattle.paper.specs.Step.{Settling, boardOf, stepped, carriedOn, offScale}
 use Rattle.paper.specs.Coupled.{firstOf, strayRow}
-use Rattle.paper.specs.Calls.{over, Lent, Exit, long, closed, worked, inFactor, leaves, boardAt, endsStep, buildCall, replaceCall, stepCall}
+use Rattle.paper.specs.Calls.{over, Lent, Exit, long, closed, worked, inFactor, leaves, buildCall, replaceCall}
 use Rattle.paper.specs.Replacements.{ready, present, Asked, afterAll}
-use Rattle.paper.specs.KeptCalls.{Kept, widened, narrowed, keptRoomy, keptEnough, lengthsJudged, startsJudged, KeptExit, KeptStepExit, keptBuild, keptReplace, nodesJudged, keptStep}
+use Rattle.paper.specs.KeptCalls.{Kept, widened, narrowed, keptRoomy, lengthsJudged, startsJudged, KeptExit, keptBuild, keptReplace}
 use Rattle.paper.specs.KeptReplacements.{keptReady, keptAfterAll, SameNumbers, Alike}
 use Rattle.paper.specs.declared.Answer.{Answer}
 use Rattle.paper.specs.declared.Answer.the-variants.{Done, Refused}
 use Rattle.paper.specs.declared.Refusal.{Refusal}
-use Rattle.paper.specs.declared.Refusal.the-variants.{Short, Foreign, OffScale}
-use Rattle.paper.specs.declared.Stepped.the-variants as stepAnswer
-use Rattle.laws.proofs.Outcomes.{done-refused, done-inj, andThen-Done, Ends}
+use Rattle.paper.specs.declared.Refusal.the-variants.{Short, Foreign}
+use Rattle.laws.proofs.Outcomes.{done-inj, andThen-Done, Ends}
 use Rattle.laws.proofs.Refused.{plain-told}
 use Rattle.laws.proofs.Lent.{enough-told}
 use Rattle.laws.proofs.Narrowed.{over-all}
 use Rattle.laws.proofs.Calls as packed
-use Rattle.laws.proofs.Left.{besides}
 use Rattle.laws.proofs.Left as left
-use Rattle.laws.proofs.Settled.{stepOutcome}
 use Rattle.laws.proofs.KeptCalls.{replaceJudged, stray-none, stray-pass}
 use Rattle.laws.proofs.KeptCalls as calls
-use Rattle.laws.proofs.Widened.{BlankSlices, widened-blank, all-present, ends-by, SameRows, same-rows, build-kept, replace-made, replace-leaves, replace-answer, replace-kept, replace-rows, replace-widened, step-answer, step-kept}
-use Rattle.laws.proofs.KeptLeft.{refused-one, plain-left, replace-plain}
+use Rattle.laws.proofs.Widened.{BlankSlices, widened-blank, all-present, ends-by, SameRows, same-rows, build-kept, replace-made, replace-leaves, replace-answer, replace-kept, replace-rows, replace-widened}
+use Rattle.laws.proofs.KeptLeft.{plain-left, replace-plain}
 use Rattle.laws.proofs.KeptDemand3.{AsLong, narrowed-long, ready-same, wide-ready, ready-lengths, past-build, builds-as, build-holds, build-table, holds-starts}
 
 -- ---- one slice: the numbers by row and column, and the packed triangle
@@ -122,7 +118,7 @@ module _ (z : Kept) where
   unfolding widened
   wide-opened = all-present t (W .slices) (widened-blank (z .lent) .slices)
 
-  enough-wide : enough n (W .slices) ≡ true
+  pub enough-wide : enough n (W .slices) ≡ true
   unfolding widened
   enough-wide = and-told (enough n (W .slices)) (roomy n (W .work)) (wide-ready (z .lent)) .0
 
@@ -130,14 +126,14 @@ module _ (z : Kept) where
     abbrev y : Lent
     y = packedOf z s w
 
-    as-opened : opened n s ≡ opened n (W .slices)
+    pub as-opened : opened n s ≡ opened n (W .slices)
     as-opened = same ∙ sym wide-opened
 
     enough-y : enough n s ≡ true
     enough-y = and-told (enough n s) (roomy n w) far .0
 
     -- 9 and 10 alike
-    lent-same : (r r′ : Bool) → r ≡ r′ → lentJudged n s r ≡ lentJudged n (W .slices) r′
+    pub lent-same : (r r′ : Bool) → r ≡ r′ → lentJudged n s r ≡ lentJudged n (W .slices) r′
     unfolding lentJudged
     lent-same r r′ e = λ i. cond ((enough-y ∙ sym enough-wide) i && e i) (cond (foreign n (as-opened i)) (Refused Foreign) Done) (Refused Short)
 
@@ -389,112 +385,3 @@ alike-built z y et eo ec far packed-far = (answers, λ ok. alike ok)
           packed-room = g .room;
           starts = holds-starts z′ h;
         }
-
--- ---- a step
-
-module _ (z : Kept) where
-  abbrev rest : Bool
-  rest = leb (nodes (z .lent .table)) (length (z .lent .temperatures)) && leb (nodes (z .lent .table)) (length (z .lent .carried))
-
-  module _ (far : keptEnough z ≡ true) (g : startsJudged z ≡ Done) where
-    -- its first refusals: the deck's, and 9 of what is not a matrix
-    nodes-is : nodesJudged z ≡ andThen (judged (z .lent .table)) (cond rest Done (Refused Short))
-    unfolding lengthsJudged
-    nodes-is = (λ i. andThen (judged (z .lent .table)) (andThen (cond (far i && rest) Done (Refused Short)) (g i))) ∙ ap (andThen (judged (z .lent .table))) (andThen-Done (cond rest Done (Refused Short)))
-
-    step-outcome : (r : Refusal) → nodesJudged z ≡ Refused r → stepCall (widened (z .lent)) .answer ≡ stepAnswer.Refused r
-    unfolding stepCall widened lentJudged
-    step-outcome r e = go (judged (z .lent .table)) refl rest refl
-      where
-        W : Lent
-        W = widened (z .lent)
-
-        go : (a : Answer) → judged (z .lent .table) ≡ a → (b : Bool) → rest ≡ b → stepCall (widened (z .lent)) .answer ≡ stepAnswer.Refused r
-        go (Refused q) ea b eb =
-            let q-is : q ≡ r = refused-one (sym (nodes-is ∙ ap (λ (a : Answer). andThen a (cond rest Done (Refused Short))) ea) ∙ e) in
-            rw ea (ap stepAnswer.Refused q-is)
-        go Done ea true eb = done-refused (sym (sym (nodes-is ∙ (λ i. andThen (ea i) (cond (eb i) Done (Refused Short)))) ∙ e))
-        go Done ea false eb =
-            let q-is : Short ≡ r = refused-one (sym (nodes-is ∙ (λ i. andThen (ea i) (cond (eb i) Done (Refused Short)))) ∙ e) in
-            rw (ea, eb, enough-wide z) (ap stepAnswer.Refused q-is)
-
-    -- THEOREMS. Past 9 of the matrices and 17: a step answers as document 01's, and leaves what that leaves.
-    pub step-said : keptStep z .answer ≡ stepCall (widened (z .lent)) .answer
-    step-said = go (nodesJudged z) refl
-      where
-        go : (a : Answer) → nodesJudged z ≡ a → keptStep z .answer ≡ stepCall (widened (z .lent)) .answer
-        go (Refused r) e = ap (λ (x : KeptStepExit). x .answer) (sym (calls.step-refused z r e)) ∙ sym (step-outcome r e)
-        go Done e = step-answer z e
-
-    pub step-left : keptStep z .kept ≡ record { lent = besides (z .lent) (stepCall (widened (z .lent)) .lent); starts = z .starts }
-    unfolding widened
-    step-left = go (nodesJudged z) refl
-      where
-        go : (a : Answer) → nodesJudged z ≡ a → keptStep z .kept ≡ record { lent = besides (z .lent) (stepCall (widened (z .lent)) .lent); starts = z .starts }
-        go (Refused r) e =
-            ap (λ (x : KeptStepExit). x .kept) (sym (calls.step-refused z r e))
-            ∙ (λ i. record { lent = besides (z .lent) (sym (left.step-refused (widened (z .lent)) r (step-outcome r e)) i); starts = z .starts })
-        go Done e = step-kept z e
-
--- the same matrices, with other temperatures and other carried numbers
-abbrev pub warmed : Kept → Lent → Kept
-warmed z x = record { lent = besides (z .lent) x; starts = z .starts }
-
-module _ (z : Kept) (s : Slices) (w : List ℤ) (same : opened (nodes (z .lent .table)) s ≡ widened (z .lent) .slices) (far : enough (nodes (z .lent .table)) s && roomy (nodes (z .lent .table)) w ≡ true) where
-  step-same-outcome : stepOutcome (packedOf z s w) ≡ stepOutcome (widened (z .lent))
-  unfolding widened
-  step-same-outcome =
-      let t = z .lent .table in
-      let n = nodes t in
-      let o = as-opened z s w same far in
-      λ i.
-      after (judged t)
-      (after (lent-same z s w same far (rest z) (rest z) refl i)
-      (when (not (laden n (z .lent .carried))) Foreign
-      (unlessAt (offScale n (z .lent .temperatures)) OffScale
-      (stepped (boardOf t (o i .p) (o i .a) (take n (z .lent .temperatures)) (take n (z .lent .carried))) (o i .factor)))))
-
-  -- THEOREM. A step of the packed slices is that of the packed triangles, but for the slices themselves.
-  pub step-as-wide : let x = stepCall (widened (z .lent)) in (stepCall (packedOf z s w) .answer ≡ x .answer) × (stepCall (packedOf z s w) .lent ≡ packedOf (warmed z (x .lent)) s w)
-  unfolding stepCall widened
-  step-as-wide =
-      let (a, l) = go (stepOutcome (widened (z .lent))) in
-      (ap (λ (o : Outcome Settling). endsStep (packedOf z s w) o .answer) step-same-outcome ∙ a, ap (λ (o : Outcome Settling). endsStep (packedOf z s w) o .lent) step-same-outcome ∙ l)
-    where
-      board : boardAt (packedOf z s w) ≡ boardAt (widened (z .lent))
-      board = let o = as-opened z s w same far in let n = nodes (z .lent .table) in λ i. boardOf (z .lent .table) (o i .p) (o i .a) (take n (z .lent .temperatures)) (take n (z .lent .carried))
-
-      go : (o : Outcome Settling) → (endsStep (packedOf z s w) o .answer ≡ endsStep (widened (z .lent)) o .answer) × (endsStep (packedOf z s w) o .lent ≡ packedOf (warmed z (endsStep (widened (z .lent)) o .lent)) s w)
-      go (refused r) = (refl, refl)
-      go (done x) = (refl, λ i. record { table = z .lent .table; slices = s; work = w; temperatures = over (x .temperatures) (z .lent .temperatures); carried = over (carriedOn (board i) (x .residuals)) (z .lent .carried) })
-
--- alike stays alike where temperatures and carried numbers are the same
-pub warmed-alike : (z : Kept) (s : Slices) (w : List ℤ) (x : Lent) → Alike z (packedOf z s w) → Alike (warmed z x) (packedOf (warmed z x) s w)
-unfolding keptEnough startsJudged
-warmed-alike z s w x k = record {
-  numbers = record { table = refl; p = k .numbers .p; a = k .numbers .a; factor = k .numbers .factor; temperatures = refl; carried = refl };
-  room = k .room;
-  packed-room = k .packed-room;
-  starts = k .starts;
-}
-
--- what alike slices are
-module _ (z : Kept) (s : Slices) (w : List ℤ) (k : Alike z (packedOf z s w)) where
-  enough-kept : keptEnough z ≡ true
-  enough-kept = and-told (keptEnough z) (keptRoomy (z .lent .table) (z .lent .work)) (k .room) .0
-
-  pub opened-same : opened (nodes (z .lent .table)) s ≡ widened (z .lent) .slices
-  opened-same = numbers-slices z s w (and-told (enough (nodes (z .lent .table)) s) (roomy (nodes (z .lent .table)) w) (k .packed-room) .0) (k .numbers)
-
-  stepped-alike : (keptStep z .answer ≡ stepCall (packedOf z s w) .answer) × Alike (keptStep z .kept) (stepCall (packedOf z s w) .lent)
-  stepped-alike =
-      let W = widened (z .lent) in
-      let (a, l) = step-as-wide z s w opened-same (k .packed-room) in
-      let is = step-left z enough-kept (k .starts) in
-      (step-said z enough-kept (k .starts) ∙ sym a, subst (λ (x : Kept). Alike x (stepCall (packedOf z s w) .lent)) (sym is) (subst (Alike (warmed z (stepCall W .lent))) (sym l) (warmed-alike z s w (stepCall W .lent) k)))
-
--- THEOREM. A step of either: the same answer, and alike again; short temperatures are refused alike too.
-pub alike-stepped : (z : Kept) (y : Lent) → Alike z y → (keptStep z .answer ≡ stepCall y .answer) × Alike (keptStep z .kept) (stepCall y .lent)
-alike-stepped z y k =
-    let is = packed-is z y (k .numbers) in
-    subst (λ (x : Lent). (keptStep z .answer ≡ stepCall x .answer) × Alike (keptStep z .kept) (stepCall x .lent)) (sym is) (stepped-alike z (y .slices) (y .work) (subst (Alike z) is k))

@@ -53,7 +53,7 @@ pub mod Widened
 pub mod KeptLeft
 pub mod KeptDemand3
 pub mod KeptNumbers
-pub mod KeptRuns
+pub mod KeptSteps
 pub mod Balance
 pub mod Book
 pub mod KeptBook

@@ -27,7 +27,7 @@ use Rattle.paper.specs.declared.Refusal.the-variants.{Stray}
 use Rattle.paper.specs.declared.Stepped.the-variants as stepAnswer
 use Rattle.paper.specs.declared.Ran.the-variants as runAnswer
 use Rattle.laws.proofs.KeptNumbers as numbers
-use Rattle.laws.proofs.KeptRuns as runs
+use Rattle.laws.proofs.KeptSteps as steps
 use Rattle.laws.proofs.KeptOwn as own
 use Rattle.laws.proofs.KeptLeft as leaves
 use Rattle.laws.proofs.KeptDemand3 as calls
@@ -65,10 +65,10 @@ pub all-alike : (z : Kept) (y : Lent) (asked : List Asked) → Alike z y → Ali
 all-alike = numbers.all-alike
 
 pub stepped-alike : (z : Kept) (y : Lent) → Alike z y → (keptStep z .answer ≡ stepCall y .answer) × Alike (keptStep z .kept) (stepCall y .lent)
-stepped-alike = numbers.alike-stepped
+stepped-alike = steps.alike-stepped
 
 pub ran-alike : (z : Kept) (y : Lent) → Alike z y → nodesJudged z ≡ Done → (keptRun z .answer ≡ runCall y .answer) × Alike (keptRun z .kept) (runCall y .lent)
-ran-alike = runs.alike-ran
+ran-alike = steps.alike-ran
 
 -- a step that settles is the packed form's on what is lent with zeros put left of the first columns: all that Step says of that one is said of it
 pub settled-as-packed : (z : Kept) (c : ℕ) → keptStep z .answer ≡ stepAnswer.Settled c → let x = stepCall (widened (z .lent)) in
