@@ -18,11 +18,8 @@ use Rattle.square.proofs.Held.{mass-size}
 use Rattle.part.proofs.Parts.{four-at-most, stored-size}
 use Rattle.laws.proofs.Tables.{row-field}
 use Rattle.change.specs.Asks.{Changes, Added, Taken}
+use Rattle.packed.proofs.Assembling.{part-row}
 use Rattle.change.proofs.Forming.{old-card, same-corners}
-
--- the card in a row, as its six numbers
-pub part-row : (t : List ℕ) (row : ℕ) → partAt t row ≡ partFor t (rowAt t row)
-part-row t row = ap (λ (l : ℕ). partOf t (rowAt t row) (kindOf l)) (sym (row-field t row 0 (omega arith)))
 
 -- the square before the first card
 abbrev pub none : List (List ℤ)

@@ -15,6 +15,7 @@ ghost use Rattle.paper.specs.Replacing.{stirs, formOf};
 ghost use Rattle.paper.specs.declared.Answer.the-variants.{Done};
 ghost use Rattle.laws.proofs.Decks.{Deck};
 ghost use Rattle.laws.proofs.Places.{squareP, squareA, addSquare};
+ghost use Rattle.starts.specs.Lent.{wide, Turned};
 ghost use Rattle.triangle.specs.Forms.{numbers};
 ghost use Rattle.element.specs.Asks.{ElementCard};
 ghost use Rattle.part.specs.Asks.{Card, Solid};
@@ -97,13 +98,20 @@ pub fn stored(table: &[u32], row: usize, new: [u32; 6]) -> [[i64; 4]; 4]
 // ---- writing
 
 // P and A, at the same corners.
-pub fn matrices(p: &mut [i64], a: &mut [i64], c: Corners, u: [[i64; 4]; 4], q: [[i64; 4]; 4])
-    requires { ⌜ Takes (c .count) (now p) (numbers (c .nodes)) u × Takes (c .count) (now a) (numbers (c .nodes)) q ⌝ }
-    ensures { λ _. ⌜ now (p .exit) ≡ addSquare (c .count) (now (p .entry)) (numbers (c .nodes)) (at u) ⌝ }
-    ensures { λ _. ⌜ now (a .exit) ≡ addSquare (c .count) (now (a .entry)) (numbers (c .nodes)) (at q) ⌝ }
+pub fn matrices(
+    p: &mut [i64],
+    a: &mut [i64],
+    starts: &[u32],
+    c: Corners,
+    u: [[i64; 4]; 4],
+    q: [[i64; 4]; 4],
+)
+    requires { ⌜ Takes (c .count) (now starts) (now p) (numbers (c .nodes)) u × Takes (c .count) (now starts) (now a) (numbers (c .nodes)) q ⌝ }
+    ensures { λ _. ⌜ Turned (now (starts .entry)) (now (p .entry)) (now (p .exit)) (addSquare (c .count) (wide (now (starts .entry)) (now (p .entry))) (numbers (c .nodes)) (at u)) ⌝ }
+    ensures { λ _. ⌜ Turned (now (starts .entry)) (now (a .entry)) (now (a .exit)) (addSquare (c .count) (wide (now (starts .entry)) (now (a .entry))) (numbers (c .nodes)) (at q)) ⌝ }
 {
-    packed::add_square(p, c, u);
-    packed::add_square(a, c, q);
+    packed::add_square(p, starts, c, u);
+    packed::add_square(a, starts, c, q);
 }
 
 // The card in its row.

@@ -49,11 +49,11 @@ copy-on card out k h l e =
     (ap (λ (s : List ℕ). s ++ drop (suc k) card) (take-suc-set out k (getD card k 0) l) ∙ append-assoc (take k out) (getD card k 0 ∷ []) (drop (suc k) card)
     ∙ ap (λ (s : List ℕ). take k out ++ s) (sym (drop-cons card k 0 h)) ∙ e)
 
-pub copy-end : (card out : List ℕ) (k : ℕ) → length card ≡ 6 → length out ≡ 6 → k ≡ 6 → take k out ++ drop k card ≡ card → out ≡ card
-copy-end card out k h l e i =
-    let a : length out ≤ 6 = omega arith in
-    let d : length card ≤ 6 = omega arith in
-    sym (append-nil out) ∙ ap (λ (s : List ℕ). s ++ []) (sym (take-all 6 out a)) ∙ ap (λ (s : List ℕ). take 6 out ++ s) (sym (drop-of-length-le card {i = 6} d))
+pub copy-end : (n : ℕ) (card out : List ℕ) (k : ℕ) → length card ≡ n → length out ≡ n → k ≡ n → take k out ++ drop k card ≡ card → out ≡ card
+copy-end n card out k h l e i =
+    let a : length out ≤ n = omega arith in
+    let d : length card ≤ n = omega arith in
+    sym (append-nil out) ∙ ap (λ (s : List ℕ). s ++ []) (sym (take-all n out a)) ∙ ap (λ (s : List ℕ). take n out ++ s) (sym (drop-of-length-le card {i = n} d))
     ∙ ap (λ (j : ℕ). take j out ++ drop j card) (sym e) ∙ i
 
 -- what `&l[at..]` is
