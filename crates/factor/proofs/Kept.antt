@@ -1,123 +1,122 @@
--- The packed factor over kept rows, zeros put left of the first columns: w and l are 0 there, and from the first column on their
--- sums start at the later of the two rows' first columns.
-use mathlib.Core.Path.{_≡_, refl, sym, ap, _∙_}
-use mathlib.Core.List.{List, [], _∷_, _++_, append-nil}
+-- The packed factor over kept rows, zeros put left of the first columns: w and l are 0 there, and from the first column on w's sum
+-- starts at the later of the two rows' first columns.
+use mathlib.Core.Path.{_≡_, sym, ap, _∙_}
+use mathlib.Core.List.{List}
 use Prim.Native.Nat.{ℕ, zero, suc, _+_, _-_, _^_, _≤_, _<_, max}
 use native.Mathlib.Decide.{decLt}
 use native.Mathlib.Omega.{arith}
-use lib.IntN.{ℤ, pos, natAbs, _-ℤ_, _*ℤ_}
-use lib.ListN.{length, set, take, replicate, length-replicate, getD-replicate, replicate-append-replicate, List·getD-append}
-use lib.Seq.{getD-append-add, getD-take, set-getD}
+use lib.IntN.{ℤ, pos, natAbs, _-ℤ_, _*ℤ_, +ℤ-idr}
+use lib.ListN.{set, drop}
+use lib.Seq.{getD-drop, set-getD}
 use Rattle.whole.specs.Nearest.{nearest}
 use Rattle.whole.specs.Sums.{sum}
 use Rattle.whole.specs.Packed.{tri, cell}
 use Rattle.whole.specs.Kept.{starts, spot, expand}
-use Rattle.whole.proofs.Sums.{sum-ext, sum-skip}
+use Rattle.whole.proofs.Sums.{sum-ext, sum-none, sum-skip}
 use Rattle.whole.proofs.Rounding.{left-none, right-none}
-use Rattle.whole.proofs.Kept.{Low, expand-cell, expand-left, expand-vanishes}
-use Rattle.paper.specs.Factor.{R, w, l, rowFrom}
-use Rattle.laws.proofs.KeptFactor.{Blank, w-none, l-none}
-use Rattle.factor.specs.Asks.{pastSum, wAt, lAt, along}
+use Rattle.whole.proofs.Kept.{Low, expand-cell, expand-left}
+use Rattle.paper.specs.Refusals.{Outcome}
+use Rattle.paper.specs.Factor.{R, w}
+use Rattle.factor.specs.Asks.{pastSum, wAt}
+use Rattle.factor.specs.InPlace.{wIn, lIn, wsFrom, lsFrom}
 
--- w(i, j) and l(i, j), of kept rows
-abbrev pub keptW : (ℕ → ℕ) → List ℤ → ℕ → ℕ → List ℤ → ℤ
-keptW first ks i j ws = wAt ks (starts first i) (first i) (starts first j) (first j) j ws
+-- w(i, j) of kept rows, and l(i, j) of a row that holds w(i, j)
+abbrev pub keptW : (ℕ → ℕ) → List ℤ → ℕ → ℕ → ℤ
+keptW first ks i j = wAt ks (starts first i) (first i) (starts first j) (first j) j
 
-abbrev pub keptL : (ℕ → ℕ) → List ℤ → ℕ → ℕ → List ℤ → ℤ
-keptL first ks i j ws = lAt ks (starts first i) (first i) (starts first j) (first j) j ws
+abbrev pub keptL : (ℕ → ℕ) → List ℤ → ℕ → ℕ → ℤ
+keptL first ks i j = nearest (cell ks (spot first i j) *ℤ pos (2 ^ 20)) (natAbs (cell ks (spot first j j)))
 
--- n numbers 0
-abbrev zeros : ℕ → List ℤ
-zeros n = replicate n (pos 0)
+-- columns that change nothing are skipped
+skipped : (f : ℕ → ℕ → Outcome (List ℤ)) (m : ℕ) → ((r j : ℕ) → j < m → f (suc r) j ≡ f r (suc j)) → (d r j : ℕ) → j + d ≡ m → f (d + r) j ≡ f r m
+skipped f m step zero r j e =
+    let q : j ≡ m = omega arith in
+    let z : 0 + r ≡ r = omega arith in
+    λ k. f (z k) (q k)
+skipped f m step (suc d) r j e =
+    let z : suc d + r ≡ suc (d + r) = omega arith in
+    ap (λ (k : ℕ). f k j) z ∙ step (d + r) j (omega arith) ∙ skipped f m step d r (suc j) (omega arith)
 
 module _ (first : ℕ → ℕ) (low : Low first) (n : ℕ) (ks : List ℤ) (i : ℕ) (h : i < n) where
   -- ---- left of the first column: w and l are 0, and nothing changes
 
-  blank : (j : ℕ) → Blank first low n i j (zeros j)
-  blank j = record { many = length-replicate j (pos 0); none = λ k q a. getD-replicate j k (pos 0) (pos 0) q }
+  none : (j : ℕ) → j < first i → cell (expand first n ks) (tri i + j) ≡ pos 0
+  none j a = expand-left first n i j ks h (omega (arith, low i)) a
 
-  w-left : (j : ℕ) → j < first i → w (expand first n ks) (tri i) j (zeros j) ≡ pos 0
-  w-left j a = w-none first low n (expand first n ks) i j (zeros j) h a (expand-vanishes first low n ks) (blank j)
+  w-left : (j : ℕ) → j < first i → wIn (expand first n ks) i j ≡ pos 0
+  unfolding w
+  w-left j a =
+      λ d. none j a d
+      -ℤ sum-none j (λ k. R (cell (expand first n ks) (tri j + k) *ℤ cell (drop (tri i) (expand first n ks)) k))
+      (λ k q. ap (λ (z : ℤ). R (cell (expand first n ks) (tri j + k) *ℤ z)) (getD-drop (tri i) (expand first n ks) k (pos 0) ∙ none k (omega arith)) ∙ right-none (cell (expand first n ks) (tri j + k)) (2 ^ 20)) d
 
-  l-left : (j : ℕ) → j < first i → l (expand first n ks) (tri i) j (zeros j) ≡ pos 0
-  l-left j a = l-none first low n (expand first n ks) i j (zeros j) h a (expand-vanishes first low n ks) (blank j)
+  l-left : (j : ℕ) → j < first i → lIn (expand first n ks) i j ≡ pos 0
+  l-left j a = let q = natAbs (cell (expand first n ks) (tri j + j)) in ap (λ (z : ℤ). nearest (z *ℤ pos (2 ^ 20)) q) (none j a) ∙ left-none (pos (2 ^ 20)) q
 
   stays : (j : ℕ) → j < first i → set (expand first n ks) (tri i + j) (pos 0) ≡ expand first n ks
-  stays j a = ap (set (expand first n ks) (tri i + j)) (sym (expand-left first n i j ks h (omega (arith, low i)) a)) ∙ set-getD (expand first n ks) (tri i + j) (pos 0)
+  stays j a = ap (set (expand first n ks) (tri i + j)) (sym (none j a)) ∙ set-getD (expand first n ks) (tri i + j) (pos 0)
 
-  left-step : (r j : ℕ) → j < first i → rowFrom (suc r) i j (expand first n ks) (zeros j) ≡ rowFrom r i (suc j) (expand first n ks) (zeros (suc j))
-  unfolding rowFrom
-  left-step r j a = rw (w-left j a, l-left j a, stays j a, more)
-    where
-      more : zeros j ++ pos 0 ∷ [] ≡ zeros (suc j)
-      more = let e : j + 1 ≡ suc j = omega arith in replicate-append-replicate j 1 (pos 0) ∙ ap zeros e
+  ws-left : (r j : ℕ) → j < first i → wsFrom (suc r) i j (expand first n ks) ≡ wsFrom r i (suc j) (expand first n ks)
+  unfolding wsFrom
+  ws-left r j a = rw (w-left j a, stays j a)
 
-  skipped : (d r j : ℕ) → j + d ≡ first i → rowFrom (d + r) i j (expand first n ks) (zeros j) ≡ rowFrom r i (first i) (expand first n ks) (zeros (first i))
-  skipped zero r j e =
-      let q : j ≡ first i = omega arith in
-      let z : 0 + r ≡ r = omega arith in
-      λ k. rowFrom (z k) i (q k) (expand first n ks) (zeros (q k))
-  skipped (suc d) r j e =
-      let z : suc d + r ≡ suc (d + r) = omega arith in
-      ap (λ (m : ℕ). rowFrom m i j (expand first n ks) (zeros j)) z ∙ left-step (d + r) j (omega arith) ∙ skipped d r (suc j) (omega arith)
+  ls-left : (past : ℤ) (r j : ℕ) → j < first i → lsFrom (suc r) i j (expand first n ks) past ≡ lsFrom r i (suc j) (expand first n ks) past
+  unfolding lsFrom
+  ls-left past r j a = rw (l-left j a, stays j a, left-none (cell (expand first n ks) (tri i + j)) (2 ^ 20), +ℤ-idr past)
 
   -- THEOREM. A row begins at its first column.
-  pub begins : (ws : List ℤ) → rowFrom (i - first i) i (first i) (expand first n ks) (along (first i) (first i) ws) ≡ rowFrom i i 0 (expand first n ks) []
-  begins ws =
-      let z : first i - first i ≡ 0 = omega arith in
+  begins : (f : ℕ → ℕ → Outcome (List ℤ)) → ((r j : ℕ) → j < first i → f (suc r) j ≡ f r (suc j)) → f (i - first i) (first i) ≡ f i 0
+  begins f step =
       let e : i ≡ first i + (i - first i) = omega (arith, low i) in
-      ap (λ (k : ℕ). rowFrom (i - first i) i (first i) (expand first n ks) (zeros (first i) ++ take k ws)) z
-      ∙ ap (rowFrom (i - first i) i (first i) (expand first n ks)) (append-nil (zeros (first i)))
-      ∙ sym (ap (λ (r : ℕ). rowFrom r i 0 (expand first n ks) []) e ∙ skipped (first i) (i - first i) 0 (omega arith))
+      sym (ap (λ (r : ℕ). f r 0) e ∙ skipped f (first i) step (first i) (i - first i) 0 (omega arith))
+
+  pub ws-begin : wsFrom (i - first i) i (first i) (expand first n ks) ≡ wsFrom i i 0 (expand first n ks)
+  ws-begin = begins (λ r j. wsFrom r i j (expand first n ks)) ws-left
+
+  pub ls-begin : (past : ℤ) → lsFrom (i - first i) i (first i) (expand first n ks) past ≡ lsFrom i i 0 (expand first n ks) past
+  ls-begin past = begins (λ r j. lsFrom r i j (expand first n ks) past) (ls-left past)
 
   -- ---- from the first column on
 
-  module _ (j : ℕ) (a : first i ≤ j) (b : j ≤ i) (ws : List ℤ) where
-    along-left : (k : ℕ) → k < first i → cell (along (first i) j ws) k ≡ pos 0
-    along-left k q =
-        List·getD-append (zeros (first i)) (take (j - first i) ws) (pos 0) k (omega (arith, length-replicate (first i) (pos 0))) ∙ getD-replicate (first i) k (pos 0) (pos 0) q
-
-    along-at : (k : ℕ) → k < j - first i → cell (along (first i) j ws) (first i + k) ≡ cell ws k
-    along-at k q =
-        ap (λ (m : ℕ). cell (along (first i) j ws) (m + k)) (sym (length-replicate (first i) (pos 0)))
-        ∙ getD-append-add (zeros (first i)) (take (j - first i) ws) k (pos 0) ∙ getD-take (j - first i) ws k (pos 0) q
-
+  module _ (j : ℕ) (a : first i ≤ j) (b : j ≤ i) where
     term : ℕ → ℤ
-    term k = R (cell (expand first n ks) (tri j + k) *ℤ cell (along (first i) j ws) k)
+    term k = R (cell (expand first n ks) (tri j + k) *ℤ cell (drop (tri i) (expand first n ks)) k)
+
+    along : (k : ℕ) → cell (drop (tri i) (expand first n ks)) k ≡ cell (expand first n ks) (tri i + k)
+    along k = getD-drop (tri i) (expand first n ks) k (pos 0)
 
     -- no term before both rows have numbers
     term-left : (k : ℕ) → k < max (first i) (first j) → term k ≡ pos 0
     unfolding term
     term-left k q = go (decLt k (first i))
       where
-        go : Dec (k < first i) → R (cell (expand first n ks) (tri j + k) *ℤ cell (along (first i) j ws) k) ≡ pos 0
-        go (yes p) = ap (λ (z : ℤ). R (cell (expand first n ks) (tri j + k) *ℤ z)) (along-left k p) ∙ right-none (cell (expand first n ks) (tri j + k)) (2 ^ 20)
+        go : Dec (k < first i) → R (cell (expand first n ks) (tri j + k) *ℤ cell (drop (tri i) (expand first n ks)) k) ≡ pos 0
+        go (yes p) = ap (λ (z : ℤ). R (cell (expand first n ks) (tri j + k) *ℤ z)) (along k ∙ none k p) ∙ right-none (cell (expand first n ks) (tri j + k)) (2 ^ 20)
         go (no p) =
             let p′ : k < first i → ⊥ = p in
             let q′ : k < first j = omega arith in
-            ap (λ (z : ℤ). R (z *ℤ cell (along (first i) j ws) k)) (expand-left first n j k ks (omega arith) (omega (arith, low j)) q′)
-            ∙ left-none (cell (along (first i) j ws) k) (2 ^ 20)
+            ap (λ (z : ℤ). R (z *ℤ cell (drop (tri i) (expand first n ks)) k)) (expand-left first n j k ks (omega arith) (omega (arith, low j)) q′)
+            ∙ left-none (cell (drop (tri i) (expand first n ks)) k) (2 ^ 20)
 
     -- and from there on they are the kept rows'
     term-at : (k : ℕ) → k < j - max (first i) (first j)
-        → term (max (first i) (first j) + k) ≡ R (cell ks (starts first j + (max (first i) (first j) - first j) + k) *ℤ cell ws (max (first i) (first j) - first i + k))
+        → term (max (first i) (first j) + k) ≡ R (cell ks (starts first j + (max (first i) (first j) - first j) + k) *ℤ cell ks (starts first i + (max (first i) (first j) - first i) + k))
     unfolding term
     term-at k q =
         let c = max (first i) (first j) in
         let e : spot first j (c + k) ≡ starts first j + (c - first j) + k = omega arith in
-        let f : c + k ≡ first i + (c - first i + k) = omega arith in
+        let f : spot first i (c + k) ≡ starts first i + (c - first i) + k = omega arith in
         let x : cell (expand first n ks) (tri j + (c + k)) ≡ cell ks (starts first j + (c - first j) + k) = expand-cell first n j (c + k) ks (omega arith) (omega arith) (omega arith) ∙ ap (cell ks) e in
-        let y : cell (along (first i) j ws) (c + k) ≡ cell ws (c - first i + k) = ap (cell (along (first i) j ws)) f ∙ along-at (c - first i + k) (omega arith) in
+        let y : cell (drop (tri i) (expand first n ks)) (c + k) ≡ cell ks (starts first i + (c - first i) + k) = along (c + k) ∙ expand-cell first n i (c + k) ks h (omega arith) (omega arith) ∙ ap (cell ks) f in
         λ d. R (x d *ℤ y d)
 
     -- THEOREM. w and l of the packed row are those of the kept one.
-    pub w-kept : w (expand first n ks) (tri i) j (along (first i) j ws) ≡ keptW first ks i j ws
+    pub w-kept : wIn (expand first n ks) i j ≡ keptW first ks i j
     unfolding w wAt pastSum term
     w-kept = λ d. expand-cell first n i j ks h a b d -ℤ sums d
       where
-        sums : sum j term ≡ sum (j - max (first i) (first j)) (λ k. R (cell ks (starts first j + (max (first i) (first j) - first j) + k) *ℤ cell ws (max (first i) (first j) - first i + k)))
+        sums : sum j term ≡ sum (j - max (first i) (first j)) (λ k. R (cell ks (starts first j + (max (first i) (first j) - first j) + k) *ℤ cell ks (starts first i + (max (first i) (first j) - first i) + k)))
         sums = sum-skip (max (first i) (first j)) j term (omega (arith, low j)) term-left ∙ sum-ext (j - max (first i) (first j)) _ _ term-at
 
-    pub l-kept : l (expand first n ks) (tri i) j (along (first i) j ws) ≡ keptL first ks i j ws
-    unfolding l lAt
-    l-kept = λ d. nearest (w-kept d *ℤ pos (2 ^ 20)) (natAbs (expand-cell first n j j ks (omega arith) (low j) (omega arith) d))
+    pub l-kept : lIn (expand first n ks) i j ≡ keptL first ks i j
+    l-kept = λ d. nearest (expand-cell first n i j ks h a b d *ℤ pos (2 ^ 20)) (natAbs (expand-cell first n j j ks (omega arith) (low j) (omega arith) d))

@@ -10,7 +10,8 @@ ghost use Rattle.whole.specs.Sums.{sum};
 ghost use Rattle.paper.specs.Refusals.{done, after};
 ghost use Rattle.paper.specs.Factor.{R, small, rowFrom, rowsFrom};
 ghost use Rattle.starts.specs.Lent.{by, wide};
-ghost use Rattle.factor.specs.Asks.{Ready, Terms, Past, pastSum, wAt, Entry, Column, ColumnDone, along, Here, ColumnsDone, RowDone};
+ghost use Rattle.factor.specs.Asks.{Ready, Terms, Past, pastSum, wAt, Entry, ColumnDone, Here, ColumnsDone, Diagonal, RowDone};
+ghost use Rattle.factor.specs.InPlace.{ended, lsFrom};
 use paper::Answer;
 use paper::Refusal;
 
@@ -61,60 +62,47 @@ fn dot(ls: &[i64], ws: &[i64]) -> i64
 }
 
 // The sum of w's definition from column c on, where both rows have numbers.
-fn past(work: &[i64], ws: &[i64], fi: usize, at: usize, fj: usize, j: usize, c: usize) -> i64
-    requires { ⌜ Past (now work) (now ws) fi at fj j c ⌝ }
-    ensures { λ r. ⌜ r ≡ pastSum (now (work .entry)) (now (ws .entry)) fi at fj j c ⌝ }
+fn past(work: &[i64], s: usize, fi: usize, at: usize, fj: usize, j: usize, c: usize) -> i64
+    requires { ⌜ Past (now work) s fi at fj j c ⌝ }
+    ensures { λ r. ⌜ r ≡ pastSum (now (work .entry)) s fi at fj j c ⌝ }
 {
     let from = at + (c - fj);
-    dot(&work[from..from + (j - c)], &ws[c - fi..])
+    dot(&work[from..from + (j - c)], &work[s + (c - fi)..])
 }
 
 // w at column j of the row that starts at s with column fi; row j starts at `at` with column fj.
-fn entry(work: &[i64], ws: &[i64], s: usize, fi: usize, at: usize, fj: usize, j: usize) -> i64
-    requires { ⌜ Entry (now work) (now ws) s fi at fj j ⌝ }
-    ensures { λ r. ⌜ r ≡ wAt (now (work .entry)) s fi at fj j (now (ws .entry)) ⌝ }
+fn entry(work: &[i64], s: usize, fi: usize, at: usize, fj: usize, j: usize) -> i64
+    requires { ⌜ Entry (now work) s fi at fj j ⌝ }
+    ensures { λ r. ⌜ r ≡ wAt (now (work .entry)) s fi at fj j ⌝ }
 {
     let c = later(fi, fj);
-    whole::minus(work[s + (j - fi)], past(work, ws, fi, at, fj, j, c))
+    whole::minus(work[s + (j - fi)], past(work, s, fi, at, fj, j, c))
 }
 
-// Column j: its w goes to ws, its l to the row. False where one of the two is too large.
-fn column(
-    work: &mut [i64],
-    ws: &mut [i64],
-    s: usize,
-    fi: usize,
-    at: usize,
-    fj: usize,
-    j: usize,
-) -> bool
-    requires { ⌜ Column (now work) (now ws) s fi at fj j ⌝ }
-    ensures { λ r. ⌜ ColumnDone r s fi at fj j (now (work .entry)) (now (ws .entry)) (now (work .exit)) (now (ws .exit)) ⌝ }
+// Column j: its w goes where its l will stand. False where it is too large.
+fn column(work: &mut [i64], s: usize, fi: usize, at: usize, fj: usize, j: usize) -> bool
+    requires { ⌜ Entry (now work) s fi at fj j ⌝ }
+    ensures { λ r. ⌜ ColumnDone r s fi at fj j (now (work .entry)) (now (work .exit)) ⌝ }
 {
-    let w = entry(&work[..], &ws[..], s, fi, at, fj, j);
+    let w = entry(&work[..], s, fi, at, fj, j);
     if !bounded_w(w) {
         return false;
     }
-    let l = whole::ratio(w, work[at + (j - fj)]);
-    if !bounded_l(l) {
-        return false;
-    }
-    work[s + (j - fi)] = l;
-    ws[j - fi] = w;
+    work[s + (j - fi)] = w;
     true
 }
 
-// The columns of row i left of the diagonal, from its first one.
-fn columns(work: &mut [i64], ws: &mut [i64], starts: &[u32], s: usize, fi: usize, i: usize) -> bool
-    requires { ⌜ Here (now starts) (now work) (now ws) s fi i fi ⌝ }
-    ensures { λ r. ⌜ ColumnsDone r (by (now (starts .entry)) (now (work .entry))) (length (now (starts .entry))) i (now (work .entry)) (now (work .exit)) (now (ws .exit)) ⌝ }
+// The numbers w of row i left of the diagonal, from its first column.
+fn columns(work: &mut [i64], starts: &[u32], s: usize, fi: usize, i: usize) -> bool
+    requires { ⌜ Here (now starts) (now work) s fi i fi fi ⌝ }
+    ensures { λ r. ⌜ ColumnsDone r (by (now (starts .entry)) (now (work .entry))) (length (now (starts .entry))) i (now (work .entry)) (now (work .exit)) ⌝ }
 {
     let mut j = fi;
     let mut at = starts::start(starts, fi);
     while j < i {
         let end = starts::start(starts, j + 1);
         let fj = first(at, end, j);
-        if !column(&mut work[..], &mut ws[..], s, fi, at, fj, j) {
+        if !column(&mut work[..], s, fi, at, fj, j) {
             return false;
         }
         j += 1;
@@ -123,49 +111,51 @@ fn columns(work: &mut [i64], ws: &mut [i64], starts: &[u32], s: usize, fi: usize
     true
 }
 
-// The row's end.
-fn diagonal(work: &mut [i64], ws: &[i64], starts: &[u32], s: usize, fi: usize, i: usize) -> Answer
-    requires { ⌜ Here (now starts) (now work) (now ws) s fi i i ⌝ }
-    ensures { λ r. ⌜ RowDone r (rowFrom 0 i i (wide (now (starts .entry)) (now (work .entry))) (along fi i (now (ws .entry)))) (by (now (starts .entry)) (now (work .entry))) (length (now (starts .entry))) i (now (work .exit)) ⌝ }
+// The row's end, at p.
+fn diagonal(work: &mut [i64], p: usize, past: i64, i: usize) -> Answer
+    requires { ⌜ Diagonal (now work) p past i ⌝ }
+    ensures { λ r. ⌜ after r (done (now (work .exit))) ≡ ended i (now (work .entry)) p past ⌝ }
 {
-    let d = entry(&work[..], ws, s, fi, s, fi, i);
+    let d = whole::minus(work[p], past);
     if !bounded_w(d) {
         return Answer::Refused(Refusal::Bound(i as u32 + 1));
     }
     if !is_pivot(d) {
         return Answer::Refused(Refusal::Pivot(i as u32 + 1));
     }
-    work[s + (i - fi)] = d;
+    work[p] = d;
     Answer::Done
+}
+
+// The numbers l of row i, each in its w's place, and the diagonal.
+fn ratios(work: &mut [i64], starts: &[u32], s: usize, fi: usize, i: usize) -> Answer
+    requires { ⌜ Here (now starts) (now work) s fi i fi i ⌝ }
+    ensures { λ r. ⌜ RowDone r (lsFrom i i 0 (wide (now (starts .entry)) (now (work .entry))) (pos 0)) (by (now (starts .entry)) (now (work .entry))) (length (now (starts .entry))) i (now (work .exit)) ⌝ }
+{
+    let mut sum: i64 = 0;
+    let mut j = fi;
+    while j < i {
+        let w = work[s + (j - fi)];
+        let l = whole::ratio(w, work[starts::start(starts, j + 1) - 1]);
+        if !bounded_l(l) {
+            return Answer::Refused(Refusal::Bound(i as u32 + 1));
+        }
+        work[s + (j - fi)] = l;
+        sum += whole::scaled_product(l, w);
+        j += 1;
+    }
+    diagonal(&mut work[..], s + (i - fi), sum, i)
 }
 
 // Row i, against the finished rows above it.
-fn row(work: &mut [i64], ws: &mut [i64], starts: &[u32], s: usize, fi: usize, i: usize) -> Answer
-    requires { ⌜ Here (now starts) (now work) (now ws) s fi i fi ⌝ }
+fn row(work: &mut [i64], starts: &[u32], s: usize, fi: usize, i: usize) -> Answer
+    requires { ⌜ Here (now starts) (now work) s fi i fi fi ⌝ }
     ensures { λ r. ⌜ RowDone r (rowFrom i i 0 (wide (now (starts .entry)) (now (work .entry))) []) (by (now (starts .entry)) (now (work .entry))) (length (now (starts .entry))) i (now (work .exit)) ⌝ }
 {
-    if !columns(&mut work[..], &mut ws[..], starts, s, fi, i) {
+    if !columns(&mut work[..], starts, s, fi, i) {
         return Answer::Refused(Refusal::Bound(i as u32 + 1));
     }
-    diagonal(&mut work[..], &ws[..], starts, s, fi, i)
-}
-
-// Rows from m on; ws is a row's room for its numbers w.
-fn rows(work: &mut [i64], ws: &mut [i64], starts: &[u32], m: usize) -> Answer
-    requires { ⌜ Ready (now starts) (now work) m × (length (now starts) ≤ length (now ws)) ⌝ }
-    ensures { λ r. ⌜ after r (done (wide (now (starts .entry)) (now (work .exit)))) ≡ rowsFrom (length (now (starts .entry)) - m) m (wide (now (starts .entry)) (now (work .entry))) ⌝ }
-{
-    let long = work.len();
-    let mut i = m;
-    while i < starts.len() {
-        let s = starts::start(starts, i);
-        let fi = starts::first(starts, i, long);
-        if let Answer::Refused(r) = row(&mut work[..], &mut ws[..], starts, s, fi, i) {
-            return Answer::Refused(r);
-        }
-        i += 1;
-    }
-    Answer::Done
+    ratios(&mut work[..], starts, s, fi, i)
 }
 
 // Rows m on of the factor, in place, against the finished rows above m: with zeros put left of the first columns it is the packed
@@ -174,6 +164,15 @@ pub fn factor(work: &mut [i64], starts: &[u32], m: usize) -> Answer
     requires { ⌜ Ready (now starts) (now work) m ⌝ }
     ensures { λ r. ⌜ after r (done (wide (now (starts .entry)) (now (work .exit)))) ≡ rowsFrom (length (now (starts .entry)) - m) m (wide (now (starts .entry)) (now (work .entry))) ⌝ }
 {
-    let mut ws = [0i64; 96];
-    rows(&mut work[..], &mut ws, starts, m)
+    let long = work.len();
+    let mut i = m;
+    while i < starts.len() {
+        let s = starts::start(starts, i);
+        let fi = starts::first(starts, i, long);
+        if let Answer::Refused(r) = row(&mut work[..], starts, s, fi, i) {
+            return Answer::Refused(r);
+        }
+        i += 1;
+    }
+    Answer::Done
 }

@@ -106,8 +106,7 @@ add-scaled-product c = omega (arith, in-l (c .before .before .pre) (c .before .b
 mul-scaled-product : tie.Need-mul-scaled-product Inv-loop μ-loop
 mul-scaled-product c = omega (arith, in-l (c .before .before .pre) (c .before .before .fits .own) (c .before .loop .inv) (omega arith))
 
-shared-slice-copy-out-scaled-product :
-    tie.Need-shared-slice-copy-out-scaled-product Inv-loop μ-loop
+shared-slice-copy-out-scaled-product : tie.Need-shared-slice-copy-out-scaled-product Inv-loop μ-loop
 shared-slice-copy-out-scaled-product c = in-l (c .before .before .pre) (c .before .before .fits .own) (c .before .loop .inv) (omega arith)
 
 scaled-product-requires : tie.Need-scaled-product-requires Inv-loop μ-loop

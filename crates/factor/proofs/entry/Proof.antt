@@ -17,23 +17,24 @@ use Rattle.whole.proofs.Signs.{got}
 use Rattle.paper.specs.Factor.{R}
 use Rattle.factor.specs.Asks.{Entry, pastSum, wAt}
 
-module _ {ks ws : List ℤ} {s fi at fj j : ℕ} (ask : Entry ks ws s fi at fj j) where
-  past-size : natAbs (pastSum ks ws fi at fj j (max fi fj)) ≤ 96 * 2 ^ 42
+module _ {ks : List ℤ} {s fi at fj j : ℕ} (ask : Entry ks s fi at fj j) where
+  past-size : natAbs (pastSum ks s fi at fj j (max fi fj)) ≤ 96 * 2 ^ 42
   unfolding pastSum
   past-size =
       let c = max fi fj in
-      let each : (k : ℕ) → k < j - c → natAbs (R (cell ks (at + (c - fj) + k) *ℤ cell ws (c - fi + k))) ≤ 2 ^ 42 =
+      let each : (k : ℕ) → k < j - c → natAbs (R (cell ks (at + (c - fj) + k) *ℤ cell ks (s + (c - fi) + k))) ≤ 2 ^ 42 =
       λ k h.
       let e : at + (c - fj) + k ≡ at + (c - fj + k) = omega arith in
-      scaled-size (cell ks (at + (c - fj) + k)) (cell ws (c - fi + k)) (rw e (ask .ls24 (c - fj + k) (omega arith))) (ask .ws38 (c - fi + k) (omega arith)) in
-      omega (arith, sum-size-each (j - c) (λ k. R (cell ks (at + (c - fj) + k) *ℤ cell ws (c - fi + k))) (2 ^ 42) each, ask .few)
+      let f : s + (c - fi) + k ≡ s + (c - fi + k) = omega arith in
+      scaled-size (cell ks (at + (c - fj) + k)) (cell ks (s + (c - fi) + k)) (rw e (ask .ls24 (c - fj + k) (omega arith))) (rw f (ask .ws38 (c - fi + k) (omega arith))) in
+      omega (arith, sum-size-each (j - c) (λ k. R (cell ks (at + (c - fj) + k) *ℤ cell ks (s + (c - fi) + k))) (2 ^ 42) each, ask .few)
 
   -- the two numbers of the difference, as the code has them
   x-is : Is (rd (cell ks (s + (j - fi)))) (cell ks (s + (j - fi))) (2 ^ 62)
   x-is = num (cell ks (s + (j - fi))) (ask .x62) (lit< tt)
 
-  past-is : {c : ℕ} {r : ℤ} → c ≡ max fi fj → mag r < 2 ^ 63 → r ≡ pastSum ks ws fi at fj j c → Is (rd r) (pastSum ks ws fi at fj j (max fi fj)) (96 * 2 ^ 42)
-  past-is e ok q = res ok (q ∙ ap (pastSum ks ws fi at fj j) e) (of past-size)
+  past-is : {c : ℕ} {r : ℤ} → c ≡ max fi fj → mag r < 2 ^ 63 → r ≡ pastSum ks s fi at fj j c → Is (rd r) (pastSum ks s fi at fj j (max fi fj)) (96 * 2 ^ 42)
+  past-is e ok q = res ok (q ∙ ap (pastSum ks s fi at fj j) e) (of past-size)
 
 later-requires : tie.Need-later-requires
 later-requires c κs = search needs

@@ -1,7 +1,7 @@
 -- What is left from row i is what is left of the whole.
 use borrow.Author.Needs.{needs}
-use Rattle.factor.proofs.rows.Statement.{statement}
-use Rattle.factor.proofs.rows.Tie as tie
+use Rattle.factor.proofs.factor.Statement.{statement}
+use Rattle.factor.proofs.factor.Tie as tie
 use mathlib.Core.Path.{_≡_, refl, _∙_}
 use mathlib.Core.List.{List, []}
 use Prim.Native.Nat.{ℕ, suc, _+_, _-_, _≤_, _<_}
@@ -24,44 +24,40 @@ use Rattle.whole.proofs.RowStarts.{by-low}
 use Rattle.factor.specs.Asks.{Ready, Fresh, Row, Here, RowDone}
 use Rattle.factor.proofs.Steps.{fin-begin}
 
-record Inv (st : List ℕ) (ks₀ ws₀ : List ℤ) (m : ℕ) (ks ws : List ℤ) (i : ℕ) : Type 0 where
+record Inv (st : List ℕ) (ks₀ : List ℤ) (m : ℕ) (ks : List ℤ) (i : ℕ) : Type 0 where
   upto : i ≤ length st
-  wroom : length st ≤ length ws
   finished : Fin (expand (by st ks₀) (length st) ks) i 0
   fresh : Fresh (expand (by st ks₀) (length st) ks) (tri i)
-  xlong : length ks ≡ length ks₀
-  wlong : length ws ≡ length ws₀
+  long : length ks ≡ length ks₀
   rest : rowsFrom (length st - i) i (expand (by st ks₀) (length st) ks) ≡ rowsFrom (length st - m) m (wide st ks₀)
 
 abbrev Inv-loop : tie.InvT-loop
-Inv-loop work₀ ws₀ starts m long i₀ work ws i = Inv starts work₀ ws₀ m work ws i
+Inv-loop work₀ starts m long i₀ work i = Inv starts work₀ m work i
 
 abbrev μ-loop : tie.MeasureT-loop
-μ-loop work₀ ws₀ starts m long i₀ work ws i = length starts - i
+μ-loop work₀ starts m long i₀ work i = length starts - i
 
-start : {st : List ℕ} {ks ws : List ℤ} {m : ℕ} → Ready st ks m → length st ≤ length ws → Inv st ks ws m ks ws m
-start {st} {ks} {m} r w = record {
+start : {st : List ℕ} {ks : List ℤ} {m : ℕ} → Ready st ks m → Inv st ks m ks m
+start {st} {ks} {m} r = record {
   upto = r .upto;
-  wroom = w;
   finished = passed (wide st ks) m (r .above);
   fresh = r .fresh;
-  xlong = refl;
-  wlong = refl;
+  long = refl;
   rest = refl;
 }
 
-module _ {st : List ℕ} {ks₀ ws₀ : List ℤ} {m : ℕ} (lent : Starts st (length ks₀)) {ks ws : List ℤ} {i : ℕ} (inv : Inv st ks₀ ws₀ m ks ws i) (h : i < length st) where
-  fresh-row : Row (by st ks₀) (length st) ks ws i (by st ks₀ i)
+module _ {st : List ℕ} {ks₀ : List ℤ} {m : ℕ} (lent : Starts st (length ks₀)) {ks : List ℤ} {i : ℕ} (inv : Inv st ks₀ m ks i) (h : i < length st) where
+  fresh-row : Row (by st ks₀) (length st) ks i (by st ks₀ i) (by st ks₀ i)
   fresh-row = record {
     few = lent .few;
     inside = h;
-    long = inv .xlong ∙ lent .all;
+    long = inv .long ∙ lent .all;
     from = omega arith;
+    mid = omega arith;
     upto = by-low st (length ks₀) i;
-    wroom = omega (arith, inv .wroom);
     finished = fin-begin (by st ks₀) (length st) ks i (by-low st (length ks₀) i) h (inv .finished);
+    ws38 = λ k p q. absurd (omega arith);
     fresh = λ q l. inv .fresh q (omega arith);
-    ws38 = λ k l. absurd (omega arith);
   }
 
   stepped : then (rowFrom i i 0 (expand (by st ks₀) (length st) ks) []) (rowsFrom (length st - (i + 1)) (i + 1)) ≡ rowsFrom (length st - m) m (wide st ks₀)
@@ -70,83 +66,75 @@ module _ {st : List ℕ} {ks₀ ws₀ : List ℤ} {m : ℕ} (lent : Starts st (l
 
   -- the row's start and first column, as the code has them
   module _ {s fi : ℕ} (es : s ≡ getD st i 0) (ef : fi ≡ firstBy st (length ks₀) i) where
-    here : Here st ks ws s fi i fi
+    here : Here st ks s fi i fi fi
     here = record {
-      lent = rw (inv .xlong) lent;
-      start = rw (inv .xlong) (es ∙ lent .each i h);
-      first = rw (inv .xlong) ef;
-      row = rw (inv .xlong, ef) fresh-row;
+      lent = rw (inv .long) lent;
+      start = rw (inv .long) (es ∙ lent .each i h);
+      first = rw (inv .long) ef;
+      row = rw (inv .long, ef) fresh-row;
     }
 
   module _ {a : Answer} {ls : List ℤ} (p : RowDone a (rowFrom i i 0 (wide st ks) []) (by st ks) (length st) i ls) where
     row : RowDone a (rowFrom i i 0 (expand (by st ks₀) (length st) ks) []) (by st ks₀) (length st) i ls
-    row = rw (inv .xlong) at p
+    row = rw (inv .long) at p
 
     stopped : {r : Refusal} → a ≡ Refused r → refused r ≡ rowsFrom (length st - m) m (wide st ks₀)
     stopped {r} e = let q : refused r ≡ rowFrom i i 0 (expand (by st ks₀) (length st) ks) [] = rw e at (row .rest) in rw (← q) at stepped
 
-    more : a ≡ Done → {vs : List ℤ} → length ls ≡ length ks → length vs ≡ length ws → Inv st ks₀ ws₀ m ls vs (i + 1)
-    more e lx lw = record {
+    more : a ≡ Done → length ls ≡ length ks → Inv st ks₀ m ls (i + 1)
+    more e lx = record {
       upto = omega arith;
-      wroom = omega (arith, inv .wroom, lw);
       finished = row .finished e;
       fresh = row .fresh e;
-      xlong = lx ∙ inv .xlong;
-      wlong = lw ∙ inv .wlong;
+      long = lx ∙ inv .long;
       rest = let q : done (expand (by st ks₀) (length st) ls) ≡ rowFrom i i 0 (expand (by st ks₀) (length st) ks) [] = rw e at (row .rest) in rw (← q) at stepped;
     }
 
-last : {st : List ℕ} {ks₀ ws₀ : List ℤ} {m : ℕ} {ks ws : List ℤ} {i : ℕ} → Inv st ks₀ ws₀ m ks ws i → length st ≤ i → done (wide st ks) ≡ rowsFrom (length st - m) m (wide st ks₀)
+last : {st : List ℕ} {ks₀ : List ℤ} {m : ℕ} {ks : List ℤ} {i : ℕ} → Inv st ks₀ m ks i → length st ≤ i → done (wide st ks) ≡ rowsFrom (length st - m) m (wide st ks₀)
 unfolding rowsFrom
-last {st} {ks₀} {ks} {i} inv h = let z : length st - i ≡ 0 = omega arith in rw (wide-by st ks₀ ks (inv .xlong)) (rw z at (inv .rest))
+last {st} {ks₀} {ks} {i} inv h = let z : length st - i ≡ 0 = omega arith in rw (wide-by st ks₀ ks (inv .long)) (rw z at (inv .rest))
 
 loop-holds : tie.Need-loop-holds Inv-loop μ-loop
-loop-holds c = start (c .before .pre .0) (c .before .pre .1)
+loop-holds c = start (c .before .pre)
 
 start-requires : tie.Need-start-requires Inv-loop μ-loop
 start-requires c κs = omega arith
 
 first-requires : tie.Need-first-requires Inv-loop μ-loop
-first-requires c κs = (c .before .before .before .before .pre .0 .lent, omega arith)
+first-requires c κs = (c .before .before .before .before .pre .lent, omega arith)
 
 row-requires : tie.Need-row-requires Inv-loop μ-loop
-row-requires c κs = here (c .before .before .before .before .before .before .before .pre .0 .lent) (c .before .before .before .before .before .loop .inv) (omega arith) (c .before .before .before .start .ensures) (c .before .before .first .ensures)
+row-requires c κs = here (c .before .before .before .before .before .before .pre .lent) (c .before .before .before .before .loop .inv) (omega arith) (c .before .before .start .ensures) (c .before .first .ensures)
 
 enum-known-r : tie.Need-enum-known-r Inv-loop μ-loop
 enum-known-r c = search needs
 
 same-length : tie.Need-same-length Inv-loop μ-loop
-same-length c = c .before .before .before .before .before .row .kept .0 ∙ c .before .before .before .before .before .before .before .before .before .before .before .loop .inv .xlong
-
-same-length-2 : tie.Need-same-length-2 Inv-loop μ-loop
-same-length-2 c = c .before .before .before .before .before .row .kept .1 .0 ∙ c .before .before .before .before .before .before .before .before .before .before .before .loop .inv .wlong
+same-length c = c .before .before .before .before .row .kept .0 ∙ c .before .before .before .before .before .before .before .before .before .loop .inv .long
 
 returns : tie.Need-returns Inv-loop μ-loop
-returns c = stopped (c .before .before .before .before .before .before .before .before .before .before .before .before .before .pre .0 .lent) (c .before .before .before .before .before .before .before .before .before .before .before .loop .inv) (omega arith) (c .before .before .before .before .before .row .ensures) (c .before .r .given .1)
+returns c = stopped (c .before .before .before .before .before .before .before .before .before .before .before .pre .lent) (c .before .before .before .before .before .before .before .before .before .loop .inv) (omega arith) (c .before .before .before .before .row .ensures) (c .before .r .given .1)
 
 enum-told : tie.Need-enum-told Inv-loop μ-loop
 enum-told c = search needs
 
 add-i : tie.Need-add-i Inv-loop μ-loop
-add-i c = omega (arith, c .before .before .before .before .before .before .before .before .before .before .before .before .pre .0 .lent .few)
+add-i c = omega (arith, c .before .before .before .before .before .before .before .before .before .before .pre .lent .few)
 
 loop-less : tie.Need-loop-less Inv-loop μ-loop
 loop-less c = omega arith
 
 loop-again : tie.Need-loop-again Inv-loop μ-loop
-loop-again c = more (c .before .before .before .before .before .before .before .before .before .before .before .before .pre .0 .lent) (c .before .before .before .before .before .before .before .before .before .before .loop .inv) (omega arith) (c .before .before .before .before .row .ensures) (c .enum-told .given .1) (c .before .before .before .before .row .kept .0) (c .before .before .before .before .row .kept .1 .0)
+loop-again c = more (c .before .before .before .before .before .before .before .before .before .before .pre .lent) (c .before .before .before .before .before .before .before .before .loop .inv) (omega arith) (c .before .before .before .row .ensures) (c .enum-told .given .1) (c .before .before .before .row .kept .0)
 
-same-length-3 : tie.Need-same-length-3 Inv-loop μ-loop
-same-length-3 c = c .before .loop .inv .xlong
-
-same-length-4 : tie.Need-same-length-4 Inv-loop μ-loop
-same-length-4 c = c .before .loop .inv .wlong
+same-length-2 : tie.Need-same-length-2 Inv-loop μ-loop
+same-length-2 c = c .before .loop .inv .long
 
 returns-2 : tie.Need-returns-2 Inv-loop μ-loop
 returns-2 c = last (c .before .loop .inv) (omega arith)
 
-pub rows-spec : {M : Type 1} → statement M
-rows-spec =
+pub factor-spec : {M : Type 1} → statement M
+factor-spec =
     tie.close
     (tie.spec
     Inv-loop
@@ -157,12 +145,10 @@ rows-spec =
     row-requires
     enum-known-r
     same-length
-    same-length-2
     returns
     enum-told
     add-i
     loop-less
     loop-again
-    same-length-3
-    same-length-4
+    same-length-2
     returns-2)
