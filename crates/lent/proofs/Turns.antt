@@ -18,7 +18,7 @@ use Rattle.whole.specs.Sums.{sumN, any}
 use Rattle.whole.specs.Packed.{tri, cell, place, entry}
 use Rattle.whole.proofs.Calc.{rd}
 use Rattle.whole.proofs.Tests.{cond-true, cond-false}
-use Rattle.whole.proofs.Sums.{sumN-more, sumN-mono, sumN-min, sumN-none, any-ext, any-none, any-one, any-skip}
+use Rattle.whole.proofs.Sums.{sumN-mono, sumN-min, any-ext, any-none, any-one, any-skip}
 use Rattle.paper.specs.Ticks.{onScale}
 use Rattle.paper.specs.Factor.{small}
 use Rattle.paper.specs.Building.{Slices, slices}
@@ -27,30 +27,23 @@ use Rattle.paper.specs.declared.Answer.the-variants.{Done, Refused}
 use Rattle.paper.specs.declared.Refusal.the-variants.{Short, Stray}
 use Rattle.starts.specs.Lent.{by, wide}
 use Rattle.starts.specs.declared.Found.{Found}
-use Rattle.starts.proofs.Lent.{wide-low, wide-left, wide-size, wide-cell, wide-in, last-is}
+use Rattle.starts.proofs.Lent.{last, wide-low, wide-left, wide-size, wide-cell, wide-in}
 use Rattle.lent.specs.Rows.{InRow, largest, capped, cappedTo}
 use Rattle.lent.specs.Judged.{roomFor, strayed, foundJudged}
 
 -- ---- a row's sizes, capped
 
 capped-small : (m : List ℤ) (i j : ℕ) → cappedTo j m i ≤ j * 8589934593
-unfolding cappedTo sumN
+unfolding sumN
 capped-small m i zero = omega arith
 capped-small m i (suc j) = omega (arith, capped-small m i j, suc-mul j 8589934593)
 
--- none left of the first column
-pub capped-none : (m : List ℤ) (i j : ℕ) → ((k : ℕ) → k < j → entry m i k ≡ pos 0) → 0 ≡ cappedTo j m i
-unfolding cappedTo
-capped-none m i j z = sym (sumN-none j (λ (k : ℕ). capped (entry m i k)) (λ k h. ap capped (z k h)))
+-- as the machine reads it
+pub capped-read : (x : ℤ) → SFits w64 x → {z : ℕ} → z ≡ capped (rd x) → z ≡ capped x
+capped-read x g e = e ∙ ap capped (toZ-ofZ g)
 
--- x is the number of column j
-module _ (m : List ℤ) (i j : ℕ) (x : ℤ) (e : x ≡ entry m i j) (g : SFits w64 x) (sum z : ℕ) (es : sum ≡ cappedTo j m i) (ez : z ≡ capped (rd x)) where
-  pub capped-next : sum + z ≡ cappedTo (j + 1) m i
-  unfolding cappedTo
-  capped-next = (λ k. es k + (ez ∙ ap capped (toZ-ofZ g ∙ e)) k) ∙ sym (sumN-more j (λ (k : ℕ). capped (entry m i k)))
-
-  pub capped-fits : j < 96 → sum + z < 2 ^ 64
-  capped-fits h = omega (arith, capped-next, capped-small m i (j + 1))
+pub capped-fits : (m : List ℤ) (i j : ℕ) {s : ℕ} → s ≡ cappedTo (j + 1) m i → j < 96 → s < 2 ^ 64
+capped-fits m i j e h = omega (arith, capped-small m i (j + 1))
 
 -- s passes c where r does
 above : (c s r : ℕ) → (c < s → c < r) → (s ≤ c → r ≤ c) → ltb c s ≡ not (leb r c)
@@ -61,7 +54,7 @@ above c s r f g = go (ltb c s) refl
     go false e = sym (ap not (le-leb r c (g (ltb-false c s e))))
 
 pub row-above : (m : List ℤ) (i n sum : ℕ) → sum ≡ cappedTo n m i → ltb (2 ^ 33) sum ≡ not (leb (rowSize n m i) (2 ^ 33))
-unfolding rowSize cappedTo
+unfolding rowSize
 row-above m i n sum es =
     above (2 ^ 33) sum (sumN n (λ k. natAbs (entry m i k)))
     (λ h. omega (arith, es, sumN-mono n (λ (k : ℕ). capped (entry m i k)) (λ (k : ℕ). natAbs (entry m i k)) (λ k l. omega arith)))
@@ -169,7 +162,7 @@ module _ (st : List ℕ) (l : List ℤ) (i : ℕ) (q : InRow st l i) (at d : ℕ
   low = wide-low st l i
 
   d-is : d ≡ getD st i 0 + (i - f)
-  d-is = ed ∙ last-is st l (q .lent) i (q .here)
+  d-is = ed ∙ last (q .lent) i (q .here)
 
   pub row-in : (at ≤ d) × (d < length l)
   row-in = (omega (arith, d-is), omega (arith, d-is, wide-in st l (q .lent) i i (q .here) (omega arith)))

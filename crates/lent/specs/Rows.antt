@@ -30,7 +30,7 @@ abbrev pub capped : ℤ → ℕ
 capped x = min (natAbs x) (suc (2 ^ 33))
 
 -- and the sum of the first j in row i
-unfoldable pub cappedTo : ℕ → List ℤ → ℕ → ℕ
+abbrev pub cappedTo : ℕ → List ℤ → ℕ → ℕ
 cappedTo j m i = sumN j (λ k. capped (entry m i k))
 
 -- a matrix that is not heavy

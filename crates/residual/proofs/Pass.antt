@@ -17,7 +17,8 @@ use Rattle.paper.specs.Step.{Board}
 use Rattle.lent.proofs.Narrow.{rd32}
 use Rattle.lent.specs.Rows.{Mild}
 use Rattle.starts.specs.Lent.{Starts, by, wide}
-use Rattle.starts.proofs.Lent.{wide-low, wide-vanishes, wide-none, wide-in, entry-here, entry-across}
+use Rattle.starts.proofs.Lent.{wide-low, wide-vanishes, wide-none}
+use Rattle.starts.proofs.Along.{Walk, walk-start, walk-in, walk-next, walk-here, walk-across}
 use Rattle.residual.specs.Asks.{board, Fair, heldOr, mixed, Beside, InRow, Term}
 use Rattle.residual.proofs.Terms.{part-size, mixed-none, term-asks, term-is}
 use Rattle.residual.proofs.Paper.{lines}
@@ -33,9 +34,8 @@ others st p a f old t r i k = cell r k +ℤ mixed (wide st p) (wide st a) f old 
 
 -- so far: `at` is the place of column j, the rows of the columns before it have their terms, and so has row i's own sum
 pub record RowInv (st : List ℕ) (p a f old t r₀ r : List ℤ) (i at j : ℕ) (s : ℤ) : Type 0 where
-  pub from : by st p i ≤ j
+  pub walk : Walk st p i at j
   pub upto : j ≤ i
-  pub place : at ≡ getD st i 0 + (j - by st p i)
   pub rows-are : r ≡ filled (others st p a f old t r₀ i) r₀ j
   pub sum-is : s ≡ cell r₀ i +ℤ sum j (own st p a f old t i)
 
@@ -49,9 +49,8 @@ module _ {st : List ℕ} {p a f old t r₀ : List ℤ} {i : ℕ} (q : InRow st p
 
   pub row-start : {at j : ℕ} → at ≡ getD st i 0 → j ≡ by st p i → RowInv st p a f old t r₀ r₀ i at j (rd (cell r₀ i))
   row-start {at} {j} ea ej = record {
-    from = omega arith;
+    walk = walk-start st p i ea ej;
     upto = omega (arith, wide-low st p i);
-    place = omega arith;
     rows-are = filled-same (others st p a f old t r₀ i) r₀ j (omega (arith, wide-low st p i, q .long, q .here)) (λ k h.
         let l : k < by st p i = omega arith in
         ap (λ (x : ℤ). cell r₀ k +ℤ x) (mixed-none (q .lines) k i (wide-none st p i k (q .here) l) (wide-none st a i k (q .here) (omega (arith, by-same)))) ∙ +ℤ-idr (cell r₀ k));
@@ -67,19 +66,23 @@ module _ {st : List ℕ} {p a f old t r₀ : List ℤ} {i : ℕ} (q : InRow st p
     row-long = ap length (v .rows-are) ∙ filled-length (others st p a f old t r₀ i) r₀ j (omega (arith, q .long, q .here, v .upto)) ∙ q .long
 
     pub in-p : at < length p
-    in-p = omega (arith, wide-in st p (q .beside .lent) i j (q .here) (v .upto), v .place)
+    in-p = walk-in st p (q .beside .lent) (q .here) (v .walk) (v .upto)
 
     pub in-a : at < length a
     in-a = omega (arith, in-p, q .beside .same)
 
-    a-place : at ≡ getD st i 0 + (j - by st a i)
-    a-place = v .place ∙ ap (λ (k : ℕ). getD st i 0 + (j - k)) (sym by-same)
+    a-walk : Walk st a i at j
+    a-walk = record {
+      from = omega (arith, v .walk .from, by-same);
+      upto = v .walk .upto;
+      place = v .walk .place ∙ ap (λ (k : ℕ). getD st i 0 + (j - k)) (sym by-same);
+    }
 
     p-here : cell p at ≡ entry (wide st p) i j
-    p-here = entry-here st p (q .beside .lent) i j at (q .here) (v .from) (v .upto) (v .place)
+    p-here = walk-here st p (q .beside .lent) (q .here) (v .walk) (v .upto)
 
     a-here : cell a at ≡ entry (wide st a) i j
-    a-here = entry-here st a a-lent i j at (q .here) (omega (arith, v .from, by-same)) (v .upto) a-place
+    a-here = walk-here st a a-lent (q .here) a-walk (v .upto)
 
     -- column j, for row i itself
     module _ (h : ℤ) (eh : h ≡ heldOr (rd32 (cell f j)) (rd32 (cell t j))) where
@@ -98,10 +101,10 @@ module _ {st : List ℕ} {p a f old t r₀ : List ℤ} {i : ℕ} (q : InRow st p
     -- and for row j
     module _ (l : j < i) (h : ℤ) (eh : h ≡ heldOr (rd32 (cell f i)) (rd32 (cell t i))) where
       p-across : cell p at ≡ entry (wide st p) j i
-      p-across = entry-across st p (q .beside .lent) i j at (q .here) (v .from) (v .upto) (v .place)
+      p-across = walk-across st p (q .beside .lent) (q .here) (v .walk) (v .upto)
 
       a-across : cell a at ≡ entry (wide st a) j i
-      a-across = entry-across st a a-lent i j at (q .here) (omega (arith, v .from, by-same)) (v .upto) a-place
+      a-across = walk-across st a a-lent (q .here) a-walk (v .upto)
 
       other-is : Is (rd (cell r j)) (cell r₀ j) (2 ^ 60)
       other-is =
@@ -119,9 +122,8 @@ module _ {st : List ℕ} {p a f old t r₀ : List ℤ} {i : ℕ} (q : InRow st p
           → (y z : ℤ) → y ≡ s +ℤ (rd (cell p at) *ℤ rd (cell old j) -ℤ rd (cell a at) *ℤ rd g) → z ≡ rd (cell r j) +ℤ (rd (cell p at) *ℤ rd (cell old i) -ℤ rd (cell a at) *ℤ rd h)
           → RowInv st p a f old t r₀ (set r j (rd z)) i (at + 1) (j + 1) (rd y)
       row-next g eg y z ey ez = record {
-        from = omega (arith, v .from);
+        walk = walk-next st p (q .beside .lent) (q .here) (v .walk) (v .upto);
         upto = omega arith;
-        place = omega (arith, v .place, v .from);
         rows-are = other-next z ez;
         sum-is = own-next g eg y ey;
       }

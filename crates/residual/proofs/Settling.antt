@@ -2,12 +2,11 @@
 use mathlib.Core.Path.{_≡_, sym, ap, _∙_}
 use mathlib.Core.Bool.{Bool, true, false, not, cond}
 use mathlib.Core.List.{List}
-use Prim.Native.Nat.{ℕ, suc, _+_, _-_, _^_, _≤_, _<_}
+use Prim.Native.Nat.{ℕ, _^_, _≤_, _<_}
 use native.Mathlib.Omega.{arith}
 use lib.Dec.{leb, lit<}
 use lib.IntN.{ℤ, pos, natAbs, _+ℤ_}
 use lib.Signed.{leZ}
-use lib.ListN.{length, getD}
 use mir.Syntax.{w64}
 use mir.Val.{SFits}
 use mir.Facts.{toZ-ofZ}
@@ -20,9 +19,7 @@ use Rattle.paper.specs.Step.{Board, isFixed, residual, residuals, rowBound, uns
 use Rattle.lent.proofs.Narrow.{rd32, num32}
 use Rattle.lent.specs.Rows.{Light, Mild}
 use Rattle.lent.proofs.Told.{light-entry}
-use Rattle.starts.specs.Lent.{by, wide}
-use Rattle.starts.proofs.Lent.{some, wide-low, wide-in, entry-here, last-is}
-use Rattle.residual.specs.Asks.{mixed, share, fixedOr, Bounds, Weighed}
+use Rattle.residual.specs.Asks.{mixed, share, fixedOr, Weighed}
 use Rattle.residual.proofs.Paper.{residual-is, free-bound, fixed-bound}
 
 -- m is the size of row i's residual
@@ -49,20 +46,6 @@ module _ {a f : List ℤ} {n i : ℕ} (q : Light a n) (s : Mild f n) (h : i < n)
     own-settled ex z ez l =
         let y : z ≡ natAbs (entry a i i) = ez ∙ ap natAbs (ap rd ex ∙ num (entry a i i) (light-entry q i i h h) (lit< tt) .eq) in
         sym (le-leb (natAbs r) (rowBound a f n i) (omega (arith, m-is, y, own-is, sumN-one (λ (j : ℕ). share (cell f j) (entry a i j)) i n h, free-bound a f n i (test-is e))))
-
--- the diagonal is the last of its row
-module _ {st : List ℕ} {a f : List ℤ} {i : ℕ} (q : Bounds st a f) (h : i < length st) {e : ℕ} (ee : e ≡ getD st (suc i) (length a)) where
-  pub last-some : 1 ≤ e
-  last-some = omega (arith, some (q .lent) i h)
-
-  last-at : e - 1 ≡ getD st i 0 + (i - by st a i)
-  last-at = ap (λ (k : ℕ). k - 1) ee ∙ last-is st a (q .lent) i h
-
-  pub last-in : e - 1 < length a
-  last-in = omega (arith, last-at, wide-in st a (q .lent) i i h (omega arith))
-
-  pub last-here : cell a (e - 1) ≡ entry (wide st a) i i
-  last-here = entry-here st a (q .lent) i i (e - 1) h (wide-low st a i) (omega arith) last-at
 
 pub loose-is : (a f r : List ℤ) (n i : ℕ) → SFits w64 (cell r i) → (s : Bool) → s ≡ leb (natAbs (rd (cell r i))) (rowBound a f n i) → {b : Bool} → s ≡ b → not (leb (natAbs (cell r i)) (rowBound a f n i)) ≡ not b
 loose-is a f r n i g s es e = ap not (ap (λ (z : ℤ). leb (natAbs z) (rowBound a f n i)) (sym (toZ-ofZ g)) ∙ sym es ∙ e)

@@ -8,10 +8,13 @@ use native.Mathlib.Omega.{arith}
 use lib.Dec.{lit<}
 use lib.IntN.{ℤ, pos, natAbs, _+ℤ_, _-ℤ_, _*ℤ_, zero-*ℤ}
 use lib.Signed.{leZ}
+use mir.Syntax.{w64}
+use mir.Val.{SFits}
+use mir.Facts.{toZ-ofZ}
 use Rattle.whole.specs.Sums.{sum, sumN}
 use Rattle.whole.specs.Packed.{cell, entry}
 use Rattle.whole.proofs.Signs.{natAbs-plus, natAbs-minus, natAbs-times}
-use Rattle.whole.proofs.Sums.{sum-size, sumN-plus, sumN-more, sumN-mono, sumN-none}
+use Rattle.whole.proofs.Sums.{sum-size, sumN-plus, sumN-mono}
 use Rattle.whole.proofs.Calc.{Is, rd, num, is, plus, minus, times, again, size-of}
 use Rattle.lent.specs.Rows.{Light, Mild}
 use Rattle.lent.proofs.Narrow.{rd32, num32}
@@ -98,27 +101,17 @@ share-le f a = go (leZ (pos 0) f)
     go true = omega arith
     go false = omega arith
 
--- none of columns with a 0
-pub share-none : (a f : List ℤ) (i j : ℕ) → ((k : ℕ) → k < j → entry a i k ≡ pos 0) → 0 ≡ sumN j (λ k. share (cell f k) (entry a i k))
-share-none a f i j z =
-    sym (sumN-none j (λ (k : ℕ). share (cell f k) (entry a i k)) (λ k h.
-    let e : natAbs (entry a i k) ≡ 0 = ap natAbs (z k h) in
-    omega (arith, share-le (cell f k) (entry a i k))))
+pub share-none : (f : ℤ) → share f (pos 0) ≡ 0
+share-none f = omega (arith, share-le f (pos 0))
 
--- x is the number of column j
-module _ {a f : List ℤ} {n : ℕ} (q : Light a n) (s : Mild f n) (i j : ℕ) {x : ℤ} (ex : x ≡ entry a i j) (here : i < n) (l : j < n) where
-  module _ (sum z : ℕ) (eb : sum ≡ sumN j (λ k. share (cell f k) (entry a i k))) (ez : z ≡ share (rd32 (cell f j)) (rd x)) where
-    pub bound-is : sum + z ≡ sumN (j + 1) (λ k. share (cell f k) (entry a i k))
-    bound-is =
-        let u : rd32 (cell f j) ≡ cell f j = num32 (cell f j) (s .each j l) (lit< tt) .eq in
-        let v : rd x ≡ entry a i j = ap rd ex ∙ num (entry a i j) (light-entry q i j here l) (lit< tt) .eq in
-        (λ k. eb k + (ez ∙ (λ k. share (u k) (v k))) k) ∙ sym (sumN-more j (λ (k : ℕ). share (cell f k) (entry a i k)))
+-- as the machine reads them
+pub share-read : (f a : ℤ) → natAbs f ≤ 2 ^ 25 → SFits w64 a → {z : ℕ} → z ≡ share (rd32 f) (rd a) → z ≡ share f a
+share-read f a h g e = e ∙ (λ d. share (num32 f h (lit< tt) .eq d) (toZ-ofZ g d))
 
-    pub bound-fits : sum + z < 2 ^ 64
-    bound-fits =
-        omega (
-          arith,
-          bound-is,
-          light-part q i (j + 1) here (omega arith),
-          sumN-mono (j + 1) (λ (k : ℕ). share (cell f k) (entry a i k)) (λ (k : ℕ). natAbs (entry a i k)) (λ k _. share-le (cell f k) (entry a i k)),
-        )
+pub bound-fits : {a : List ℤ} {n : ℕ} → Light a n → (f : List ℤ) (i j : ℕ) → i < n → j < n → {s : ℕ} → s ≡ sumN (j + 1) (λ k. share (cell f k) (entry a i k)) → s < 2 ^ 64
+bound-fits {a} q f i j here l e =
+    omega (
+      arith,
+      light-part q i (j + 1) here (omega arith),
+      sumN-mono (j + 1) (λ (k : ℕ). share (cell f k) (entry a i k)) (λ (k : ℕ). natAbs (entry a i k)) (λ k _. share-le (cell f k) (entry a i k)),
+    )

@@ -36,6 +36,10 @@ module _ {st : List ℕ} {long : ℕ} (lent : Starts st long) (i : ℕ) (h : i <
   pub most : getD st (suc i) long ≤ getD st i 0 + suc i
   most = omega (arith, ends, lent .each i h, spot-end (firstBy st long) (by-low st long) i)
 
+  -- the diagonal is the last
+  pub last : getD st (suc i) long - 1 ≡ getD st i 0 + (i - firstBy st long i)
+  last = omega (arith, ends, lent .each i h, spot-end (firstBy st long) (by-low st long) i)
+
 -- ---- the packed triangle
 
 module _ (st : List ℕ) (ks : List ℤ) where
@@ -73,18 +77,6 @@ module _ (st : List ℕ) (ks : List ℤ) (lent : Starts st (length ks)) where
 
   pub wide-in : (i j : ℕ) → i < length st → j ≤ i → getD st i 0 + (j - by st ks i) < length ks
   wide-in i j h l = omega (arith, spot-below (by st ks) (wide-low st ks) i j (length st) h l, lent .each i h, lent .all)
-
-  -- at `at`, on either side of the diagonal
-  module _ (i j at : ℕ) (h : i < length st) (a : by st ks i ≤ j) (l : j ≤ i) (e : at ≡ getD st i 0 + (j - by st ks i)) where
-    pub entry-here : cell ks at ≡ entry (wide st ks) i j
-    entry-here = ap (cell ks) e ∙ sym (wide-cell i j h a l) ∙ ap (cell (wide st ks)) (sym (place-low i j l))
-
-    pub entry-across : cell ks at ≡ entry (wide st ks) j i
-    entry-across = entry-here ∙ ap (cell (wide st ks)) (place-swap i j)
-
-  -- the diagonal is a row's last
-  pub last-is : (i : ℕ) → i < length st → getD st (suc i) (length ks) - 1 ≡ getD st i 0 + (i - by st ks i)
-  last-is i h = omega (arith, ends lent i h, lent .each i h, spot-end (by st ks) (wide-low st ks) i)
 
   -- and set
   pub wide-set : (i j : ℕ) (v : ℤ) → i < length st → by st ks i ≤ j → j ≤ i → Turned st ks (set ks (getD st i 0 + (j - by st ks i)) v) (set (wide st ks) (tri i + j) v)

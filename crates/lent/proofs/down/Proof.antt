@@ -2,19 +2,17 @@
 use borrow.Author.Needs.{needs}
 use Rattle.lent.proofs.down.Statement.{statement}
 use Rattle.lent.proofs.down.Tie as tie
-use mathlib.Core.Path.{_≡_, sym, ap, _∙_}
-use Prim.Native.Nat.{ℕ, _+_, _-_, _≤_, _<_}
+use Prim.Native.Nat.{_-_}
 use native.Mathlib.Omega.{arith}
 use borrow.Author.Needs.{needs, sfits-of}
 use lib.ListN.{length}
-use Rattle.whole.specs.Packed.{cell}
-use Rattle.whole.proofs.Packed.{place-high}
 use Rattle.starts.specs.Lent.{wide}
-use Rattle.lent.specs.Rows.{cappedTo}
-use Rattle.lent.proofs.Turns.{capped-next, capped-fits}
+use Rattle.starts.proofs.Along.{Below, below-start, below-sum, below-next, below-end}
+use Rattle.lent.specs.Rows.{capped}
+use Rattle.lent.proofs.Turns.{capped-read, capped-fits}
 
 abbrev Inv-loop : tie.InvT-loop
-Inv-loop m starts left i sum₀ j₀ sum j = (i < j) × (j ≤ length starts) × (sum ≡ cappedTo j (wide starts m) i)
+Inv-loop m starts left i sum₀ j₀ sum j = Below starts m (λ k x. capped x) i j sum
 
 abbrev μ-loop : tie.MeasureT-loop
 μ-loop m starts left i sum₀ j₀ sum j = length starts - j
@@ -23,16 +21,19 @@ add-j : tie.Need-add-j Inv-loop μ-loop
 add-j c = omega (arith, c .before .pre .0 .here, c .before .pre .0 .lent .few)
 
 loop-holds : tie.Need-loop-holds Inv-loop μ-loop
-loop-holds c = (omega arith, omega (arith, c .before .pre .0 .here), c .before .pre .1)
+loop-holds c = below-start (c .before .args .starts .now) (c .before .args .m .now) (λ k x. capped x) (c .before .pre .0 .here) (c .before .pre .1)
 
 number-requires : tie.Need-number-requires Inv-loop μ-loop
-number-requires c κs = (c .before .before .before .pre .0 .lent, c .loop-test .taken, omega (arith, c .before .loop .inv .0))
+number-requires c κs = (c .before .before .before .pre .0 .lent, c .loop-test .taken, omega (arith, c .before .loop .inv .past))
 
 capped-requires : tie.Need-capped-requires Inv-loop μ-loop
 capped-requires c κs = search needs
 
 add-sum : tie.Need-add-sum Inv-loop μ-loop
-add-sum c = let s = c .before .before .before .before .before .args in let v = c .before .before .before .loop in omega (arith, capped-fits (wide (s .starts .now) (s .m .now)) (s .i) (v .j) (c .before .number .result) (c .before .number .ensures ∙ ap (cell (wide (s .starts .now) (s .m .now))) (sym (place-high (s .i) (v .j) (omega (arith, v .inv .0))))) (sfits-of (c .before .number .ok)) (v .sum) (c .capped .result) (v .inv .2) (c .capped .ensures) (omega (arith, c .before .before .before .before .before .pre .0 .lent .few)))
+add-sum c =
+    let s = c .before .before .before .before .before .args in
+    let h = capped-fits (wide (s .starts .now) (s .m .now)) (s .i) (c .before .before .before .loop .j) (below-sum (s .starts .now) (s .m .now) (λ k x. capped x) (c .before .before .before .before .before .pre .0 .here) (c .before .before .before .loop .inv) (c .before .before .loop-test .taken) (c .before .number .ensures) (capped-read (c .before .number .result) (sfits-of (c .before .number .ok)) (c .capped .ensures))) (omega (arith, c .before .before .before .before .before .pre .0 .lent .few)) in
+    omega arith
 
 add-j-2 : tie.Need-add-j-2 Inv-loop μ-loop
 add-j-2 c = omega (arith, c .before .before .before .before .before .pre .0 .lent .few)
@@ -41,14 +42,10 @@ loop-less : tie.Need-loop-less Inv-loop μ-loop
 loop-less c = search needs
 
 loop-again : tie.Need-loop-again Inv-loop μ-loop
-loop-again c = let s = c .before .before .before .before .before .args in let v = c .before .before .before .loop in (
-  omega (arith, v .inv .0),
-  omega arith,
-  capped-next (wide (s .starts .now) (s .m .now)) (s .i) (v .j) (c .before .number .result) (c .before .number .ensures ∙ ap (cell (wide (s .starts .now) (s .m .now))) (sym (place-high (s .i) (v .j) (omega (arith, v .inv .0))))) (sfits-of (c .before .number .ok)) (v .sum) (c .capped .result) (v .inv .2) (c .capped .ensures),
-)
+loop-again c = below-next (c .before .before .before .before .before .args .starts .now) (c .before .before .before .before .before .args .m .now) (λ k x. capped x) (c .before .before .before .before .before .pre .0 .here) (c .before .before .before .loop .inv) (c .before .before .loop-test .taken) (c .before .number .ensures) (capped-read (c .before .number .result) (sfits-of (c .before .number .ok)) (c .capped .ensures))
 
 returns : tie.Need-returns Inv-loop μ-loop
-returns c = let s = c .before .before .before .args in let v = c .before .loop in let e : v .j ≡ length (s .starts .now) = omega (arith, v .inv .1) in v .inv .2 ∙ ap (λ (k : ℕ). cappedTo k (wide (s .starts .now) (s .m .now)) (s .i)) e
+returns c = below-end (c .before .before .before .args .starts .now) (c .before .before .before .args .m .now) (λ k x. capped x) (c .before .before .before .pre .0 .here) (c .before .loop .inv) (omega arith)
 
 pub down-spec : {M : Type 1} → statement M
 down-spec =

@@ -3,7 +3,8 @@ use borrow.Author.Needs.{needs}
 use Rattle.residual.proofs.settled.Statement.{statement}
 use Rattle.residual.proofs.settled.Tie as tie
 use native.Mathlib.Omega.{arith}
-use Rattle.residual.proofs.Settling.{fixed-settled, bound-settled, own-settled, last-some, last-in, last-here}
+use Rattle.starts.proofs.Along.{last-some, last-in, last-here}
+use Rattle.residual.proofs.Settling.{fixed-settled, bound-settled, own-settled}
 
 size-requires : tie.Need-size-requires
 size-requires c κs = search needs
@@ -21,19 +22,19 @@ end-requires : tie.Need-end-requires
 end-requires c κs = c .before .before .before .before .pre .1
 
 sub-size : tie.Need-sub-size
-sub-size c = last-some (c .before .before .before .before .before .pre .0) (c .before .before .before .before .before .pre .1) (c .end .ensures)
+sub-size c = last-some (c .before .before .before .before .before .args .starts .now) (c .before .before .before .before .before .args .a .now) (c .before .before .before .before .before .pre .0 .lent) (c .before .before .before .before .before .pre .1) (c .end .ensures)
 
 mul-size : tie.Need-mul-size
-mul-size c = let h = last-in (c .before .before .before .before .before .pre .0) (c .before .before .before .before .before .pre .1) (c .end .ensures) in omega arith
+mul-size c = let h = last-in (c .before .before .before .before .before .args .starts .now) (c .before .before .before .before .before .args .a .now) (c .before .before .before .before .before .pre .0 .lent) (c .before .before .before .before .before .pre .1) (c .end .ensures) in omega arith
 
 shared-slice-copy-out-size : tie.Need-shared-slice-copy-out-size
-shared-slice-copy-out-size c = last-in (c .before .before .before .before .before .pre .0) (c .before .before .before .before .before .pre .1) (c .end .ensures)
+shared-slice-copy-out-size c = last-in (c .before .before .before .before .before .args .starts .now) (c .before .before .before .before .before .args .a .now) (c .before .before .before .before .before .pre .0 .lent) (c .before .before .before .before .before .pre .1) (c .end .ensures)
 
 size-requires-2 : tie.Need-size-requires-2
 size-requires-2 c κs = search needs
 
 returns-2 : tie.Need-returns-2
-returns-2 c = own-settled (c .before .before .before .before .before .before .before .before .pre .0 .light) (c .before .before .before .before .before .before .before .before .pre .0 .mild) (c .before .before .before .before .before .before .before .before .pre .1) (c .before .before .before .before .before .before .before .before .args .r) (c .before .before .before .before .before .before .before .before .fits .r) (c .before .before .before .before .before .before .size .result) (c .before .before .before .before .before .before .size .ensures) (c .before .before .before .before .if1 .left) (last-here (c .before .before .before .before .before .before .before .before .pre .0) (c .before .before .before .before .before .before .before .before .pre .1) (c .before .before .before .end .ensures)) (c .before .size2 .result) (c .before .size2 .ensures) (c .if2 .taken)
+returns-2 c = own-settled (c .before .before .before .before .before .before .before .before .pre .0 .light) (c .before .before .before .before .before .before .before .before .pre .0 .mild) (c .before .before .before .before .before .before .before .before .pre .1) (c .before .before .before .before .before .before .before .before .args .r) (c .before .before .before .before .before .before .before .before .fits .r) (c .before .before .before .before .before .before .size .result) (c .before .before .before .before .before .before .size .ensures) (c .before .before .before .before .if1 .left) (last-here (c .before .before .before .before .before .before .before .before .args .starts .now) (c .before .before .before .before .before .before .before .before .args .a .now) (c .before .before .before .before .before .before .before .before .pre .0 .lent) (c .before .before .before .before .before .before .before .before .pre .1) (c .before .before .before .end .ensures)) (c .before .size2 .result) (c .before .size2 .ensures) (c .if2 .taken)
 
 left-requires : tie.Need-left-requires
 left-requires c κs = c .before .before .before .before .before .before .before .before .pre
