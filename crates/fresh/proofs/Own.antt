@@ -32,6 +32,10 @@ use Rattle.lent.specs.Judged.{roomFor}
 use Rattle.work.proofs.Leaving.{over-cut}
 use Rattle.fresh.specs.Asks.{Rooms, Makes}
 
+-- `&mut own[0..n]` of an array of 96
+pub array-part : {n m : ℕ} (own : List ℕ) → length own ≡ 96 → n ≡ m → m ≤ 96 → length (take (n - 0) own) ≡ m
+array-part {n} own long e few = length-take-le (n - 0) own (omega arith) ∙ omega arith
+
 module _ (t : List ℕ) {long : ℕ} {own : List ℕ} (laid : Laid long (firstOf t) (nodes t) own) where
   own-suits : nodes t ≤ 96 → Suits t own long
   own-suits few = record { lent = laid-lent (first-low t) laid few; rows = laid-length (first-low t) laid; covers = covers-own t laid }

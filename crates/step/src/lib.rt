@@ -113,7 +113,7 @@ pub fn covered(
 }
 
 // Whether there is a temperature and a carried number for each node.
-fn room(temperatures: &[i64], carried: &[i64], n: usize) -> bool
+pub fn room(temperatures: &[i64], carried: &[i64], n: usize) -> bool
     ensures { λ r. ⌜ r ≡ (leb n (length (now (temperatures .entry))) && leb n (length (now (carried .entry)))) ⌝ }
 {
     if temperatures.len() < n {

@@ -2,20 +2,14 @@ use borrow.Author.Needs.{needs}
 use Rattle.fresh.proofs.build.Statement.{statement}
 use Rattle.fresh.proofs.build.Tie as tie
 use mathlib.Core.Path.{_≡_, refl, sym, ap, _∙_}
-use mathlib.Core.List.{List, []}
-use Prim.Native.Nat.{ℕ, _-_, _≤_}
+use mathlib.Core.List.{[]}
 use native.Mathlib.Omega.{arith}
-use lib.ListN.{length, take}
-use lib.Seq.{length-take-le}
 use Rattle.paper.specs.Refusals.{andThen}
 use Rattle.paper.specs.KeptCalls.{kept, keptRoomy, lengthsJudged}
 use Rattle.paper.specs.declared.Answer.{Answer}
 use Rattle.laws.proofs.Judged.{deck}
 use Rattle.laws.proofs.KeptCalls.{build-refused}
-
--- n numbers of an array of 96
-part-of : {n m : ℕ} (xs : List ℕ) → length xs ≡ 96 → n ≡ m → m ≤ 96 → length (take (n - 0) xs) ≡ m
-part-of {n} xs long e few = length-take-le (n - 0) xs (omega arith) ∙ omega arith
+use Rattle.fresh.proofs.Own.{array-part}
 
 judge-requires : tie.Need-judge-requires
 judge-requires c κs = search needs
@@ -44,7 +38,7 @@ part-own-end : tie.Need-part-own-end
 part-own-end c = omega (arith, c .before .before .before .before .before .nodes .ensures, deck (c .before .before .before .before .before .before .before .before .before .before .before .args .table .now) (sym (c .before .before .before .before .before .before .before .before .judge .ensures) ∙ c .before .before .before .before .before .before .enum-told .given .1) .someN)
 
 by-own-requires : tie.Need-by-own-requires
-by-own-requires c κs = (sym (c .before .before .before .before .before .before .before .before .before .judge .ensures) ∙ c .before .before .before .before .before .before .before .enum-told .given .1, part-of _ refl (c .before .before .before .before .before .before .nodes .ensures) (deck (c .before .before .before .before .before .before .before .before .before .before .before .before .args .table .now) (sym (c .before .before .before .before .before .before .before .before .before .judge .ensures) ∙ c .before .before .before .before .before .before .before .enum-told .given .1) .someN .1))
+by-own-requires c κs = (sym (c .before .before .before .before .before .before .before .before .before .judge .ensures) ∙ c .before .before .before .before .before .before .before .enum-told .given .1, array-part _ refl (c .before .before .before .before .before .before .nodes .ensures) (deck (c .before .before .before .before .before .before .before .before .before .before .before .before .args .table .now) (sym (c .before .before .before .before .before .before .before .before .before .judge .ensures) ∙ c .before .before .before .before .before .before .before .enum-told .given .1) .someN .1))
 
 same-length : tie.Need-same-length
 same-length c = search needs
