@@ -39,7 +39,7 @@ fn judge_own(table: &[u32], row: usize, new: [u32; 6]) -> Answer
     element::judge_card(table, new, element_in(table, row))
 }
 
-// Refusals 5 and 6 of the element that a new card makes or is of, before anything is written. An edge is of none.
+// Refusals 5, 14 and 6 of the element that a new card makes or is of, before anything is written. An edge is of none.
 pub fn judge_form(table: &[u32], row: usize, new: [u32; 6]) -> Answer
     requires { ⌜ Changes (now table) row new ⌝ }
     ensures { λ r. ⌜ r ≡ cond (stirs (now (table .entry)) row) (formOf (put (now (table .entry)) row new) row) Done ⌝ }
