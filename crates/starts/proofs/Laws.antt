@@ -16,14 +16,13 @@ use Rattle.whole.proofs.Tests.{or-right, or-false}
 use Rattle.whole.proofs.Packed.{tri-96}
 use Rattle.whole.specs.Kept.{starts, rowStarts}
 use Rattle.whole.proofs.Kept.{starts-tri}
-use Rattle.whole.proofs.RowStarts.{length-starts, starts-at, starts-ext}
+use Rattle.whole.proofs.RowStarts.{starts-ext, rows-ext}
 use Rattle.paper.specs.Cards.{field, rows, nodes}
 use Rattle.paper.specs.Coupled.{joinsAt, corner, firstOf, strayRow}
 use Rattle.laws.proofs.Decks.{Deck, kindIn}
 use Rattle.laws.proofs.Firsts.{first-low, joins-few, joined-in}
-use Rattle.starts.specs.declared.Found.{Found}
 use Rattle.starts.specs.Lent.{Laid, foundIn}
-use Rattle.starts.specs.Asks.{leastOf, firstUpto, Holds, lowered, Spreads, Joins, firstIn, Firsts, strayIn}
+use Rattle.starts.specs.Asks.{leastOf, firstUpto, Holds, lowered, Spreads, Joins, firstIn, Firsts, firstThen, foundBy}
 use Rattle.starts.proofs.Cards.{first-cards}
 
 -- ---- the least of a card's fields
@@ -145,22 +144,38 @@ as-firsts {t} d p = record { few = omega (arith, p .long, d .someN .1); low = λ
 -- ---- row starts
 
 -- where row i of at most 96 starts
-pub start-small : (first : ℕ → ℕ) (i : ℕ) → i ≤ 96 → starts first i ≤ 4656
+start-small : (first : ℕ → ℕ) (i : ℕ) → i ≤ 96 → starts first i ≤ 4656
 start-small first i h = omega (arith, starts-tri first i, tri-96 i h)
 
-pub start-next : (first : ℕ → ℕ) (i : ℕ) {at r : ℕ} → at ≡ starts first i → r ≡ at + (suc i - first i) → r ≡ starts first (i + 1)
+start-next : (first : ℕ → ℕ) (i : ℕ) {at r : ℕ} → at ≡ starts first i → r ≡ at + (suc i - first i) → r ≡ starts first (i + 1)
 unfolding starts
 start-next first i e q = rw add-one (q ∙ ap (λ (k : ℕ). k + (suc i - first i)) e)
+
+-- a walk down the rows, `at` the start of row i
+pub record Walked (fs : List ℕ) (at i : ℕ) : Type 0 where
+  pub upto : i ≤ length fs
+  pub here : at ≡ starts (firstIn fs) i
+
+pub walk-start : (fs : List ℕ) → Walked fs 0 0
+unfolding starts
+walk-start fs = record { upto = omega arith; here = refl }
+
+module _ {fs : List ℕ} {at i : ℕ} where
+  pub walk-small : Firsts fs → Walked fs at i → at ≤ 4656
+  walk-small p v = omega (arith, v .here, start-small (firstIn fs) i (omega (arith, v .upto, p .few)))
+
+  pub walk-asks : Firsts fs → Walked fs at i → i < length fs → (firstIn fs i ≤ i) × (i < 96) × (at ≤ 4656)
+  walk-asks p v h = (p .low i h, omega (arith, p .few), walk-small p v)
+
+  pub walk-next : Walked fs at i → i < length fs → {r : ℕ} → r ≡ at + (suc i - firstIn fs i) → Walked fs r (i + 1)
+  walk-next v h e = record { upto = omega arith; here = start-next (firstIn fs) i (v .here) e }
+
+  pub walk-end : Walked fs at i → length fs ≤ i → at ≡ starts (firstIn fs) (length fs)
+  walk-end v h = let e : i ≡ length fs = omega (arith, v .upto) in v .here ∙ ap (starts (firstIn fs)) e
 
 pub lay-more : (first : ℕ → ℕ) (i : ℕ) (st : List ℕ) {at : ℕ} → i < length st → at ≡ starts first i → take i st ≡ rowStarts first i → take (i + 1) (set st i at) ≡ rowStarts first (i + 1)
 unfolding rowStarts
 lay-more first i st {at} h e q = rw add-one (take-suc-set st i at h ∙ (λ d. q d ++ e d ∷ []))
-
--- row starts know only the first columns of their rows
-pub rows-ext : (f g : ℕ → ℕ) (n : ℕ) → ((i : ℕ) → i < n → f i ≡ g i) → rowStarts f n ≡ rowStarts g n
-unfolding rowStarts
-rows-ext f g zero h = refl
-rows-ext f g (suc n) h = λ d. rows-ext f g n (λ i l. h i (omega arith)) d ++ starts-ext f g n (λ i l. h i (omega arith)) d ∷ []
 
 pub laid-of : (t : List ℕ) {fs : List ℕ} {r : ℕ} {st : List ℕ} → Holds fs (nodes t) (firstOf t) → Laid r (firstIn fs) (length fs) st → Laid r (firstOf t) (nodes t) st
 laid-of t {fs} p l = record {
@@ -168,15 +183,27 @@ laid-of t {fs} p l = record {
   list = l .list ∙ ap (rowStarts (firstIn fs)) (p .long) ∙ rows-ext (firstIn fs) (firstOf t) (nodes t) (p .each);
 }
 
--- what was found, by the deck's own starts
-pub found-is : (t st : List ℕ) {own : List ℕ} {long stray : ℕ} → Laid long (firstOf t) (nodes t) own → stray ≡ strayIn own st → record { long = long; stray = stray } ≡ foundIn t st
-unfolding strayIn strayRow
-found-is t st {own} {long} {stray} l e = λ d. record { long = l .all d; stray = is d }
+-- what was found, by the deck's own first columns
+pub found-of : (t st : List ℕ) {fs : List ℕ} → Holds fs (nodes t) (firstOf t) → foundBy (firstIn fs) (length fs) st ≡ foundIn t st
+unfolding strayRow
+found-of t st {fs} p =
+    ap (λ (n : ℕ). foundBy (firstIn fs) n st) (p .long)
+    ∙ (λ d. record { long = starts-ext (firstIn fs) (firstOf t) (nodes t) (p .each) d; stray = is d })
   where
-    n : length own ≡ nodes t
-    n = ap length (l .list) ∙ length-starts (firstOf t) (nodes t)
+    is : firstFrom (nodes t) 0 (λ i. not (eqb (getD st i 0) (starts (firstIn fs) i))) ≡ firstFrom (nodes t) 0 (λ i. not (eqb (getD st i 0) (starts (firstOf t) i)))
+    is = first-ext (nodes t) 0 _ _ (λ k a b. ap (λ (s : ℕ). not (eqb (getD st k 0) s)) (starts-ext (firstIn fs) (firstOf t) k (λ i l. p .each i (omega arith))))
 
-    is : stray ≡ firstFrom (nodes t) 0 (λ i. not (eqb (getD st i 0) (starts (firstOf t) i)))
-    is =
-        e ∙ ap (λ (k : ℕ). firstFrom k 0 (λ i. not (eqb (getD st i 0) (getD own i 0)))) n
-        ∙ first-ext (nodes t) 0 _ _ (λ i a b. ap (λ (s : ℕ). not (eqb (getD st i 0) s)) (ap (λ (s : List ℕ). getD s i 0) (l .list) ∙ starts-at (firstOf t) (nodes t) i 0 (omega arith)))
+-- ---- the first of those before i, and then of i too
+
+first-more : (n i : ℕ) (f : ℕ → Bool) → firstFrom (suc n) i f ≡ firstThen (firstFrom n i f) (i + n) (f (i + n))
+unfolding firstFrom firstThen
+first-more zero i f = let e : i ≡ i + 0 = omega arith in ap (λ (k : ℕ). cond (f k) (suc k) 0) e
+first-more (suc n) i f = go (f i) (let e : suc i + n ≡ i + suc n = omega arith in first-more n (suc i) f ∙ ap (λ (k : ℕ). firstThen (firstFrom n (suc i) f) k (f k)) e)
+  where
+    go : (b : Bool) → firstFrom (suc n) (suc i) f ≡ firstThen (firstFrom n (suc i) f) (i + suc n) (f (i + suc n))
+        → cond b (suc i) (firstFrom (suc n) (suc i) f) ≡ firstThen (cond b (suc i) (firstFrom n (suc i) f)) (i + suc n) (f (i + suc n))
+    go true later = refl
+    go false later = later
+
+pub first-then : (n : ℕ) (f : ℕ → Bool) {r s : ℕ} → r ≡ firstFrom n 0 f → s ≡ firstThen r n (f n) → s ≡ firstFrom (n + 1) 0 f
+first-then n f e q = rw add-one (q ∙ ap (λ (k : ℕ). firstThen k n (f n)) e ∙ sym (first-more n 0 f ∙ ap (λ (k : ℕ). firstThen (firstFrom n 0 f) k (f k)) (let z : 0 + n ≡ n = omega arith in z)))

@@ -1,14 +1,16 @@
 -- A deck's first columns as its cards come, one after the other, and what they ask of a slice.
 use mathlib.Core.Path.{_≡_}
-use mathlib.Core.Bool.{not, cond}
+use mathlib.Core.Bool.{Bool, not, cond}
 use mathlib.Core.List.{List}
 use Prim.Native.Nat.{ℕ, zero, suc, _-_, _≤_, _<_, min}
 use lib.Dec.{eqb}
 use lib.ListN.{length, getD}
 use Rattle.whole.specs.Sums.{any, firstFrom}
+use Rattle.whole.specs.Kept.{starts}
 use Rattle.paper.specs.Cards.{field, rows, nodes}
 use Rattle.paper.specs.Coupled.{joinsAt, corner}
 use Rattle.laws.proofs.Decks.{Deck}
+use Rattle.starts.specs.declared.Found.{Found}
 
 -- the least of a card's first n fields
 unfoldable pub leastOf : List ℕ → ℕ → ℕ → ℕ
@@ -50,6 +52,11 @@ pub record Firsts (fs : List ℕ) : Type 0 where
   pub few : length fs ≤ 96
   pub low : (i : ℕ) → i < length fs → firstIn fs i ≤ i
 
--- the first row, from 1, whose lent start is another than its own
-unfoldable pub strayIn : List ℕ → List ℕ → ℕ
-strayIn own st = firstFrom (length own) 0 (λ i. not (eqb (getD st i 0) (getD own i 0)))
+-- the first found, from 1, or 0, of those before i, and then of i too
+unfoldable pub firstThen : ℕ → ℕ → Bool → ℕ
+firstThen zero i b = cond b (suc i) 0
+firstThen (suc k) i b = suc k
+
+-- the matrix length of n rows, and the first row, from 1, whose lent start is another than its own
+abbrev pub foundBy : (ℕ → ℕ) → ℕ → List ℕ → Found
+foundBy first n st = record { long = starts first n; stray = firstFrom n 0 (λ i. not (eqb (getD st i 0) (starts first i))) }

@@ -40,9 +40,6 @@ loop-holds c = start (c .args .firsts .now)
 cast-firsts : tie.Need-cast-firsts Inv-loop μ-loop
 cast-firsts c = omega (arith, c .before .loop .inv .long, c .before .before .pre)
 
-mul-firsts : tie.Need-mul-firsts Inv-loop μ-loop
-mul-firsts c = omega (arith, c .before .loop .inv .long, c .before .before .pre)
-
 slice-write-firsts : tie.Need-slice-write-firsts Inv-loop μ-loop
 slice-write-firsts c = omega arith
 
@@ -69,7 +66,6 @@ alone-spec =
     μ-loop
     loop-holds
     cast-firsts
-    mul-firsts
     slice-write-firsts
     add-i
     loop-less

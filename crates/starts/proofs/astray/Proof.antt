@@ -1,58 +1,71 @@
--- None so far is another.
-use borrow.Author.Needs.{needs}
+-- The first astray of the rows so far.
 use Rattle.starts.proofs.astray.Statement.{statement}
 use Rattle.starts.proofs.astray.Tie as tie
-use mathlib.Core.Path.{_≡_, sym, ap, _∙_}
-use mathlib.Core.Bool.{not}
+use mathlib.Core.Path.{_≡_, refl, ap, _∙_}
+use mathlib.Core.Bool.{Bool, not}
 use mathlib.Core.List.{List}
-use Prim.Native.Nat.{ℕ, _+_, _-_, _≤_, _<_}
+use Prim.Native.Nat.{ℕ, suc, _+_, _-_, _≤_, _<_}
 use native.Mathlib.Omega.{arith}
-use borrow.Author.Tests.{eq-eqb, ne-eqb}
 use lib.Dec.{eqb}
 use lib.ListN.{length, getD}
-use Rattle.whole.proofs.First.{Looking, look-start, look-here, look-on, look-end}
-use Rattle.starts.specs.Asks.{strayIn}
+use Rattle.whole.specs.Sums.{firstFrom}
+use Rattle.whole.specs.Kept.{starts}
+use Rattle.starts.specs.Asks.{firstIn, Firsts, firstThen, foundBy}
+use Rattle.starts.proofs.Laws.{Walked, walk-start, walk-asks, walk-next, walk-end, first-then}
+
+-- whether row i starts elsewhere
+abbrev test : List ℕ → List ℕ → ℕ → Bool
+test fs st i = not (eqb (getD st i 0) (starts (firstIn fs) i))
+
+record Inv (fs st : List ℕ) (at stray i : ℕ) : Type 0 where
+  walk : Walked fs at i
+  first : stray ≡ firstFrom i 0 (test fs st)
 
 abbrev Inv-loop : tie.InvT-loop
-Inv-loop own starts i₀ i = Looking (λ k. not (eqb (getD starts k 0) (getD own k 0))) (length own) i
+Inv-loop firsts starts at₀ stray₀ i₀ at stray i = Inv firsts starts at stray i
 
 abbrev μ-loop : tie.MeasureT-loop
-μ-loop own starts i₀ i = length own - i
+μ-loop firsts starts at₀ stray₀ i₀ at stray i = length firsts - i
+
+begin : (fs st : List ℕ) → Inv fs st 0 0 0
+unfolding firstFrom
+begin fs st = record { walk = walk-start fs; first = refl }
+
+module _ {fs st : List ℕ} {at stray i : ℕ} (v : Inv fs st at stray i) where
+  more : i < length fs → {s : ℕ} → s ≡ firstThen stray i (not (eqb (getD st i 0) at)) → {r : ℕ} → r ≡ at + (suc i - firstIn fs i) → Inv fs st r s (i + 1)
+  more h es er = record {
+    walk = walk-next (v .walk) h er;
+    first = first-then i (test fs st) (v .first) (es ∙ ap (λ (k : ℕ). firstThen stray i (not (eqb (getD st i 0) k))) (v .walk .here));
+  }
+
+  last : length fs ≤ i → record { long = at; stray = stray } ≡ foundBy (firstIn fs) (length fs) st
+  last h =
+      let e : i ≡ length fs = omega (arith, v .walk .upto) in
+      λ d. record { long = walk-end (v .walk) h d; stray = (v .first ∙ ap (λ (n : ℕ). firstFrom n 0 (test fs st)) e) d }
 
 loop-holds : tie.Need-loop-holds Inv-loop μ-loop
-loop-holds c = look-start _ (length (c .before .before .args .own .now))
+loop-holds c = begin (c .before .before .args .firsts .now) (c .before .before .args .starts .now)
 
-listed-requires : tie.Need-listed-requires Inv-loop μ-loop
-listed-requires c κs = search needs
+seen-requires : tie.Need-seen-requires Inv-loop μ-loop
+seen-requires c κs = omega (arith, c .before .before .before .before .pre .few)
 
-mul-if1 : tie.Need-mul-if1 Inv-loop μ-loop
-mul-if1 c = omega (arith, c .before .before .before .before .before .pre)
+shared-slice-read-after : tie.Need-shared-slice-read-after Inv-loop μ-loop
+shared-slice-read-after c = omega arith
 
-shared-slice-read-if1 : tie.Need-shared-slice-read-if1 Inv-loop μ-loop
-shared-slice-read-if1 c = search needs
-
-add-result : tie.Need-add-result Inv-loop μ-loop
-add-result c = omega (arith, c .before .before .before .before .before .before .before .pre)
-
-cast-result : tie.Need-cast-result Inv-loop μ-loop
-cast-result c = omega (arith, c .before .before .before .before .before .before .before .pre)
-
-returns : tie.Need-returns Inv-loop μ-loop
-unfolding strayIn
-returns c = let s = c .before .before .before .before .before .before .before .args in look-here (c .before .before .before .before .loop .inv) (c .before .before .before .loop-test .taken) (ap not (ne-eqb (getD (s .starts .now) (c .before .before .before .before .loop .i) 0) (getD (s .own .now) (c .before .before .before .before .loop .i) 0) (λ e. c .if1 .taken (c .before .before .listed .ensures ∙ e))))
+after-requires : tie.Need-after-requires Inv-loop μ-loop
+after-requires c κs = walk-asks (c .before .before .before .before .before .before .pre) (c .before .before .before .loop .inv .walk) (omega arith)
 
 add-i : tie.Need-add-i Inv-loop μ-loop
-add-i c = omega (arith, c .before .before .before .before .before .before .before .pre)
+add-i c = omega (arith, c .before .before .before .before .before .before .before .pre .few)
 
 loop-less : tie.Need-loop-less Inv-loop μ-loop
-loop-less c = search needs
+loop-less c = omega arith
 
 loop-again : tie.Need-loop-again Inv-loop μ-loop
-loop-again c = let s = c .before .before .before .before .before .before .before .args in look-on (c .before .before .before .before .loop .inv) (c .before .before .before .loop-test .taken) (ap not (eq-eqb (getD (s .starts .now) (c .before .before .before .before .loop .i) 0) (getD (s .own .now) (c .before .before .before .before .loop .i) 0) (sym (c .before .before .listed .ensures) ∙ c .if1 .left)))
+loop-again c = more (c .before .before .before .before .loop .inv) (omega arith) (c .before .before .seen .ensures) (c .after .ensures)
 
-returns-2 : tie.Need-returns-2 Inv-loop μ-loop
-unfolding strayIn
-returns-2 c = look-end (c .before .loop .inv) (omega arith)
+returns : tie.Need-returns Inv-loop μ-loop
+returns c = last (c .before .loop .inv) (omega arith)
 
 pub astray-spec : {M : Type 1} → statement M
 astray-spec =
@@ -61,13 +74,10 @@ astray-spec =
     Inv-loop
     μ-loop
     loop-holds
-    listed-requires
-    mul-if1
-    shared-slice-read-if1
-    add-result
-    cast-result
-    returns
+    seen-requires
+    shared-slice-read-after
+    after-requires
     add-i
     loop-less
     loop-again
-    returns-2)
+    returns)

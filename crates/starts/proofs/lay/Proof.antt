@@ -1,94 +1,84 @@
--- The front of the slice is the row starts so far, and what follows the first columns still.
+-- The front of the slice is the row starts so far.
 use Rattle.starts.proofs.lay.Statement.{statement}
 use Rattle.starts.proofs.lay.Tie as tie
 use Prim.Native.Nat.{ℕ, suc, _+_, _-_, _≤_, _<_}
 use mathlib.Core.Path.{_≡_, refl, sym, ap, _∙_}
 use mathlib.Core.List.{List}
 use native.Mathlib.Omega.{arith}
-use lib.ListN.{length, getD, set, take, length-set}
-use lib.Seq.{take-all, getD-set-other}
+use lib.ListN.{length, set, take, length-set}
+use lib.Seq.{take-all}
 use Rattle.whole.specs.Kept.{starts, rowStarts}
 use Rattle.starts.specs.Asks.{firstIn, Firsts}
 use Rattle.starts.specs.Lent.{Laid}
-use Rattle.starts.proofs.Laws.{start-small, start-next, lay-more}
+use Rattle.starts.proofs.Laws.{Walked, walk-start, walk-small, walk-asks, walk-next, walk-end, lay-more}
 
-record Inv (fs st : List ℕ) (at i : ℕ) : Type 0 where
-  upto : i ≤ length fs
-  long : length st ≡ length fs
-  here : at ≡ starts (firstIn fs) i
+record Inv (fs st₀ st : List ℕ) (at i : ℕ) : Type 0 where
+  walk : Walked fs at i
+  long : length st ≡ length st₀
   so : take i st ≡ rowStarts (firstIn fs) i
-  rest : (j : ℕ) → i ≤ j → getD st j 0 ≡ firstIn fs j
 
 abbrev Inv-loop : tie.InvT-loop
-Inv-loop starts₀ at₀ i₀ starts at i = Inv starts₀ starts at i
+Inv-loop firsts starts₀ at₀ i₀ starts at i = Inv firsts starts₀ starts at i
 
 abbrev μ-loop : tie.MeasureT-loop
-μ-loop starts₀ at₀ i₀ starts at i = length starts₀ - i
+μ-loop firsts starts₀ at₀ i₀ starts at i = length firsts - i
 
-begin : (fs : List ℕ) → Inv fs fs 0 0
-unfolding starts rowStarts
-begin fs = record { upto = omega arith; long = refl; here = refl; so = refl; rest = λ j h. refl }
+begin : (fs st : List ℕ) → Inv fs st st 0 0
+unfolding rowStarts
+begin fs st = record { walk = walk-start fs; long = refl; so = refl }
 
-module _ {fs : List ℕ} (p : Firsts fs) {st : List ℕ} {at i : ℕ} (v : Inv fs st at i) where
-  small : at ≤ 4656
-  small = omega (arith, v .here, start-small (firstIn fs) i (omega (arith, v .upto, p .few)))
+module _ {fs st₀ : List ℕ} (p : Firsts fs × (length st₀ ≡ length fs)) {st : List ℕ} {at i : ℕ} (v : Inv fs st₀ st at i) where
+  module _ (h : i < length fs) where
+    inside : i < length st
+    inside = omega (arith, v .long, p .1)
 
-  module _ (h : i < length st) where
-    asks : (getD st i 0 ≤ i) × (i < 96) × (at ≤ 4656)
-    asks = (omega (arith, v .rest i (omega arith), p .low i (omega (arith, v .long))), omega (arith, p .few, v .long), small)
-
-    more : {r : ℕ} → r ≡ at + (suc i - getD st i 0) → Inv fs (set st i at) r (i + 1)
-    more {r} e = record {
-      upto = omega (arith, v .long);
+    more : {r : ℕ} → r ≡ at + (suc i - firstIn fs i) → Inv fs st₀ (set st i at) r (i + 1)
+    more e = record {
+      walk = walk-next (v .walk) h e;
       long = length-set st i at ∙ v .long;
-      here = start-next (firstIn fs) i (v .here) (e ∙ ap (λ (f : ℕ). at + (suc i - f)) (v .rest i (omega arith)));
-      so = lay-more (firstIn fs) i st h (v .here) (v .so);
-      rest = λ j l. getD-set-other st i j at 0 (λ q. omega arith) ∙ v .rest j (omega arith);
+      so = lay-more (firstIn fs) i st inside (v .walk .here) (v .so);
     }
 
-  last : length st ≤ i → Laid at (firstIn fs) (length fs) st
+  last : length fs ≤ i → Laid at (firstIn fs) (length fs) st
   last h =
-      let e : i ≡ length fs = omega (arith, v .upto, v .long) in
+      let e : i ≡ length fs = omega (arith, v .walk .upto) in
       record {
-        all = v .here ∙ ap (starts (firstIn fs)) e;
-        list = sym (take-all i st (omega (arith, v .long))) ∙ v .so ∙ ap (rowStarts (firstIn fs)) e;
+        all = walk-end (v .walk) h;
+        list = sym (take-all i st (omega (arith, v .long, p .1))) ∙ v .so ∙ ap (rowStarts (firstIn fs)) e;
       }
 
 loop-holds : tie.Need-loop-holds Inv-loop μ-loop
-loop-holds c = begin (c .before .args .starts .now)
-
-mul-first : tie.Need-mul-first Inv-loop μ-loop
-mul-first c = omega (arith, c .before .before .before .pre .few, c .before .loop .inv .long)
-
-slice-read-first : tie.Need-slice-read-first Inv-loop μ-loop
-slice-read-first c = omega arith
+loop-holds c = begin (c .before .before .args .firsts .now) (c .before .before .args .starts .now)
 
 cast-starts : tie.Need-cast-starts Inv-loop μ-loop
-cast-starts c = omega (arith, small (c .before .before .before .before .pre) (c .before .before .loop .inv))
+cast-starts c = omega (arith, walk-small (c .before .before .before .before .pre .0) (c .before .loop .inv .walk))
 
 mul-starts : tie.Need-mul-starts Inv-loop μ-loop
-mul-starts c = omega (arith, c .before .before .before .before .pre .few, c .before .before .loop .inv .long)
+mul-starts c = omega (arith, c .before .before .before .before .pre .0 .few)
 
 slice-write-starts : tie.Need-slice-write-starts Inv-loop μ-loop
-slice-write-starts c = omega arith
+slice-write-starts c = inside (c .before .before .before .before .pre) (c .before .loop .inv) (omega arith)
+
+shared-slice-read-after : tie.Need-shared-slice-read-after Inv-loop μ-loop
+shared-slice-read-after c = omega arith
 
 after-requires : tie.Need-after-requires Inv-loop μ-loop
-after-requires c κs = asks (c .before .before .before .before .pre) (c .before .before .loop .inv) (omega arith)
+after-requires c κs = walk-asks (c .before .before .before .before .before .pre .0) (c .before .before .loop .inv .walk) (omega arith)
 
 add-i : tie.Need-add-i Inv-loop μ-loop
-add-i c = omega (arith, c .before .before .before .before .before .pre .few, c .before .before .before .loop .inv .long)
+add-i c = omega (arith, c .before .before .before .before .before .before .pre .0 .few)
 
 loop-less : tie.Need-loop-less Inv-loop μ-loop
-loop-less c = omega (arith, c .before .before .before .loop .inv .long)
+loop-less c = omega arith
 
 loop-again : tie.Need-loop-again Inv-loop μ-loop
-loop-again c = more (c .before .before .before .before .before .pre) (c .before .before .before .loop .inv) (omega arith) (c .after .ensures)
+loop-again c = more (c .before .before .before .before .before .before .pre) (c .before .before .before .loop .inv) (omega arith) (c .after .ensures)
 
 same-length : tie.Need-same-length Inv-loop μ-loop
 same-length c = c .before .loop .inv .long
 
 returns : tie.Need-returns Inv-loop μ-loop
-returns c = last (c .before .before .before .pre) (c .before .loop .inv) (omega arith)
+returns c = last (c .before .before .before .before .pre) (c .before .loop .inv) (omega arith)
 
 pub lay-spec : {M : Type 1} → statement M
 lay-spec =
@@ -97,11 +87,10 @@ lay-spec =
     Inv-loop
     μ-loop
     loop-holds
-    mul-first
-    slice-read-first
     cast-starts
     mul-starts
     slice-write-starts
+    shared-slice-read-after
     after-requires
     add-i
     loop-less

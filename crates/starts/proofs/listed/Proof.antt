@@ -5,17 +5,14 @@ use mathlib.Core.Path.{sym}
 use native.Mathlib.Omega.{arith}
 use Rattle.whole.proofs.Lists.{getD-past}
 
-mul-result : tie.Need-mul-result
-mul-result c = search needs
-
-shared-slice-read-result : tie.Need-shared-slice-read-result
-shared-slice-read-result c = search needs
+start-requires : tie.Need-start-requires
+start-requires c κs = search needs
 
 returns : tie.Need-returns
 returns c = search needs
 
 returns-2 : tie.Need-returns-2
-returns-2 c = sym (getD-past (c .before .args .starts .now) (c .before .args .i) 0 (omega (arith, c .if1 .left)))
+returns-2 c = sym (getD-past (c .before .before .args .starts .now) (c .before .before .args .i) 0 (omega (arith, c .if1 .left)))
 
 pub listed-spec : {M : Type 1} → statement M
-listed-spec = tie.close (tie.spec mul-result shared-slice-read-result returns returns-2)
+listed-spec = tie.close (tie.spec start-requires returns returns-2)

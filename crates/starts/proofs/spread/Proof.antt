@@ -27,17 +27,17 @@ cast-i c = search needs
 sub-i : tie.Need-sub-i Inv-loop μ-loop
 sub-i c = one (c .before .before .before .before .before .pre) (c .before .before .loop .inv) (omega arith) (c .field .ensures)
 
-mul-smaller : tie.Need-mul-smaller Inv-loop μ-loop
-mul-smaller c = omega (arith, inside (c .before .before .before .before .before .pre) (c .before .before .loop .inv) (omega arith) (c .field .ensures))
-
 slice-read-smaller : tie.Need-slice-read-smaller Inv-loop μ-loop
 slice-read-smaller c = inside (c .before .before .before .before .before .before .pre) (c .before .before .before .loop .inv) (omega arith) (c .before .field .ensures)
+
+cast-smaller : tie.Need-cast-smaller Inv-loop μ-loop
+cast-smaller c = omega (arith, c .slice-known2 .given (c .before .field .result - 1))
 
 smaller-requires : tie.Need-smaller-requires Inv-loop μ-loop
 smaller-requires c κs = search needs
 
-mul-firsts : tie.Need-mul-firsts Inv-loop μ-loop
-mul-firsts c = omega (arith, inside (c .before .before .before .before .before .before .before .pre) (c .before .before .before .before .loop .inv) (omega arith) (c .before .before .field .ensures))
+cast-firsts : tie.Need-cast-firsts Inv-loop μ-loop
+cast-firsts c = omega (arith, c .before .slice-known2 .given (c .before .before .field .result - 1), c .smaller .ensures)
 
 slice-write-firsts : tie.Need-slice-write-firsts Inv-loop μ-loop
 slice-write-firsts c = inside (c .before .before .before .before .before .before .before .pre) (c .before .before .before .before .loop .inv) (omega arith) (c .before .before .field .ensures)
@@ -68,10 +68,10 @@ spread-spec =
     field-requires
     cast-i
     sub-i
-    mul-smaller
     slice-read-smaller
+    cast-smaller
     smaller-requires
-    mul-firsts
+    cast-firsts
     slice-write-firsts
     add-a
     loop-less
