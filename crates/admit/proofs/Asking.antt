@@ -1,6 +1,6 @@
 -- A replacement's refusals, in turn, and what they let pass.
 use mathlib.Core.Path.{_≡_, refl, sym, ap, subst, _∙_}
-use mathlib.Core.Bool.{Bool, true, false, cond, _&&_}
+use mathlib.Core.Bool.{Bool, true, cond, _&&_}
 use mathlib.Core.List.{List}
 use Prim.Native.Nat.{ℕ, _-_}
 use native.Mathlib.Omega.{arith}
@@ -14,7 +14,6 @@ use Rattle.paper.specs.Parts.{namedRow}
 use Rattle.paper.specs.Building.{Slices}
 use Rattle.paper.specs.Replacing.{stirs, formOf}
 use Rattle.paper.specs.Lent.{foreign}
-use Rattle.paper.specs.declared.Answer.{Answer}
 use Rattle.paper.specs.declared.Answer.the-variants.{Done, Refused}
 use Rattle.paper.specs.declared.Refusal.the-variants.{Form, Range, Replacement, Foreign}
 use Rattle.paper.specs.declared.Kind.the-variants.{E, «V», F, Other}

@@ -1,8 +1,8 @@
 -- A card that stirs, replaced: the places of P and A written, and the factor from its least corner's row on.
 use mathlib.Core.Path.{_≡_, refl, sym, ap, subst, _∙_}
-use mathlib.Core.Bool.{Bool, true, false, cond, _||_}
+use mathlib.Core.Bool.{Bool, true, cond}
 use mathlib.Core.List.{List, [], _∷_, _++_}
-use Prim.Native.Nat.{ℕ, zero, suc, _+_, _-_, _*_, _^_, _≤_, _<_, min}
+use Prim.Native.Nat.{ℕ, zero, suc, _+_, _-_, _^_, _≤_, _<_, min}
 use native.Mathlib.Omega.{arith}
 use lib.IntN.{ℤ, natAbs, _-ℤ_}
 use lib.ListN.{length, getD, take, drop}
@@ -11,25 +11,24 @@ use Rattle.whole.specs.Squares.{at, squareOf, Holds}
 use Rattle.whole.proofs.Squares.{holds-same}
 use Rattle.whole.proofs.Tests.{never}
 use Rattle.whole.proofs.Packed.{lower-eta, lower-within}
-use Rattle.paper.specs.Refusals.{Outcome, done, then, after}
+use Rattle.paper.specs.Refusals.{done, then, after}
 use Rattle.paper.specs.Kinds.{about, kindAt}
-use Rattle.paper.specs.Cards.{rowAt, field, rows, nodes, elements, elementRow, put}
+use Rattle.paper.specs.Cards.{rowAt, field, rows, nodes, elementRow, put}
 use Rattle.paper.specs.Corners.{shapeOf}
 use Rattle.paper.specs.Tetrahedron.{spaceOf}
-use Rattle.paper.specs.Elements.{elementOf, elementAt, elementJudged}
-use Rattle.paper.specs.Parts.{Part, namedRow, partOf, partFor, partAt, least, leastRow}
+use Rattle.paper.specs.Elements.{elementAt, elementJudged}
+use Rattle.paper.specs.Parts.{Part, namedRow, partOf, partFor, partAt, least}
 use Rattle.paper.specs.Matrices.{addsP, addsA, fixed, cleared}
 use Rattle.paper.specs.Factor.{rowsFrom}
 use Rattle.paper.specs.Building.{Slices}
-use Rattle.paper.specs.Replacing.{formOf, moved, firstRow, redone, replaced, stirs}
+use Rattle.paper.specs.Replacing.{moved, firstRow, redone, replaced, stirs}
 use Rattle.paper.specs.declared.Answer.{Answer}
-use Rattle.paper.specs.declared.Answer.the-variants.{Done}
 use Rattle.paper.specs.declared.Kind.{Kind}
 use Rattle.paper.specs.declared.Kind.the-variants.{D, N, M, E, «V», H, F, G, T, Z, Other}
-use Rattle.laws.proofs.Decks.{In, Deck, kindIn}
+use Rattle.laws.proofs.Decks.{kindIn}
 use Rattle.laws.proofs.Spans.{Inside, inside-each, part-corners, few-corners, names-F, lower-first}
 use Rattle.laws.proofs.Sizes.{Distinct}
-use Rattle.laws.proofs.Square.{Sound, part-sound}
+use Rattle.laws.proofs.Square.{part-sound}
 use Rattle.laws.proofs.Least.{least-each}
 use Rattle.laws.proofs.Apart.{two-distinct}
 use Rattle.laws.proofs.Elements.{sound-one, distinct}
@@ -45,7 +44,7 @@ use Rattle.packed.specs.Asks.{Keeps, Takes, Suits}
 use Rattle.packed.proofs.Adding.{square-size}
 use Rattle.packed.proofs.Squares.{takes, gives}
 use Rattle.packed.proofs.Assembling.{part-row, part-keeps}
-use Rattle.change.specs.Asks.{Changes, Renews}
+use Rattle.change.specs.Asks.{Renews}
 use Rattle.change.proofs.Forming.{some-new, same-kind, same-corners, stirs-new}
 use Rattle.change.proofs.Moving.{moved-held}
 

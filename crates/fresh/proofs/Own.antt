@@ -9,28 +9,27 @@ use lib.Dec.{leb}
 use lib.IntN.{ℤ}
 use lib.ListN.{length, take, drop}
 use lib.Seq.{length-take-le}
-use Rattle.whole.specs.Kept.{starts, rowStarts, expand}
+use Rattle.whole.specs.Kept.{starts, rowStarts}
 use Rattle.paper.specs.Refusals.{andThen}
 use Rattle.paper.specs.Cards.{nodes}
 use Rattle.paper.specs.Judge.{judged}
 use Rattle.paper.specs.Coupled.{firstOf}
 use Rattle.paper.specs.Building.{slices}
 use Rattle.paper.specs.Calls.{whenDone, over, lent, Exit, left, buildCall}
-use Rattle.paper.specs.KeptCalls.{Kept, kept, keptLong, keptRoomy, keptEnough, lengthsJudged, KeptExit, leftKept, keptBuild}
+use Rattle.paper.specs.KeptCalls.{Kept, kept, keptLong, keptRoomy, keptEnough, lengthsJudged, leftKept, keptBuild}
 use Rattle.paper.specs.declared.Answer.{Answer}
 use Rattle.paper.specs.declared.Answer.the-variants.{Done, Refused}
 use Rattle.paper.specs.declared.Refusal.{Refusal}
 use Rattle.paper.specs.declared.Refusal.the-variants.{Short}
-use Rattle.laws.proofs.Decks.{Deck}
 use Rattle.laws.proofs.Firsts.{first-low}
 use Rattle.laws.proofs.Narrowed.{expand-take}
-use Rattle.laws.proofs.KeptCalls.{wideOf, buildJudged, Roomy, lengths-told, Cut, build-refused, build-ends}
+use Rattle.laws.proofs.KeptCalls.{wideOf, Roomy, lengths-told, Cut, build-refused, build-ends}
 use Rattle.starts.specs.Lent.{wide, Laid}
 use Rattle.starts.proofs.Lent.{laid-length, laid-lent, laid-wide, covers-own}
 use Rattle.packed.specs.Asks.{Suits}
 use Rattle.lent.specs.Judged.{roomFor}
 use Rattle.work.proofs.Leaving.{over-cut}
-use Rattle.fresh.specs.Asks.{Rooms, Makes}
+use Rattle.fresh.specs.Asks.{Rooms}
 
 -- `&mut own[0..n]` of an array of 96
 pub array-part : {n m : ℕ} (own : List ℕ) → length own ≡ 96 → n ≡ m → m ≤ 96 → length (take (n - 0) own) ≡ m

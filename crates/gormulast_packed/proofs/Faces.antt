@@ -9,7 +9,7 @@ use lib.Dec.{leb}
 use lib.IntN.{ℤ}
 use lib.ListN.{length, take, drop}
 use lib.Seq.{length-take-le}
-use Rattle.whole.specs.Packed.{tri, matrix}
+use Rattle.whole.specs.Packed.{matrix}
 use Rattle.whole.specs.Kept.{starts}
 use Rattle.whole.proofs.Tests.{and-told}
 use Rattle.whole.proofs.Kept.{Low}

@@ -4,7 +4,7 @@ use paper::Answer;
 use paper::Refusal;
 use paper::Stepped;
 ghost use mathlib.Core.Path.{_≡_};
-ghost use mathlib.Core.List.{List, [], _∷_};
+ghost use mathlib.Core.List.{[], _∷_};
 ghost use lib.ListN.{length};
 ghost use Rattle.paper.specs.Cards.{nodes};
 ghost use Rattle.paper.specs.Judge.{judged};

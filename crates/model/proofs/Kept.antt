@@ -1,6 +1,5 @@
 -- A replacement over kept rows: its first refusals, and past them document 01's replacement of the packed triangles.
-use mathlib.Core.Path.{_≡_, refl, sym, ap, _∙_}
-use mathlib.Core.Bool.{Bool, true, _&&_}
+use mathlib.Core.Path.{_≡_, sym, ap, _∙_}
 use mathlib.Core.List.{List, [], _++_}
 use Prim.Native.Nat.{ℕ, _-_, _≤_}
 use native.Mathlib.Omega.{arith}
@@ -13,7 +12,7 @@ use Rattle.paper.specs.Cards.{nodes}
 use Rattle.paper.specs.Judge.{judged, newJudged}
 use Rattle.paper.specs.Coupled.{firstOf}
 use Rattle.paper.specs.Building.{slices}
-use Rattle.paper.specs.Calls.{lent, Exit, left, replaceCall}
+use Rattle.paper.specs.Calls.{lent, left, replaceCall}
 use Rattle.paper.specs.KeptCalls.{Kept, kept, keptLong, keptRoomy, lengthsJudged, startsJudged, leftKept, keptReplace}
 use Rattle.paper.specs.declared.Answer.{Answer}
 use Rattle.paper.specs.declared.Answer.the-variants.{Done, Refused}

@@ -2,7 +2,7 @@
 use mathlib.Core.Path.{_≡_, refl, sym, ap, subst, _∙_}
 use mathlib.Core.Bool.{Bool, true, false, cond, _&&_, _||_}
 use mathlib.Core.List.{List}
-use Prim.Native.Nat.{ℕ, zero, suc, _+_, _-_, _*_, _^_, _≤_, _<_, max}
+use Prim.Native.Nat.{ℕ, suc, _+_, _-_, _*_, _^_, _≤_, _<_, max}
 use native.Mathlib.Omega.{arith}
 use lib.IntN.{ℤ, pos, natAbs, _+ℤ_}
 use lib.Dec.{eqb}
@@ -14,9 +14,8 @@ use Rattle.whole.proofs.Tests.{never}
 use Rattle.whole.proofs.Sums.{sum-more, sum-none}
 use Rattle.whole.proofs.Packed.{lower-at, lower-ext, lower-zeros, lower-size}
 use Rattle.paper.specs.Kinds.{about, kindOf, kindAt}
-use Rattle.paper.specs.Cards.{rowAt, letter, rows, nodes, field}
+use Rattle.paper.specs.Cards.{rowAt, rows, nodes}
 use Rattle.paper.specs.Corners.{mass, spread}
-use Rattle.paper.specs.Elements.{elementOf}
 use Rattle.paper.specs.Parts.{Part, partOf, partFor, partAt}
 use Rattle.paper.specs.Matrices.{addsP, addsA}
 use Rattle.paper.specs.declared.Kind.{Kind}
@@ -33,7 +32,7 @@ use Rattle.laws.proofs.Coupled.{corners-in}
 use Rattle.starts.specs.Lent.{wide, Turned}
 use Rattle.starts.proofs.Lent.{wide-length}
 use Rattle.triangle.specs.Forms.{numbers}
-use Rattle.part.specs.Forms.{cornersOf, doesBy, does}
+use Rattle.part.specs.Forms.{cornersOf, doesBy}
 use Rattle.part.specs.Asks.{Card, Solid, Full}
 use Rattle.part.specs.declared.Corners.{Corners}
 use Rattle.part.specs.declared.Does.{Does}

@@ -19,7 +19,7 @@ use Rattle.whole.specs.Kept.{starts, spot, keptEntry, expand}
 use Rattle.whole.proofs.Sums.{any-none, any-one, any-each}
 use Rattle.whole.proofs.Packed.{place-low, place-swap, place-one, lower-at, lower-ext, lower-eta, lower-set}
 use Rattle.whole.proofs.Kept.{starts-le, spot-below, entry-in, entry-left, by-first, expand-entry}
-use Rattle.paper.specs.Kinds.{about, letterOf}
+use Rattle.paper.specs.Kinds.{letterOf}
 use Rattle.paper.specs.Cards.{field, letter}
 use Rattle.paper.specs.declared.Kind.the-variants.{T}
 use Rattle.paper.specs.Matrices.{fixes, cleared}

@@ -8,12 +8,12 @@ use lib.IntN.{ℤ, pos, natAbs, _+ℤ_}
 use lib.ListN.{length, getD, set, replicate}
 use lib.Seq.{set-getD}
 use Rattle.whole.specs.Packed.{tri, cell, place, entry, Bounded}
-use Rattle.whole.specs.Kept.{starts, spot, firstBy, keptEntry, expand}
+use Rattle.whole.specs.Kept.{spot, firstBy, keptEntry, expand}
 use Rattle.whole.proofs.Packed.{tri-96, sides, place-low, place-high, lower-ext, lower-zeros, add}
 use Rattle.whole.proofs.Kept.{spot-end, spot-below, starts-tri, entry-in, entry-left, by-first}
 use Rattle.whole.proofs.RowStarts.{by-low}
 use Rattle.starts.specs.Lent.{Starts, by, wide, Turned}
-use Rattle.starts.proofs.Lent.{ends, wide-low, wide-cell, wide-left, wide-set}
+use Rattle.starts.proofs.Lent.{ends, wide-cell, wide-left, wide-set}
 use Rattle.packed.specs.Asks.{spotBy, Stands}
 
 -- zeros are zeros, past the end too

@@ -3,15 +3,15 @@ use mathlib.Core.Path.{_≡_, refl, sym, ap, transport, _∙_}
 use mathlib.Core.List.{List}
 use Prim.Native.Nat.{ℕ, zero, suc, _+_, _-_, _^_, _≤_, _<_, min, max}
 use native.Mathlib.Omega.{arith}
-use lib.IntN.{ℤ, pos, natAbs, _+ℤ_, +ℤ-idr}
-use lib.ListN.{length, getD, take}
+use lib.IntN.{ℤ, pos, _+ℤ_, +ℤ-idr}
+use lib.ListN.{length, getD}
 use lib.Seq.{getD-take}
 use Rattle.whole.specs.Packed.{tri, entry, lower, Bounded}
 use Rattle.whole.specs.Kept.{firstBy}
 use Rattle.whole.specs.Squares.{at, Holds}
 use Rattle.whole.proofs.Packed.{lower-ext, lower-eta, add}
 use Rattle.laws.proofs.Spans.{Inside, inside-each}
-use Rattle.laws.proofs.Places.{cornerRow, addRow, addSquare}
+use Rattle.laws.proofs.Places.{addRow, addSquare}
 use Rattle.starts.specs.Lent.{Starts, wide}
 use Rattle.triangle.specs.Forms.{numbers}
 use Rattle.part.specs.Forms.{cornersOf}

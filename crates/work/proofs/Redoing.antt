@@ -1,19 +1,19 @@
 -- The factor redone: rows that stay above row m and the changed matrix from there on, and its end.
-use mathlib.Core.Path.{_≡_, refl, sym, ap, subst, _∙_}
+use mathlib.Core.Path.{_≡_, sym, ap, subst, _∙_}
 use mathlib.Core.Bool.{false, not, _||_}
 use mathlib.Core.List.{List, _++_}
-use Prim.Native.Nat.{ℕ, suc, _+_, _-_, _^_, _≤_, _<_}
+use Prim.Native.Nat.{ℕ, _+_, _-_, _^_, _≤_, _<_}
 use native.Mathlib.Omega.{arith}
-use lib.IntN.{ℤ, pos, natAbs}
+use lib.IntN.{ℤ, natAbs}
 use lib.ListN.{length, getD, take, drop, take-append-drop}
 use lib.Seq.{length-take-le, take-at}
-use Rattle.whole.specs.Packed.{tri, cell, place, entry, lower}
+use Rattle.whole.specs.Packed.{tri, cell, place, entry}
 use Rattle.whole.specs.Kept.{starts, expand}
 use Rattle.whole.proofs.Lists.{join-length, join-front, join-back}
 use Rattle.whole.proofs.Sums.{any-ext, any-each, any-none}
 use Rattle.whole.proofs.Packed.{tri-below, tri-le, length-lower, lower-size}
 use Rattle.whole.proofs.Kept.{starts-le, expand-join}
-use Rattle.paper.specs.Refusals.{Outcome, done}
+use Rattle.paper.specs.Refusals.{done}
 use Rattle.paper.specs.Cards.{nodes}
 use Rattle.paper.specs.Matrices.{fixed, cleared}
 use Rattle.paper.specs.Factor.{small, rowsFrom}
@@ -24,7 +24,7 @@ use Rattle.starts.specs.Lent.{Starts, by, wide, Turned}
 use Rattle.starts.proofs.Lent.{wide-low, wide-length, wide-by}
 use Rattle.factor.specs.Asks.{Fresh, Ready}
 use Rattle.part.specs.declared.Corners.{Corners}
-use Rattle.work.specs.Asks.{laid, added, addedFixed, Edits, Refactors}
+use Rattle.work.specs.Asks.{laid, added, addedFixed, Refactors}
 use Rattle.work.proofs.Stages.{cleared-size}
 
 -- ---- packed triangles

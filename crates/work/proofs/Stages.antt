@@ -10,7 +10,7 @@ use lib.ListN.{length, replicate, length-replicate}
 use Rattle.whole.specs.Packed.{entry, lower}
 use Rattle.whole.proofs.Packed.{lower-ext, lower-at}
 use Rattle.whole.proofs.Tests.{cond-same}
-use Rattle.paper.specs.Refusals.{Outcome, refused, done, after}
+use Rattle.paper.specs.Refusals.{Outcome, done, after}
 use Rattle.paper.specs.Matrices.{cleared}
 use Rattle.paper.specs.Factor.{rowsFrom}
 use Rattle.paper.specs.declared.Answer.{Answer}

@@ -1,7 +1,7 @@
 use borrow.Author.Needs.{needs}
 use Rattle.fresh.proofs.build.Statement.{statement}
 use Rattle.fresh.proofs.build.Tie as tie
-use mathlib.Core.Path.{_≡_, refl, sym, ap, _∙_}
+use mathlib.Core.Path.{refl, sym, ap, _∙_}
 use mathlib.Core.List.{[]}
 use native.Mathlib.Omega.{arith}
 use Rattle.paper.specs.Refusals.{andThen}

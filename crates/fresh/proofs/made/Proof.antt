@@ -1,7 +1,7 @@
 use borrow.Author.Needs.{needs}
 use Rattle.fresh.proofs.made.Statement.{statement}
 use Rattle.fresh.proofs.made.Tie as tie
-use mathlib.Core.Path.{_≡_, sym, subst, _∙_}
+use mathlib.Core.Path.{sym, subst, _∙_}
 use Rattle.paper.specs.Building.{slices}
 use Rattle.starts.specs.Lent.{wide}
 use Rattle.packed.specs.Asks.{Suits}

@@ -1,7 +1,7 @@
 use borrow.Author.Needs.{needs}
 use Rattle.gormulast_packed.proofs.build.Statement.{statement}
 use Rattle.gormulast_packed.proofs.build.Tie as tie
-use mathlib.Core.Path.{_≡_, refl, sym, _∙_}
+use mathlib.Core.Path.{refl, sym, _∙_}
 use mathlib.Core.List.{[]}
 use native.Mathlib.Omega.{arith}
 use Rattle.laws.proofs.Judged.{deck}

@@ -1,7 +1,7 @@
 use borrow.Author.Needs.{needs}
 use Rattle.gormulast_packed.proofs.replace.Statement.{statement}
 use Rattle.gormulast_packed.proofs.replace.Tie as tie
-use mathlib.Core.Path.{_≡_, refl, sym, _∙_}
+use mathlib.Core.Path.{refl, sym, _∙_}
 use native.Mathlib.Omega.{arith}
 use Rattle.paper.specs.Judge.{judged, newJudged}
 use Rattle.laws.proofs.Judged.{deck}

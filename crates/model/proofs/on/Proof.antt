@@ -1,7 +1,7 @@
 use borrow.Author.Needs.{needs}
 use Rattle.model.proofs.on.Statement.{statement}
 use Rattle.model.proofs.on.Tie as tie
-use mathlib.Core.Path.{_≡_, refl, sym, ap, subst, _∙_}
+use mathlib.Core.Path.{_≡_, sym, ap, subst, _∙_}
 use mathlib.Core.List.{List}
 use Prim.Native.Nat.{ℕ, _-_}
 use native.Mathlib.Omega.{arith}

@@ -1,7 +1,7 @@
 use borrow.Author.Needs.{needs}
 use Rattle.model.proofs.replace.Statement.{statement}
 use Rattle.model.proofs.replace.Tie as tie
-use mathlib.Core.Path.{_≡_, sym, _∙_}
+use mathlib.Core.Path.{sym, _∙_}
 use native.Mathlib.Omega.{arith}
 use Rattle.laws.proofs.Judged.{deck}
 use Rattle.fresh.proofs.Own.{rooms}

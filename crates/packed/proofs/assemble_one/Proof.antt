@@ -2,7 +2,7 @@
 use borrow.Author.Needs.{needs}
 use Rattle.packed.proofs.assemble_one.Statement.{statement}
 use Rattle.packed.proofs.assemble_one.Tie as tie
-use mathlib.Core.Path.{_≡_, sym, ap, subst, _∙_}
+use mathlib.Core.Path.{sym, ap, subst, _∙_}
 use Prim.Native.Nat.{_-_, _≤_}
 use native.Mathlib.Omega.{arith}
 use lib.ListN.{length}

@@ -9,11 +9,10 @@ use native.Mathlib.Omega.{arith}
 use lib.IntN.{ℤ, pos}
 use lib.ListN.{length, getD, set}
 use Rattle.whole.specs.Packed.{place}
-use Rattle.whole.specs.Kept.{firstBy}
 use Rattle.starts.specs.Lent.{Starts, by, wide, Turned}
 use Rattle.starts.proofs.Lent.{some}
 use Rattle.packed.specs.Asks.{spotBy, Stands}
-use Rattle.packed.proofs.Spots.{long-few, back-in, back-out, back-some, back, spot-in, spot-high, spot-set, left-cleared}
+use Rattle.packed.proofs.Spots.{long-few, back-in, back-out, back, spot-in, spot-high, spot-set, left-cleared}
 
 module _ (st : List ℕ) (ks : List ℤ) (lent : Starts st (length ks)) (i j : ℕ) (l : i < j) (h : j < length st) {s e : ℕ} (es : s ≡ getD st j 0) (ee : e ≡ getD st (suc j) (length ks)) where
   order : s < e

@@ -1,7 +1,7 @@
 -- The invariant: the packed triangle is A' for the T cards passed.
 use Rattle.packed.proofs.clear_fixed.Statement.{statement}
 use Rattle.packed.proofs.clear_fixed.Tie as tie
-use mathlib.Core.Path.{_≡_, sym, ap, subst, _∙_}
+use mathlib.Core.Path.{sym, ap, subst}
 use Prim.Native.Nat.{ℕ, _-_, _≤_}
 use native.Mathlib.Omega.{arith}
 use Rattle.whole.specs.Sums.{any}

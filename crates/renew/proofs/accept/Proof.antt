@@ -1,7 +1,7 @@
 use borrow.Author.Needs.{needs}
 use Rattle.renew.proofs.accept.Statement.{statement}
 use Rattle.renew.proofs.accept.Tie as tie
-use mathlib.Core.Path.{_≡_, sym, ap, subst, _∙_}
+use mathlib.Core.Path.{sym, ap, subst}
 use mathlib.Core.List.{List}
 use lib.IntN.{ℤ}
 use Rattle.whole.specs.Squares.{at}
