@@ -104,7 +104,7 @@ static void measure_replaces(void)
 		if (card-- == 0)
 			continue;
 		name[8] = *letter;
-		measure(name, call_replace, 1536);
+		measure(name, call_replace, 1152);
 	}
 }
 
@@ -122,7 +122,7 @@ int main(int count, char **words)
 	fclose(deck);
 	measure("read", call_read, 512);
 	measure("write", call_write, 512);
-	measure("build", call_build, 1152);
+	measure("build", call_build, 1664);
 	measure_replaces();
 	for (i = 0; i < GORMULAST_MAX_NODES; i++)
 		temperatures[i] = table[2];
