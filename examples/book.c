@@ -19,6 +19,8 @@ static uint8_t bytes[GORMULAST_MAX_BYTES];
 static uint32_t table[GORMULAST_MAX_TABLE];
 static size_t length, nodes;
 static int64_t p[MATRIX], a[MATRIX], factor[MATRIX], work[MATRIX];
+static uint32_t starts[GORMULAST_MAX_NODES];
+static size_t firsts[GORMULAST_MAX_NODES];
 static int64_t temperatures[GORMULAST_MAX_NODES], carried[GORMULAST_MAX_NODES];
 
 static int refused(uint64_t answer)
@@ -33,17 +35,38 @@ static int refused(uint64_t answer)
 	return 1;
 }
 
+/* The first node that shares an element with node i, from 0: what is left of it in a row is zero and not kept. */
+static size_t first(size_t i)
+{
+	size_t at, corner, corners, least = i;
+	const uint32_t *card;
+	int shares;
+
+	for (at = 0; at < length; at += GORMULAST_CARD_NUMBERS) {
+		card = table + at;
+		corners = card[0] == 'E' ? 3 : card[0] == 'V' ? 4 : 0;
+		shares = 0;
+		for (corner = 1; corner <= corners; corner++)
+			shares |= card[corner] == i + 1;
+		for (corner = 1; shares && corner <= corners; corner++)
+			if (card[corner] <= least)
+				least = card[corner] - 1;
+	}
+	return least;
+}
+
 /* P as a deck has it is so small that no sum here passes 64 bits. */
 static int64_t board(void)
 {
-	const int64_t *number = p;
+	const int64_t *number;
 	int64_t sum = 0;
 	size_t i, j;
 
 	for (i = 0; i < nodes; i++) {
-		for (j = 0; j < i; j++)
+		number = p + starts[i];
+		for (j = firsts[i]; j < i; j++)
 			sum += *number++ * (temperatures[i] + temperatures[j]);
-		sum += *number++ * temperatures[i] + carried[i];
+		sum += *number * temperatures[i] + carried[i];
 	}
 	return sum;
 }
@@ -117,7 +140,7 @@ static long run(int forgetful)
 			printf("%8u %20lld %20lld %16lld\n", step, (long long)now, (long long)book, (long long)(now - book));
 		if (step == steps)
 			break;
-		if (refused(gormulast_step(table, length, p, MATRIX, a, MATRIX, factor, MATRIX,
+		if (refused(gormulast_step(table, length, p, MATRIX, a, MATRIX, factor, MATRIX, starts, nodes,
 					   temperatures, nodes, carried, nodes)))
 			return -1;
 		if (forgetful)
@@ -161,7 +184,7 @@ int main(int count, char **words)
 {
 	FILE *deck = count == 2 ? fopen(words[1], "rb") : NULL;
 	uint64_t from, to;
-	size_t size;
+	size_t size, node;
 	long apart;
 
 	if (!deck) {
@@ -178,8 +201,10 @@ int main(int count, char **words)
 		fprintf(stderr, "book: the deck has a card F, G or T\n");
 		return 2;
 	}
-	if (refused(gormulast_build(table, length, p, MATRIX, a, MATRIX, factor, MATRIX, work, MATRIX)))
+	if (refused(gormulast_build(table, length, p, MATRIX, a, MATRIX, factor, MATRIX, work, MATRIX, starts, GORMULAST_MAX_NODES)))
 		return 1;
+	for (node = 0; node < nodes; node++)
+		firsts[node] = first(node);
 
 	printf("%zu nodes, steps of %u ms, %lld microwatts\n", nodes, table[1], (long long)loads() / 65536);
 	printf("\ncarried from step to step\n");

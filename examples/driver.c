@@ -18,6 +18,7 @@ struct panel {
 	uint32_t table[GORMULAST_MAX_TABLE];
 	size_t length; /* of the table: six numbers a card */
 	int64_t p[MATRIX], a[MATRIX], factor[MATRIX], work[MATRIX];
+	uint32_t starts[GORMULAST_MAX_NODES]; /* where each row of them begins: a build's word, kept with them */
 	int64_t temperatures[GORMULAST_MAX_NODES];
 	int64_t carried[GORMULAST_MAX_NODES]; /* what each step leaves to the next */
 	size_t nodes;
@@ -26,7 +27,7 @@ struct panel {
 static uint64_t panel_build(struct panel *panel)
 {
 	return gormulast_build(panel->table, panel->length, panel->p, MATRIX, panel->a, MATRIX,
-			       panel->factor, MATRIX, panel->work, MATRIX);
+			       panel->factor, MATRIX, panel->work, MATRIX, panel->starts, GORMULAST_MAX_NODES);
 }
 
 /* Reads a deck, builds its matrices and starts every node at D's temperature, with nothing carried. */
@@ -51,7 +52,8 @@ static uint64_t panel_open(struct panel *panel, const uint8_t *bytes, size_t len
 static uint64_t panel_page(struct panel *panel)
 {
 	return gormulast_step(panel->table, panel->length, panel->p, MATRIX, panel->a, MATRIX,
-			      panel->factor, MATRIX, panel->temperatures, panel->nodes, panel->carried, panel->nodes);
+			      panel->factor, MATRIX, panel->starts, panel->nodes,
+			      panel->temperatures, panel->nodes, panel->carried, panel->nodes);
 }
 
 /* Gives a field and the one after it new values, in every card of a letter; stops at the first that is refused. */
@@ -69,7 +71,7 @@ static uint64_t panel_set(struct panel *panel, char letter, size_t field, uint32
 		new[field] = value;
 		new[field + 1] = after;
 		answer = gormulast_replace(panel->table, panel->length, panel->p, MATRIX, panel->a, MATRIX,
-					   panel->factor, MATRIX, panel->work, MATRIX,
+					   panel->factor, MATRIX, panel->work, MATRIX, panel->starts, panel->nodes,
 					   (uint32_t)(at / GORMULAST_CARD_NUMBERS + 1),
 					   new[0], new[1], new[2], new[3], new[4], new[5]);
 	}

@@ -13,6 +13,7 @@
 static uint8_t bytes[GORMULAST_MAX_BYTES + 1], records[GORMULAST_MAX_RECORDS_BYTES + 1];
 static uint32_t table[GORMULAST_MAX_TABLE], second[GORMULAST_MAX_TABLE];
 static int64_t p[MATRIX], a[MATRIX], factor[MATRIX], work[MATRIX];
+static uint32_t starts[GORMULAST_MAX_NODES];
 static int64_t temperatures[GORMULAST_MAX_NODES], carried[GORMULAST_MAX_NODES];
 
 static int refused(uint64_t answer)
@@ -43,7 +44,7 @@ static int stepped(size_t length, size_t nodes)
 	uint32_t step;
 
 	for (step = 0; step < second[3]; step++)
-		if (refused(gormulast_step(second, length, p, MATRIX, a, MATRIX, factor, MATRIX,
+		if (refused(gormulast_step(second, length, p, MATRIX, a, MATRIX, factor, MATRIX, starts, nodes,
 					   temperatures, nodes, carried, nodes)))
 			return 0;
 	return 1;
@@ -67,7 +68,7 @@ int main(int argc, char **argv)
 		return 1;
 	length += records_length / GORMULAST_RECORD_BYTES * GORMULAST_CARD_NUMBERS - GORMULAST_CARD_NUMBERS;
 	nodes = second[length - 4];
-	if (refused(gormulast_build(second, length, p, MATRIX, a, MATRIX, factor, MATRIX, work, MATRIX)))
+	if (refused(gormulast_build(second, length, p, MATRIX, a, MATRIX, factor, MATRIX, work, MATRIX, starts, GORMULAST_MAX_NODES)))
 		return 1;
 	for (node = 0; node < nodes; node++)
 		temperatures[node] = second[2];

@@ -10,7 +10,7 @@
  *     where that length is 0;
  *   - no two buffers of one call overlap, and no one else touches them while the call runs.
  *
- * An answer is number + 256 * corrections + 65536 * place. Number 0 is acceptance, 1 to 14 a refusal; place says where;
+ * An answer is number + 256 * corrections + 65536 * place. Number 0 is acceptance, 1 to 14 or 17 a refusal; place says where;
  * corrections is how often a step corrected, 1 to 4, and 0 on a refusal and in every other call.
  */
 #ifndef GORMULAST_H
@@ -46,7 +46,8 @@ extern "C" {
 	row(OFF_SCALE, 11, "node %u has a temperature off the scale") \
 	row(UNSETTLED, 12, "row %u is not settled after four corrections") \
 	row(REPLACEMENT, 13, "card %u can't become that card, or there is no such card") \
-	row(THIN, 14, "element %u is too thin for its longest side")
+	row(THIN, 14, "element %u is too thin for its longest side") \
+	row(STRAY, 17, "row %u begins elsewhere in this deck than the lent starts say")
 
 #define GORMULAST_NUMBERED(name, number, words) GORMULAST_##name = number,
 enum gormulast_refusal { GORMULAST_REFUSALS(GORMULAST_NUMBERED) GORMULAST_ACCEPTED = 0 };
@@ -77,7 +78,15 @@ static inline const char *gormulast_words(unsigned number)
 #define GORMULAST_MAX_TABLE 5052
 #define GORMULAST_MAX_NODES 96
 
-/* How many numbers a matrix of n nodes has: its lower triangle by rows. P, A, the factor and the work slice are matrices. */
+/* P, A, the factor and the work slice are matrices: one row for each node, each kept from its first column to its diagonal, one
+ * after another. A row's first column is the least node that shares an E, V or G card with it, itself counted, whether held or not.
+ * The matrix length is the count of numbers so kept: how many a deck needs goes by the numbers of its nodes. tools/number finds an
+ * order with few, and tells it.
+ *
+ * starts says where each row begins: the index of its first number, the same in all four; the first is 0. A build writes one for
+ * each node; keep them with the matrices and lend them to each replacement and step, which write none. No replacement moves one.
+ *
+ * This is the most that a matrix of n nodes can keep, 4656 of 96. Lend so many, or at least what the deck needs. */
 #define GORMULAST_MATRIX(n) ((size_t)(n) * ((size_t)(n) + 1) / 2)
 
 /* The deck at the end of the bytes, as a table.
@@ -96,16 +105,17 @@ uint64_t gormulast_read(const uint8_t *bytes, size_t bytes_length,
 uint64_t gormulast_write(const uint32_t *table, size_t table_length,
 			 uint8_t *bytes, size_t bytes_length);
 
-/* The matrices of a deck. What the buffers held before does not matter.
- *   0        p, a and factor hold the deck's matrices; work is zero
- *   7, 8     work is zero; p, a and factor stay
+/* The matrices of a deck, and where their rows start. What the buffers held before does not matter.
+ *   0        p, a and factor hold the deck's matrices, starts those of its rows; work is zero
+ *   7, 8     work is zero; p, a, factor and starts stay
  *   else     all stay
- * Each over the matrix length: numbers past it stay. Refuses with 1 to 9 and 14. */
+ * Each over the matrix length, starts over the nodes: numbers past them stay. Refuses with 1 to 9 and 14. */
 uint64_t gormulast_build(const uint32_t *table, size_t table_length,
 			 int64_t *p, size_t p_length,
 			 int64_t *a, size_t a_length,
 			 int64_t *factor, size_t factor_length,
-			 int64_t *work, size_t work_length);
+			 int64_t *work, size_t work_length,
+			 uint32_t *starts, size_t starts_length);
 
 /* One card of the deck anew, and what depends on it. Cards are numbered from 1, D being 1. An E card may change its material
  * and thickness, a V card its material, a G card its film, ambient and thickness, an H, F or T card its values.
@@ -121,6 +131,7 @@ uint64_t gormulast_replace(uint32_t *table, size_t table_length,
 			   int64_t *a, size_t a_length,
 			   int64_t *factor, size_t factor_length,
 			   int64_t *work, size_t work_length,
+			   const uint32_t *starts, size_t starts_length,
 			   uint32_t card, uint32_t letter,
 			   uint32_t f1, uint32_t f2, uint32_t f3, uint32_t f4, uint32_t f5);
 
@@ -136,11 +147,12 @@ uint64_t gormulast_replace(uint32_t *table, size_t table_length,
  *
  *   0        the temperatures are those after the step, carried is what it left; numbers past the last node stay in both
  *   refused  the temperatures and carried stay
- * Refuses with 1 to 4 and 8 to 12. */
+ * Refuses with 1 to 4, 8 to 12 and 17. */
 uint64_t gormulast_step(const uint32_t *table, size_t table_length,
 			const int64_t *p, size_t p_length,
 			const int64_t *a, size_t a_length,
 			const int64_t *factor, size_t factor_length,
+			const uint32_t *starts, size_t starts_length,
 			int64_t *temperatures, size_t temperatures_length,
 			int64_t *carried, size_t carried_length);
 

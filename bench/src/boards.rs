@@ -1,9 +1,11 @@
 //! The decks that are measured.
 
+use crate::decks::{firsts, shrunk, starts_of, triangle};
 use reference::{Answer, Card, MAX_ROWS};
 
 const E: u32 = b'E' as u32;
 const V: u32 = b'V' as u32;
+const F: u32 = b'F' as u32;
 const G: u32 = b'G' as u32;
 const H: u32 = b'H' as u32;
 
@@ -11,6 +13,11 @@ pub struct Board {
     pub bytes: Vec<u8>,
     pub table: Vec<u32>,
     pub nodes: usize,
+    /// Where each row begins in the kept form.
+    pub starts: Vec<u32>,
+    /// P, A, the factor and a work slice, packed and kept.
+    pub packed: [Vec<i64>; 4],
+    pub kept: [Vec<i64>; 4],
 }
 
 impl Board {
@@ -21,23 +28,19 @@ impl Board {
         assert_eq!(answer, Answer::Done, "{path} is a deck");
         table.truncate((end - start) / 7);
         let nodes = table[table.len() - 4] as usize;
+        let mut packed = [0; 4].map(|_| vec![0; triangle(nodes)]);
+        let [p, a, factor, work] = &mut packed;
+        let answer = reference::build(&table, p, a, factor, work);
+        assert_eq!(answer, Answer::Done, "{path} builds");
+        let firsts = firsts(&table);
         Board {
             bytes,
-            table,
             nodes,
+            starts: starts_of(&table),
+            kept: packed.each_ref().map(|matrix| shrunk(&firsts, matrix)),
+            packed,
+            table,
         }
-    }
-
-    /// P, A, the factor and a work slice.
-    pub fn built(&self) -> [Vec<i64>; 4] {
-        let matrix = || vec![0; self.nodes * (self.nodes + 1) / 2];
-        let mut matrices = [matrix(), matrix(), matrix(), matrix()];
-        let [p, a, factor, work] = &mut matrices;
-        assert_eq!(
-            reference::build(&self.table, p, a, factor, work),
-            Answer::Done
-        );
-        matrices
     }
 
     /// Every node at D's start temperature.
@@ -45,21 +48,28 @@ impl Board {
         vec![i64::from(self.table[2]); self.nodes]
     }
 
-    /// Its factor with pivots some parts of 64 larger, so that the first step takes so many corrections; none where all nodes
-    /// are as warm as they are held.
-    pub fn factor_for(&self, corrections: u64) -> Option<Vec<i64>> {
-        let [p, a, own, _] = self.built();
-        (64..256).find_map(|part| {
+    /// Its factor, packed and kept.
+    pub fn factors(&self) -> [Vec<i64>; 2] {
+        [self.packed[2].clone(), self.kept[2].clone()]
+    }
+
+    /// The same with pivots some parts of 64 larger, so that the first step takes so many corrections; none where all nodes are as
+    /// warm as they are held.
+    pub fn factors_for(&self, corrections: u64) -> Option<[Vec<i64>; 2]> {
+        let [p, a, own, _] = &self.packed;
+        let packed = (64..256).find_map(|part| {
             let mut factor = own.clone();
             for i in 0..self.nodes {
-                let d = &mut factor[i * (i + 3) / 2];
+                let d = &mut factor[triangle(i) + i];
                 *d = *d * part / 64;
             }
             let (mut temperatures, mut carried) = (self.start(), vec![0; self.nodes]);
             let (table, first) = (&self.table, &mut temperatures);
-            let answer = reference::step(table, &p, &a, &factor, first, &mut carried);
+            let answer = reference::step(table, p, a, &factor, first, &mut carried);
             (answer.packed() == 256 * corrections).then_some(factor)
-        })
+        })?;
+        let kept = shrunk(&firsts(&self.table), &packed);
+        Some([packed, kept])
     }
 
     /// The cards of a letter, each with its number.
@@ -86,6 +96,18 @@ impl Board {
             .map(|(number, card)| (least(&card[1..=corners]), number, card))
             .min_by_key(|(least, ..)| least.abs_diff(node))
             .expect("a deck has an element")
+    }
+
+    /// The F card whose triangle's least corner is nearest to a node: that corner, the card's number, the card; none where the board
+    /// has none.
+    pub fn film_near(&self, node: u32) -> Option<(u32, u32, Card)> {
+        let triangles: Vec<Card> = self.cards(E).map(|(_, card)| card).collect();
+        self.cards(F)
+            .map(|(number, card)| {
+                let corners = &triangles[card[1] as usize - 1][1..4];
+                (least(corners), number, card)
+            })
+            .min_by_key(|(least, ..)| least.abs_diff(node))
     }
 
     /// The G card whose lower node is nearest to a node: that node, the card's number, the card; none where the board has none.

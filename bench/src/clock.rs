@@ -1,47 +1,26 @@
-//! Medians of two works, the archive's and one to measure it against, taken in turns, so that both meet the same machine.
+//! Medians of some works, the archive's and those to measure it against, taken in turns, so that all meet the same machine.
 
 use std::time::Instant;
-
-/// Nanoseconds a call.
-#[derive(Clone, Copy)]
-pub struct Times {
-    pub against: f64,
-    pub archive: f64,
-}
-
-impl Times {
-    pub const MOST: Times = Times {
-        against: f64::INFINITY,
-        archive: f64::INFINITY,
-    };
-
-    pub fn min(self, other: Times) -> Times {
-        Times {
-            against: self.against.min(other.against),
-            archive: self.archive.min(other.archive),
-        }
-    }
-}
 
 const RUNS: usize = 1_001;
 /// A run is as many calls as take about this long.
 const RUN_NANOSECONDS: u128 = 40_000;
 
-/// Each work answers 0, or the measuring ends: a refused call is no measure.
-pub fn in_turns(mut against: impl FnMut() -> u64, mut archive: impl FnMut() -> u64) -> Times {
-    let calls = calls_a_run(&mut against).min(calls_a_run(&mut archive));
-    let (mut theirs, mut ours) = (Vec::new(), Vec::new());
+pub type Work<'a> = Box<dyn FnMut() -> u64 + 'a>;
+
+/// Nanoseconds a call. Each work answers 0, or the measuring ends: a refused call is no measure.
+pub fn in_turns<const K: usize>(mut works: [Work; K]) -> [f64; K] {
+    let calls = works.iter_mut().map(calls_a_run).min().expect("a work");
+    let mut times = [0; K].map(|_| Vec::with_capacity(RUNS));
     for _ in 0..RUNS {
-        theirs.push(run(&mut against, calls));
-        ours.push(run(&mut archive, calls));
+        for (times, work) in times.iter_mut().zip(&mut works) {
+            times.push(run(work, calls));
+        }
     }
-    Times {
-        against: median(theirs, calls),
-        archive: median(ours, calls),
-    }
+    times.map(|runs| median(runs, calls))
 }
 
-fn run(work: &mut impl FnMut() -> u64, calls: u128) -> u128 {
+fn run(work: &mut Work, calls: u128) -> u128 {
     let began = Instant::now();
     for _ in 0..calls {
         assert_eq!(std::hint::black_box(work()), 0, "a call was refused");
@@ -49,7 +28,7 @@ fn run(work: &mut impl FnMut() -> u64, calls: u128) -> u128 {
     began.elapsed().as_nanos()
 }
 
-fn calls_a_run(work: &mut impl FnMut() -> u64) -> u128 {
+fn calls_a_run(work: &mut Work) -> u128 {
     run(work, 3);
     (RUN_NANOSECONDS * 3 / run(work, 3).max(1)).max(1)
 }

@@ -1,21 +1,26 @@
-//! The archive's calls against reference/'s, in one run: medians of many, taken in turns.
+//! The archive's calls against those of reference/, over the packed form and over the kept one, in one run: medians of many, taken in
+//! turns.
 //!
 //!     bench DECK..
 //!
 //! The decks rise in nodes and build. reference/ divides as the paper writes it: its R is x/2^20 by a division.
 //!
-//! With the feature `before` it is the archive's step against that of an archive from before the residuals were carried.
+//! With the feature `before` it is the archive's calls against those of an archive from before rows were kept.
 
+#[path = "../../reference/tests/common/mod.rs"]
+mod decks;
 #[path = "../../tests/differential/src/face.rs"]
 mod face;
 
+mod archive;
 #[cfg(feature = "before")]
 mod before;
 mod boards;
 mod clock;
+mod plain;
 
 use boards::Board;
-use clock::{in_turns, Times};
+use clock::in_turns;
 use reference::Card;
 
 /// Sizes whose every call is shown.
@@ -28,44 +33,95 @@ fn main() {
         .map(|path| Board::read(&path))
         .collect();
     #[cfg(feature = "before")]
-    return before::steps(&boards);
+    return before::calls(&boards);
     #[cfg(not(feature = "before"))]
     calls(&boards);
+}
+
+/// A replacement to measure: its name, the card, the field of it that is one more and back.
+pub struct Change {
+    pub name: String,
+    pub card: u32,
+    pub even: Card,
+    pub field: usize,
+}
+
+impl Change {
+    fn of(found: (u32, u32, Card), field: usize) -> Change {
+        let (least, card, even) = found;
+        let letter = char::from(even[0] as u8);
+        let name = format!("replace {letter} at {least}");
+        Change {
+            name,
+            card,
+            even,
+            field,
+        }
+    }
+
+    /// In each quarter of the nodes, and in the middle: an element's thickness or material, a film. And an edge, a heat.
+    pub fn all(board: &Board) -> Vec<Change> {
+        let nodes = board.nodes as u32;
+        let places = || [1, 3, 4, 5, 7].map(|eighths| nodes * eighths / 8);
+        let mut changes: Vec<Change> = places()
+            .map(|node| Change::of(board.element_near(node), 5))
+            .into();
+        let films = places()
+            .into_iter()
+            .filter_map(|node| board.film_near(node));
+        changes.extend(films.map(|found| Change::of(found, 2)));
+        let edge = board.edge_near(nodes / 2);
+        changes.extend(edge.map(|found| Change::of(found, 3)));
+        let (card, even) = board.heat();
+        changes.push(Change {
+            name: "replace H".to_string(),
+            card,
+            even,
+            field: 2,
+        });
+        changes
+    }
+
+    /// The new card, in turns.
+    pub fn cards(&self) -> impl FnMut() -> Card {
+        let (even, mut odd) = (self.even, self.even);
+        odd[self.field] += 1;
+        let mut turn = false;
+        move || {
+            turn = !turn;
+            if turn {
+                odd
+            } else {
+                even
+            }
+        }
+    }
 }
 
 #[cfg_attr(feature = "before", allow(dead_code))]
 fn calls(boards: &[Board]) {
     println!(
-        "{:15} {:>5} {:>12} {:>12} {:>7}",
-        "call", "nodes", "reference", "archive", "ratio"
+        "{:15} {:>5} {:>6} {:>12} {:>12} {:>12} {:>7} {:>7}",
+        "call", "nodes", "kept", "packed", "kept", "archive", "to pack", "to kept"
     );
     for board in boards.iter().filter(|board| SHOWN.contains(&board.nodes)) {
-        show("read", board, reads(board));
-        show("write", board, writes(board));
+        let [plain, archive] = in_turns([plain::read(board), archive::read(board)]);
+        show("read", board, [plain, plain, archive]);
+        let [plain, archive] = in_turns([plain::write(board), archive::write(board)]);
+        show("write", board, [plain, plain, archive]);
         show("build", board, builds(board));
-        // In each quarter of the nodes, and in the middle.
-        for eighths in [1, 3, 4, 5, 7] {
-            let (least, card, even) = board.element_near(board.nodes as u32 * eighths / 8);
-            let letter = char::from(even[0] as u8);
-            show(
-                &format!("replace {letter} at {least}"),
-                board,
-                replaces(board, card, even, 5),
-            );
+        for change in Change::all(board) {
+            let works = [
+                plain::replace_packed(board, &change),
+                plain::replace_kept(board, &change),
+                archive::replace(board, &change),
+            ];
+            show(&change.name, board, in_turns(works));
         }
-        if let Some((low, card, even)) = board.edge_near(board.nodes as u32 / 2) {
-            show(
-                &format!("replace G at {low}"),
-                board,
-                replaces(board, card, even, 3),
-            );
-        }
-        let (card, even) = board.heat();
-        show("replace H", board, replaces(board, card, even, 2));
-        show("step", board, steps(board, &board.built()[2]));
+        show("step", board, steps(board, board.factors()));
         // The most that a step can do.
-        if let Some(factor) = board.factor_for(4) {
-            show("step by 4", board, steps(board, &factor));
+        if let Some(factors) = board.factors_for(4) {
+            show("step by 4", board, steps(board, factors));
         }
     }
     if boards.len() > 1 {
@@ -73,178 +129,55 @@ fn calls(boards: &[Board]) {
     }
 }
 
-fn show(call: &str, board: &Board, times: Times) {
-    let ratio = times.archive / times.against;
-    let mark = if ratio < 1.0 { "" } else { "  more" };
-    let (nodes, Times { against, archive }) = (board.nodes, times);
-    println!("{call:15} {nodes:>5} {against:>9.0} ns {archive:>9.0} ns {ratio:>7.2}{mark}");
+fn show(call: &str, board: &Board, [packed, kept, archive]: [f64; 3]) {
+    let (to_packed, to_kept) = (archive / packed, archive / kept);
+    let mark = if to_packed.max(to_kept) < 1.0 {
+        ""
+    } else {
+        "  more"
+    };
+    let (nodes, count) = (board.nodes, board.kept[0].len());
+    println!("{call:15} {nodes:>5} {count:>6} {packed:>9.0} ns {kept:>9.0} ns {archive:>9.0} ns {to_packed:>7.2} {to_kept:>7.2}{mark}");
+}
+
+fn builds(board: &Board) -> [f64; 3] {
+    in_turns([
+        plain::build_packed(board),
+        plain::build_kept(board),
+        archive::build(board),
+    ])
+}
+
+/// Always the first step of the deck, with nothing carried.
+fn steps(board: &Board, [packed, kept]: [Vec<i64>; 2]) -> [f64; 3] {
+    in_turns([
+        plain::step_packed(board, packed),
+        plain::step_kept(board, kept.clone()),
+        archive::step(board, kept),
+    ])
 }
 
 /// How the cost of a build rises: the power of n from each size to the next. Other work on the machine comes and goes, so
 /// every size is measured in each of some rounds, and its least median counts.
 fn growth(boards: &[Board]) {
-    let mut least = vec![Times::MOST; boards.len()];
+    let mut least = vec![[f64::INFINITY; 3]; boards.len()];
     for _ in 0..ROUNDS {
         for (least, board) in least.iter_mut().zip(boards) {
-            *least = least.min(builds(board));
+            let times = builds(board);
+            *least = [0, 1, 2].map(|which| least[which].min(times[which]));
         }
     }
     println!("build, from each size to the next as a power of n:");
     for (boards, times) in boards.windows(2).zip(least.windows(2)) {
         let (n, m) = (boards[0].nodes, boards[1].nodes);
-        let power = |from: f64, to: f64| (to / from).ln() / (m as f64 / n as f64).ln();
-        let reference = power(times[0].against, times[1].against);
-        let archive = power(times[0].archive, times[1].archive);
-        println!("{n:>3} to {m:>3} nodes   reference {reference:.2}   archive {archive:.2}");
-    }
-}
-
-fn reads(board: &Board) -> Times {
-    let (mut right, mut ours) = (board.table.clone(), board.table.clone());
-    let bytes = &board.bytes;
-    in_turns(
-        || reference::read(bytes, &mut right).0.packed(),
-        || {
-            let (mut start, mut end) = (0, 0);
-            // Safety, here and below: each pointer is good for the length beside it, and no two overlap.
-            unsafe {
-                face::gormulast_read(
-                    bytes.as_ptr(),
-                    bytes.len(),
-                    ours.as_mut_ptr(),
-                    ours.len(),
-                    &mut start,
-                    &mut end,
-                )
-            }
-        },
-    )
-}
-
-fn writes(board: &Board) -> Times {
-    let (mut right, mut ours) = (board.bytes.clone(), board.bytes.clone());
-    let table = &board.table;
-    in_turns(
-        || reference::write(table, &mut right).packed(),
-        || unsafe {
-            face::gormulast_write(table.as_ptr(), table.len(), ours.as_mut_ptr(), ours.len())
-        },
-    )
-}
-
-fn builds(board: &Board) -> Times {
-    let ([mut p, mut a, mut factor, mut work], mut ours) = (board.built(), board.built());
-    let table = &board.table;
-    in_turns(
-        || reference::build(table, &mut p, &mut a, &mut factor, &mut work).packed(),
-        || {
-            let length = ours[0].len();
-            let [p, a, factor, work] = ours.each_mut().map(|matrix| matrix.as_mut_ptr());
-            unsafe {
-                face::gormulast_build(
-                    table.as_ptr(),
-                    table.len(),
-                    p,
-                    length,
-                    a,
-                    length,
-                    factor,
-                    length,
-                    work,
-                    length,
-                )
-            }
-        },
-    )
-}
-
-/// A field one more and back: a triangle's thickness, a tetrahedron's material, an edge's film, a heat.
-fn replaces(board: &Board, card: u32, even: Card, field: usize) -> Times {
-    let mut odd = even;
-    odd[field] += 1;
-    let ([mut p, mut a, mut factor, mut work], mut ours) = (board.built(), board.built());
-    let (mut right_table, mut our_table) = (board.table.clone(), board.table.clone());
-    let (mut right_turn, mut our_turn) = (false, false);
-    in_turns(
-        || {
-            right_turn = !right_turn;
-            let new = if right_turn { odd } else { even };
-            let table = &mut right_table;
-            reference::replace(table, &mut p, &mut a, &mut factor, &mut work, card, new).packed()
-        },
-        || {
-            our_turn = !our_turn;
-            let [letter, f1, f2, f3, f4, f5] = if our_turn { odd } else { even };
-            let length = ours[0].len();
-            let [p, a, factor, work] = ours.each_mut().map(|matrix| matrix.as_mut_ptr());
-            unsafe {
-                face::gormulast_replace(
-                    our_table.as_mut_ptr(),
-                    our_table.len(),
-                    p,
-                    length,
-                    a,
-                    length,
-                    factor,
-                    length,
-                    work,
-                    length,
-                    card,
-                    letter,
-                    f1,
-                    f2,
-                    f3,
-                    f4,
-                    f5,
-                )
-            }
-        },
-    )
-}
-
-/// Always the first step of the deck, with nothing carried.
-fn steps(board: &Board, factor: &[i64]) -> Times {
-    let [p, a, ..] = &board.built();
-    let table = &board.table;
-    let start = board.start();
-    let (mut right, mut carried) = (start.clone(), vec![0; board.nodes]);
-    in_turns(
-        || {
-            right.copy_from_slice(&start);
-            carried.fill(0);
-            reference::step(table, p, a, factor, &mut right, &mut carried).packed() & 255
-        },
-        our_step(board, p, a, factor),
-    )
-}
-
-fn our_step<'a>(
-    board: &'a Board,
-    p: &'a [i64],
-    a: &'a [i64],
-    factor: &'a [i64],
-) -> impl FnMut() -> u64 + 'a {
-    let start = board.start();
-    let (mut ours, mut carried) = (start.clone(), vec![0; board.nodes]);
-    move || {
-        ours.copy_from_slice(&start);
-        carried.fill(0);
-        let answer = unsafe {
-            face::gormulast_step(
-                board.table.as_ptr(),
-                board.table.len(),
-                p.as_ptr(),
-                p.len(),
-                a.as_ptr(),
-                a.len(),
-                factor.as_ptr(),
-                factor.len(),
-                ours.as_mut_ptr(),
-                ours.len(),
-                carried.as_mut_ptr(),
-                carried.len(),
-            )
-        };
-        answer & 255
+        if n == m {
+            continue;
+        }
+        let power =
+            |which: usize| (times[1][which] / times[0][which]).ln() / (m as f64 / n as f64).ln();
+        let [packed, kept, archive] = [0, 1, 2].map(power);
+        println!(
+            "{n:>3} to {m:>3} nodes   packed {packed:.2}   kept {kept:.2}   archive {archive:.2}"
+        );
     }
 }

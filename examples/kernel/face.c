@@ -8,7 +8,8 @@
  *   /sys/class/misc/gormulast/carried    read: what the last step left to the next, one number for each node
  *   /sys/class/misc/gormulast/answer     read: the last answer, in plain words
  *
- * A write that is not such numbers fails and leaves the last answer. All memory is taken once, when the module is loaded.
+ * A write that is not such numbers fails and leaves the last answer. All memory is taken once, when the module is loaded: for any
+ * deck, or with numbers=N for those whose matrices keep at most N, which tools/number tells.
  */
 #include <linux/miscdevice.h>
 #include <linux/mm.h>
@@ -21,6 +22,10 @@
 #include "words.h"
 
 #define MOST_STEPS 100000
+
+static unsigned int numbers = MOST_NUMBERS;
+module_param(numbers, uint, 0444);
+MODULE_PARM_DESC(numbers, "how many numbers a matrix may keep; a deck that needs more is refused");
 
 static struct board {
 	struct mutex lock; /* over all that follows */
@@ -217,16 +222,24 @@ static struct miscdevice device = {
 
 static int __init board_load(void)
 {
-	int error;
+	int error = -ENOMEM;
+	int64_t *matrices;
 
+	if (numbers < 1 || numbers > MOST_NUMBERS)
+		return -EINVAL;
 	board = kvzalloc(sizeof(*board), GFP_KERNEL);
-	if (!board)
-		return -ENOMEM;
+	matrices = kvcalloc(MATRICES * numbers, sizeof(*matrices), GFP_KERNEL);
+	if (!board || !matrices)
+		goto free;
+	model_lend(&board->model, matrices, numbers);
 	mutex_init(&board->lock);
 	board->answer = U64_MAX; /* none yet */
 	error = misc_register(&device);
-	if (error)
-		kvfree(board);
+	if (!error)
+		return 0;
+free:
+	kvfree(matrices);
+	kvfree(board);
 	return error;
 }
 module_init(board_load);
@@ -234,6 +247,7 @@ module_init(board_load);
 static void __exit board_unload(void)
 {
 	misc_deregister(&device);
+	kvfree(board->model.p); /* and the other matrices, which lie behind it */
 	kvfree(board);
 }
 module_exit(board_unload);

@@ -2,8 +2,18 @@
 #include <linux/string.h>
 #include "model.h"
 
+void model_lend(struct model *model, int64_t *memory, size_t numbers)
+{
+	model->p = memory;
+	model->a = memory + numbers;
+	model->factor = memory + 2 * numbers;
+	model->work = memory + 3 * numbers;
+	model->numbers = numbers;
+}
+
 /* Reads a deck, builds its matrices and starts every node at D's temperature, with nothing carried. The deck is read into a
- * table of its own, and a refused build leaves p, a and factor, so a deck that is refused, wherever, leaves the old one at work. */
+ * table of its own, and a refused build leaves p, a, factor and starts, so a deck that is refused, wherever, leaves the old one at
+ * work. */
 uint64_t model_deck(struct model *model, const uint8_t *bytes, size_t length)
 {
 	uint64_t start, end, answer;
@@ -13,8 +23,9 @@ uint64_t model_deck(struct model *model, const uint8_t *bytes, size_t length)
 	if (answer)
 		return answer;
 	numbers = (end - start) / GORMULAST_CARD_BYTES * GORMULAST_CARD_NUMBERS;
-	answer = gormulast_build(model->next, numbers, model->p, MATRIX, model->a, MATRIX,
-				 model->factor, MATRIX, model->work, MATRIX);
+	answer = gormulast_build(model->next, numbers, model->p, model->numbers, model->a, model->numbers,
+				 model->factor, model->numbers, model->work, model->numbers,
+				 model->starts, GORMULAST_MAX_NODES);
 	if (answer)
 		return answer;
 	memcpy(model->table, model->next, numbers * sizeof(*model->table));
@@ -30,15 +41,16 @@ uint64_t model_deck(struct model *model, const uint8_t *bytes, size_t length)
 /* What is carried stays: it is heat that is still due. */
 uint64_t model_replace(struct model *model, uint32_t card, const uint32_t new[GORMULAST_CARD_NUMBERS])
 {
-	return gormulast_replace(model->table, model->length, model->p, MATRIX, model->a, MATRIX,
-				 model->factor, MATRIX, model->work, MATRIX,
+	return gormulast_replace(model->table, model->length, model->p, model->numbers, model->a, model->numbers,
+				 model->factor, model->numbers, model->work, model->numbers, model->starts, model->nodes,
 				 card, new[0], new[1], new[2], new[3], new[4], new[5]);
 }
 
 uint64_t model_step(struct model *model)
 {
-	return gormulast_step(model->table, model->length, model->p, MATRIX, model->a, MATRIX,
-			      model->factor, MATRIX, model->temperatures, model->nodes, model->carried, model->nodes);
+	return gormulast_step(model->table, model->length, model->p, model->numbers, model->a, model->numbers,
+			      model->factor, model->numbers, model->starts, model->nodes,
+			      model->temperatures, model->nodes, model->carried, model->nodes);
 }
 
 size_t model_bytes(const struct model *model, uint8_t *bytes, size_t room)

@@ -8,17 +8,24 @@
 
 #include <gormulast.h>
 
-#define MATRIX GORMULAST_MATRIX(GORMULAST_MAX_NODES)
+/* The most numbers that a matrix can keep. */
+#define MOST_NUMBERS GORMULAST_MATRIX(GORMULAST_MAX_NODES)
+#define MATRICES 4
 
 struct model {
 	uint32_t table[GORMULAST_MAX_TABLE];
 	size_t length; /* of the table: six numbers a card, 0 before the first deck */
 	uint32_t next[GORMULAST_MAX_TABLE]; /* a deck not yet accepted */
-	int64_t p[MATRIX], a[MATRIX], factor[MATRIX], work[MATRIX];
+	int64_t *p, *a, *factor, *work; /* each of so many numbers: a deck that needs more is refused by 9 */
+	size_t numbers;
+	uint32_t starts[GORMULAST_MAX_NODES]; /* where each of their rows begins, as the build told */
 	int64_t temperatures[GORMULAST_MAX_NODES];
 	int64_t carried[GORMULAST_MAX_NODES]; /* what each step leaves to the next */
 	size_t nodes;
 };
+
+/* Lends an empty model the memory of its matrices, MATRICES times so many numbers, as long as it is used. */
+void model_lend(struct model *model, int64_t *memory, size_t numbers);
 
 /* Each answers as gormulast.h says. A refusal leaves the model as it was. */
 uint64_t model_deck(struct model *model, const uint8_t *bytes, size_t length);

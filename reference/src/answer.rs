@@ -16,6 +16,7 @@ pub const REPLACEMENT: u8 = 13;
 pub const THIN: u8 = 14;
 pub const INFINITE: u8 = 15;
 pub const GARBLED: u8 = 16;
+pub const STRAY: u8 = 17;
 
 /// A row of the paper's table of refusals, with its place.
 #[derive(Clone, Copy, Debug, PartialEq, Eq)]

@@ -1,11 +1,12 @@
-//! The calls but `import`.
+//! The calls but `import`: reading and writing, and over any layout of the matrices what `packed` and `kept` offer.
 
 use crate::answer::*;
 use crate::card::*;
 use crate::element::{change, triangle, Element, Form};
 use crate::judge::{in_range, well_formed, Counts, Deck, Turn};
+use crate::layout::Layout;
 use crate::step::{on_scale, Stepper};
-use crate::{edge, factor as factoring, matrix, solid, text};
+use crate::{edge, solid, text};
 
 /// Reads the deck at the end of the bytes into the table. Answers also the bounds
 /// of the part from D to Z, both whole; 0 and 0 on a refusal.
@@ -65,33 +66,15 @@ fn try_write(table: &[u32], bytes: &mut [u8]) -> Result<(), Refusal> {
     Ok(())
 }
 
-/// Makes P, A and the factor of a deck. Until the factor is had, only the work slice is written.
-pub fn build(
+/// Makes P, A, the factor and, of the kept form, the row starts of a deck.
+pub fn build<L: Layout>(
     table: &[u32],
-    p: &mut [i64],
-    a: &mut [i64],
-    factor: &mut [i64],
-    work: &mut [i64],
-) -> Answer {
-    try_build(table, p, a, factor, work).into()
-}
-
-fn try_build(
-    table: &[u32],
-    p: &mut [i64],
-    a: &mut [i64],
-    factor: &mut [i64],
-    work: &mut [i64],
+    lent: [&mut [i64]; 4],
+    starts: &mut [u32],
 ) -> Result<(), Refusal> {
     let deck = Deck::judge(table)?;
-    let n = deck.counts.nodes;
-    let length = matrix::start(n);
-    let [p, a, factor, work] = [
-        cut(p, length)?,
-        cut(a, length)?,
-        cut(factor, length)?,
-        cut(work, length)?,
-    ];
+    let layout = L::of(&deck);
+    let [p, a, factor, work] = cut(&layout, lent, starts)?;
 
     let mut elements = [Element::EMPTY; MAX_ELEMENTS];
     let elements = &mut elements[..deck.counts.elements];
@@ -104,93 +87,70 @@ fn try_build(
     }
 
     work.fill(0);
-    add_all(work, &deck, elements);
-    matrix::fix(work, 0, n, &deck.fixed());
-    let result = factoring::rows(&[], work, 0, n);
+    add_all(&layout, work, &deck, elements);
+    layout.fix(work, 0, &deck.fixed());
+    let result = layout.factor(&[], work, 0);
     if result.is_ok() {
         factor.copy_from_slice(work);
         p.fill(0);
         a.fill(0);
         for element in elements.iter() {
-            element.add_capacity(p);
+            element.add_capacity(&layout, p);
         }
-        add_all(a, &deck, elements);
+        add_all(&layout, a, &deck, elements);
+        layout.tell(starts);
     }
     work.fill(0);
     result
 }
 
 /// A of the elements and of the deck's edges, into zeros.
-fn add_all(matrix: &mut [i64], deck: &Deck, elements: &[Element]) {
+fn add_all(layout: &impl Layout, matrix: &mut [i64], deck: &Deck, elements: &[Element]) {
     for element in elements {
-        element.add_total(matrix);
+        element.add_total(layout, matrix);
     }
     for card in deck.loads().filter(|card| card[0] == G) {
-        matrix::add(
-            matrix,
-            edge::ends(&card),
-            edge::square(edge::share(deck, &card)),
-        );
+        let square = edge::square(edge::share(deck, &card));
+        layout.add(matrix, edge::ends(&card), square);
     }
 }
 
 /// Replaces one card of a deck, and of P, A and the factor what depends on it.
-pub fn replace(
+pub fn replace<L: Layout>(
     table: &mut [u32],
-    p: &mut [i64],
-    a: &mut [i64],
-    factor: &mut [i64],
-    work: &mut [i64],
-    card: u32,
-    new: Card,
-) -> Answer {
-    try_replace(table, p, a, factor, work, card, new).into()
-}
-
-fn try_replace(
-    table: &mut [u32],
-    p: &mut [i64],
-    a: &mut [i64],
-    factor: &mut [i64],
-    work: &mut [i64],
+    lent: [&mut [i64]; 4],
+    starts: &[u32],
     card: u32,
     new: Card,
 ) -> Result<(), Refusal> {
     let deck = Deck::judge(table)?;
     let index = judge_new(&deck, card, &new)?;
-    let n = deck.counts.nodes;
-    let length = matrix::start(n);
-    let [p, a, factor, work] = [
-        cut(p, length)?,
-        cut(a, length)?,
-        cut(factor, length)?,
-        cut(work, length)?,
-    ];
-    judge_lent(n, p, a, factor)?;
+    let layout = L::of(&deck);
+    let lent = cut(&layout, lent, starts)?;
+    judge_starts(&layout, starts)?;
+    let [p, a, factor, _] = &lent;
+    judge_lent(&layout, [p, a, factor])?;
 
     let old = deck.card(index);
-    let lent = [p, a, factor, work];
+    let model = Model {
+        deck: &deck,
+        layout: &layout,
+    };
     match new[0] {
         E | F => {
             let (old_form, new_form) = forms_of_change(&deck, index, &old, &new)?;
-            exchange(&deck, lent, &old_form, &new_form)?;
+            model.exchange(lent, &old_form, &new_form)?;
         }
         V => {
             let element = index - deck.counts.first_element();
             let new_form = solid::form(&deck, element, &new)?;
             new_form.judge(element)?;
-            exchange(&deck, lent, &solid::form(&deck, element, &old)?, &new_form)?;
+            model.exchange(lent, &solid::form(&deck, element, &old)?, &new_form)?;
         }
         G => {
             // Of A alone, and no element is judged.
             let more = edge::share(&deck, &new) - edge::share(&deck, &old);
-            redo(
-                &deck,
-                lent,
-                edge::ends(&new),
-                [[0; 2]; 2],
-                edge::square(more),
-            )?;
+            model.redo(lent, edge::ends(&new), [[0; 2]; 2], edge::square(more))?;
         }
         _ => {}
     }
@@ -198,42 +158,49 @@ fn try_replace(
     Ok(())
 }
 
-/// P, A and the factor with an element's new form in the place of its old one.
-fn exchange<const K: usize>(
-    deck: &Deck,
-    lent: [&mut [i64]; 4],
-    old: &Form<K>,
-    new: &Form<K>,
-) -> Result<(), Refusal> {
-    let change_p = change(new.capacity(), old.capacity());
-    let change_a = change(new.total(), old.total());
-    redo(deck, lent, new.corners, change_p, change_a)
+struct Model<'a, L> {
+    deck: &'a Deck<'a>,
+    layout: &'a L,
 }
 
-/// P and A with a change at some nodes, and the factor redone from the least of them; or 7 or 8, and the work slice alone written.
-fn redo<const K: usize>(
-    deck: &Deck,
-    [p, a, factor, work]: [&mut [i64]; 4],
-    nodes: [usize; K],
-    change_p: [[i64; K]; K],
-    change_a: [[i64; K]; K],
-) -> Result<(), Refusal> {
-    let n = deck.counts.nodes;
-    // All places of the change are in the rows from the least node on.
-    let first = nodes.into_iter().fold(n, usize::min);
-    let from = matrix::start(first);
-    work[from..].copy_from_slice(&a[from..]);
-    matrix::add(work, nodes, change_a);
-    matrix::fix(work, first, n, &deck.fixed());
-    let (kept, lower) = factor.split_at_mut(from);
-    let result = factoring::rows(kept, &mut work[from..], first, n);
-    if result.is_ok() {
-        lower.copy_from_slice(&work[from..]);
-        matrix::add(p, nodes, change_p);
-        matrix::add(a, nodes, change_a);
+impl<L: Layout> Model<'_, L> {
+    /// P, A and the factor with an element's new form in the place of its old one.
+    fn exchange<const K: usize>(
+        &self,
+        lent: [&mut [i64]; 4],
+        old: &Form<K>,
+        new: &Form<K>,
+    ) -> Result<(), Refusal> {
+        let change_p = change(new.capacity(), old.capacity());
+        let change_a = change(new.total(), old.total());
+        self.redo(lent, new.corners, change_p, change_a)
     }
-    work.fill(0);
-    result
+
+    /// P and A with a change at some nodes, and the factor redone from the least of them; or 7 or 8, and the work slice alone written.
+    fn redo<const K: usize>(
+        &self,
+        [p, a, factor, work]: [&mut [i64]; 4],
+        nodes: [usize; K],
+        change_p: [[i64; K]; K],
+        change_a: [[i64; K]; K],
+    ) -> Result<(), Refusal> {
+        let layout = self.layout;
+        // All places of the change are in the rows from the least node on.
+        let first = nodes.into_iter().fold(MAX_NODES, usize::min);
+        let from = layout.start(first);
+        work[from..].copy_from_slice(&a[from..]);
+        layout.add(work, nodes, change_a);
+        layout.fix(work, first, &self.deck.fixed());
+        let (above, lower) = factor.split_at_mut(from);
+        let result = layout.factor(above, &mut work[from..], first);
+        if result.is_ok() {
+            lower.copy_from_slice(&work[from..]);
+            layout.add(p, nodes, change_p);
+            layout.add(a, nodes, change_a);
+        }
+        work.fill(0);
+        result
+    }
 }
 
 /// 3, 13 and 4 of a new card; the index of the card that it replaces, D being 0.
@@ -287,78 +254,97 @@ fn forms_of_change(
     Ok((old_form, new_form))
 }
 
-/// One step from the lent temperatures and the residuals that the step before it left, zero at the start.
-pub fn step(
+/// One step from the lent temperatures and the residuals that the step before it left.
+pub fn step<L: Layout>(
     table: &[u32],
-    p: &[i64],
-    a: &[i64],
-    factor: &[i64],
+    lent: [&[i64]; 3],
+    starts: &[u32],
     temperatures: &mut [i64],
     carried: &mut [i64],
-) -> Stepped {
-    let one = |stepper: &Stepper, _, temperatures: &mut [i64], carried: &mut [i64]| {
+) -> Result<u32, Refusal> {
+    let one = |stepper: &Stepper<L>, _, temperatures: &mut [i64], carried: &mut [i64]| {
         stepper.step(temperatures, carried)
     };
-    try_run(table, p, a, factor, temperatures, carried, one).into()
+    judged(table, lent, starts, [temperatures, carried], one)
 }
 
-/// D's number of steps from the lent temperatures and residuals, up to the first refusal; each step hands both to the next.
-/// What a step asks of the deck and the matrices is the same each time, and asked once. So are 10 of the residuals and 11 of
-/// the temperatures: a step leaves residuals within its row bounds, which 10 of A holds to 2^33, and temperatures on the scale.
-pub fn run(
+/// D's number of steps, up to the first refusal; each hands temperatures and residuals to the next. What a step asks of the deck, the
+/// matrices and the row starts is the same each time, and asked once. So are 10 of the residuals and 11 of the temperatures: a step
+/// leaves residuals within its row bounds, which 10 of A holds to 2^33, and temperatures on the scale.
+pub fn run<L: Layout>(
     table: &[u32],
-    p: &[i64],
-    a: &[i64],
-    factor: &[i64],
+    lent: [&[i64]; 3],
+    starts: &[u32],
     temperatures: &mut [i64],
     carried: &mut [i64],
-) -> Ran {
-    let all = |stepper: &Stepper, steps, temperatures: &mut [i64], carried: &mut [i64]| {
+) -> Result<u32, Refusal> {
+    let all = |stepper: &Stepper<L>, steps, temperatures: &mut [i64], carried: &mut [i64]| {
         for _ in 0..steps {
             stepper.step(temperatures, carried)?;
         }
         Ok(steps)
     };
-    try_run(table, p, a, factor, temperatures, carried, all).into()
+    judged(table, lent, starts, [temperatures, carried], all)
 }
 
 /// The judging before a step, then `work` with the stepper, D's steps, the n temperatures and the n residuals.
-fn try_run(
+fn judged<L: Layout>(
     table: &[u32],
-    p: &[i64],
-    a: &[i64],
-    factor: &[i64],
-    temperatures: &mut [i64],
-    carried: &mut [i64],
-    work: impl Fn(&Stepper, u32, &mut [i64], &mut [i64]) -> Result<u32, Refusal>,
+    [p, a, factor]: [&[i64]; 3],
+    starts: &[u32],
+    [temperatures, carried]: [&mut [i64]; 2],
+    work: impl Fn(&Stepper<L>, u32, &mut [i64], &mut [i64]) -> Result<u32, Refusal>,
 ) -> Result<u32, Refusal> {
     let deck = Deck::judge(table)?;
-    let n = deck.counts.nodes;
-    let length = matrix::start(n);
-    if p.len() < length || a.len() < length || factor.len() < length {
+    let layout = L::of(&deck);
+    let (n, length) = (deck.counts.nodes, layout.length());
+    let short = |slice: &[i64]| slice.len() < length;
+    if short(p) || short(a) || short(factor) || layout.short(starts) {
         return Err(Refusal::whole(SHORT));
     }
-    let [temperatures, carried] = [cut(temperatures, n)?, cut(carried, n)?];
-    judge_lent(n, p, a, factor)?;
+    let [temperatures, carried] = [part(temperatures, n)?, part(carried, n)?];
+    judge_starts(&layout, starts)?;
+    judge_lent(&layout, [p, a, factor])?;
     judge_carried(carried)?;
     on_scale(temperatures)?;
-    work(
-        &Stepper::new(&deck, p, a, factor),
-        deck.steps(),
-        temperatures,
-        carried,
-    )
+    let stepper = Stepper::new(&deck, layout, [p, a, factor]);
+    work(&stepper, deck.steps(), temperatures, carried)
+}
+
+/// The parts of four lent matrices that count, or 9 of one of them or of the row starts.
+fn cut<'a>(
+    layout: &impl Layout,
+    [p, a, factor, work]: [&'a mut [i64]; 4],
+    starts: &[u32],
+) -> Result<[&'a mut [i64]; 4], Refusal> {
+    if layout.short(starts) {
+        return Err(Refusal::whole(SHORT));
+    }
+    let length = layout.length();
+    Ok([
+        part(p, length)?,
+        part(a, length)?,
+        part(factor, length)?,
+        part(work, length)?,
+    ])
 }
 
 /// The part of a lent slice that counts, or 9.
-fn cut(slice: &mut [i64], length: usize) -> Result<&mut [i64], Refusal> {
+fn part(slice: &mut [i64], length: usize) -> Result<&mut [i64], Refusal> {
     slice.get_mut(..length).ok_or(Refusal::whole(SHORT))
 }
 
+/// Refusal 17.
+fn judge_starts(layout: &impl Layout, starts: &[u32]) -> Result<(), Refusal> {
+    match layout.stray(starts) {
+        Some(row) => Err(Refusal::at_index(STRAY, row)),
+        None => Ok(()),
+    }
+}
+
 /// Refusal 10 of P, A and the factor.
-fn judge_lent(n: usize, p: &[i64], a: &[i64], factor: &[i64]) -> Result<(), Refusal> {
-    if !matrix::sums_bounded(p, n) || !matrix::sums_bounded(a, n) || !factoring::bounded(factor, n)
-    {
+fn judge_lent(layout: &impl Layout, [p, a, factor]: [&[i64]; 3]) -> Result<(), Refusal> {
+    if !layout.sums_bounded(p) || !layout.sums_bounded(a) || !layout.bounded(factor) {
         return Err(Refusal::whole(LENT));
     }
     Ok(())

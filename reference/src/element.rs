@@ -3,7 +3,7 @@
 use crate::answer::*;
 use crate::card::{Card, V};
 use crate::judge::Deck;
-use crate::matrix;
+use crate::layout::Layout;
 use crate::round::nearest;
 use crate::solid;
 
@@ -214,17 +214,17 @@ impl Element {
         }
     }
 
-    pub fn add_capacity(&self, matrix: &mut [i64]) {
+    pub fn add_capacity(&self, layout: &impl Layout, matrix: &mut [i64]) {
         match self {
-            Element::Triangle(form) => matrix::add(matrix, form.corners, form.capacity()),
-            Element::Tetrahedron(form) => matrix::add(matrix, form.corners, form.capacity()),
+            Element::Triangle(form) => layout.add(matrix, form.corners, form.capacity()),
+            Element::Tetrahedron(form) => layout.add(matrix, form.corners, form.capacity()),
         }
     }
 
-    pub fn add_total(&self, matrix: &mut [i64]) {
+    pub fn add_total(&self, layout: &impl Layout, matrix: &mut [i64]) {
         match self {
-            Element::Triangle(form) => matrix::add(matrix, form.corners, form.total()),
-            Element::Tetrahedron(form) => matrix::add(matrix, form.corners, form.total()),
+            Element::Triangle(form) => layout.add(matrix, form.corners, form.total()),
+            Element::Tetrahedron(form) => layout.add(matrix, form.corners, form.total()),
         }
     }
 }

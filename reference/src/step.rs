@@ -4,23 +4,17 @@ use crate::answer::*;
 use crate::card::{F, G, H, MAX_NODES, TOP, V};
 use crate::edge;
 use crate::element::{corners, film_load, heat_loads};
-use crate::factor::bound;
 use crate::judge::Deck;
-use crate::matrix::{multiply, multiply_sizes, start};
-use crate::round::{nearest, r, r_wide, ONE};
+use crate::layout::{Layout, Vector, FINE};
+use crate::round::{nearest, ONE};
 use crate::solid;
 
-const MAX_Y: i64 = 1 << 52;
-const MAX_X: i64 = 1 << 36;
 const MAX_CORRECTIONS: u32 = 4;
-/// Corrections are worked out in 1/256 tick.
-const FINE: i64 = 256;
-
-type Vector = [i64; MAX_NODES];
 
 /// A deck, its matrices and what stays the same from step to step.
-pub struct Stepper<'a> {
+pub struct Stepper<'a, L> {
     n: usize,
+    layout: L,
     p: &'a [i64],
     a: &'a [i64],
     factor: &'a [i64],
@@ -31,9 +25,9 @@ pub struct Stepper<'a> {
     tolerance: Vector,
 }
 
-impl<'a> Stepper<'a> {
-    /// Of slices that have passed 9 and 10.
-    pub fn new(deck: &Deck, p: &'a [i64], a: &'a [i64], factor: &'a [i64]) -> Stepper<'a> {
+impl<'a, L: Layout> Stepper<'a, L> {
+    /// Of slices that have passed 9, 17 and 10.
+    pub fn new(deck: &Deck, layout: L, [p, a, factor]: [&'a [i64]; 3]) -> Stepper<'a, L> {
         let n = deck.counts.nodes;
         let fixed = deck.fixed();
 
@@ -57,12 +51,10 @@ impl<'a> Stepper<'a> {
             }
         }
         // The columns cleared in A' go to the right side.
-        let moved = multiply(a, n, &fixed.map(|temperature| temperature.unwrap_or(0)));
-        let mut tolerance = multiply_sizes(
-            a,
-            n,
-            &fixed.map(|temperature| i64::from(temperature.is_none())),
-        );
+        let held = fixed.map(|temperature| temperature.unwrap_or(0));
+        let moved = layout.product(a, &held, |number| number);
+        let free = fixed.map(|temperature| i64::from(temperature.is_none()));
+        let mut tolerance = layout.product(a, &free, i64::abs);
         for i in 0..n {
             match fixed[i] {
                 Some(temperature) => {
@@ -74,6 +66,7 @@ impl<'a> Stepper<'a> {
         }
         Stepper {
             n,
+            layout,
             p,
             a,
             factor,
@@ -90,7 +83,7 @@ impl<'a> Stepper<'a> {
         new[..self.n].copy_from_slice(temperatures);
 
         let mut right = self.constant;
-        let capacity = multiply(self.p, self.n, &new);
+        let capacity = self.layout.product(self.p, &new, |number| number);
         for i in 0..self.n {
             if self.fixed[i].is_none() {
                 right[i] += capacity[i] + carried[i];
@@ -100,7 +93,8 @@ impl<'a> Stepper<'a> {
         let mut residual = self.residual(&right, &new);
         let mut corrections = 0;
         loop {
-            let x = self.back(self.forward(residual)?)?;
+            let y = self.layout.forward(self.factor, residual)?;
+            let x = self.layout.back(self.factor, y)?;
             for i in 0..self.n {
                 new[i] += nearest(x[i], FINE);
             }
@@ -133,7 +127,7 @@ impl<'a> Stepper<'a> {
                 free[i] = 0;
             }
         }
-        let mut residual = multiply(self.a, self.n, &free);
+        let mut residual = self.layout.product(self.a, &free, |number| number);
         for i in 0..self.n {
             if self.fixed[i].is_some() {
                 residual[i] = ONE * temperatures[i];
@@ -141,35 +135,6 @@ impl<'a> Stepper<'a> {
             residual[i] = right[i] - residual[i];
         }
         residual
-    }
-
-    fn row(&self, i: usize) -> &[i64] {
-        &self.factor[start(i)..=start(i) + i]
-    }
-
-    /// y, over r.
-    fn forward(&self, mut y: Vector) -> Result<Vector, Refusal> {
-        for i in 0..self.n {
-            let row = self.row(i);
-            let sum: i64 = row[..i].iter().zip(&y).map(|(&l, &y)| r_wide(l, y)).sum();
-            y[i] = bound(y[i] - sum, MAX_Y, i)?;
-        }
-        Ok(y)
-    }
-
-    /// z and then x, over y. From the last row: each x, once done, is taken out of
-    /// all the rows above it, so that the factor is walked along its rows.
-    fn back(&self, mut x: Vector) -> Result<Vector, Refusal> {
-        for i in 0..self.n {
-            x[i] = nearest(FINE * x[i], self.row(i)[i]);
-        }
-        for k in (0..self.n).rev() {
-            let done = bound(x[k], MAX_X, k)?;
-            for (x, l) in x.iter_mut().zip(&self.row(k)[..k]) {
-                *x -= r(l * done);
-            }
-        }
-        Ok(x)
     }
 }
 
@@ -190,6 +155,7 @@ mod tests {
     use super::*;
     use crate::build;
     use crate::card::{D, E, M, N, Z};
+    use crate::packed::Packed;
 
     /// What no call shows of P6: each row's bound is 10,000.
     #[test]
@@ -210,7 +176,8 @@ mod tests {
             build(&table, &mut p, &mut a, &mut factor, &mut work),
             Answer::Done
         );
-        let stepper = Stepper::new(&Deck::judge(&table).unwrap(), &p, &a, &factor);
+        let deck = Deck::judge(&table).unwrap();
+        let stepper = Stepper::new(&deck, Packed::of(&deck), [&p, &a, &factor]);
         assert_eq!(stepper.tolerance[..3], [10_000; 3]);
     }
 }

@@ -117,7 +117,8 @@ fn spoiled_buffers() {
             assert_eq!(steps, lent.table[3]);
         }
     }
-    assert!(met[1..].iter().all(|&times| times > 0), "{met:?}");
+    // 15 and 16 are of records, 17 of the kept form.
+    assert!(met[1..15].iter().all(|&times| times > 0), "{met:?}");
 }
 
 /// The largest numbers that pass refusal 10 don't overflow.

@@ -15,6 +15,7 @@ static uint8_t bytes[GORMULAST_MAX_BYTES], written[GORMULAST_MAX_BYTES];
 static size_t length, rows;
 static uint32_t table[GORMULAST_MAX_TABLE];
 static int64_t p[MATRIX], a[MATRIX], factor[MATRIX], work[MATRIX], temperatures[GORMULAST_MAX_NODES], carried[GORMULAST_MAX_NODES];
+static uint32_t starts[GORMULAST_MAX_NODES];
 static uint64_t answer;
 static uint32_t card;
 
@@ -58,7 +59,7 @@ static void call_write(void)
 
 static void call_build(void)
 {
-	answer = gormulast_build(table, 6 * rows, p, MATRIX, a, MATRIX, factor, MATRIX, work, MATRIX);
+	answer = gormulast_build(table, 6 * rows, p, MATRIX, a, MATRIX, factor, MATRIX, work, MATRIX, starts, GORMULAST_MAX_NODES);
 }
 
 /* Puts a card in its own place. */
@@ -67,12 +68,12 @@ static void call_replace(void)
 	const uint32_t *old = table + 6 * card;
 
 	answer = gormulast_replace(table, 6 * rows, p, MATRIX, a, MATRIX, factor, MATRIX, work, MATRIX,
-				   card + 1, old[0], old[1], old[2], old[3], old[4], old[5]);
+				   starts, GORMULAST_MAX_NODES, card + 1, old[0], old[1], old[2], old[3], old[4], old[5]);
 }
 
 static void call_step(void)
 {
-	answer = gormulast_step(table, 6 * rows, p, MATRIX, a, MATRIX, factor, MATRIX,
+	answer = gormulast_step(table, 6 * rows, p, MATRIX, a, MATRIX, factor, MATRIX, starts, GORMULAST_MAX_NODES,
 				temperatures, GORMULAST_MAX_NODES, carried, GORMULAST_MAX_NODES);
 }
 
@@ -103,7 +104,7 @@ static void measure_replaces(void)
 		if (card-- == 0)
 			continue;
 		name[8] = *letter;
-		measure(name, call_replace, 1536);
+		measure(name, call_replace, 1152);
 	}
 }
 
@@ -121,7 +122,7 @@ int main(int count, char **words)
 	fclose(deck);
 	measure("read", call_read, 512);
 	measure("write", call_write, 512);
-	measure("build", call_build, 1152);
+	measure("build", call_build, 1664);
 	measure_replaces();
 	for (i = 0; i < GORMULAST_MAX_NODES; i++)
 		temperatures[i] = table[2];

@@ -3,26 +3,21 @@ use mathlib.Core.Path.{_≡_, refl, sym, ap, subst, _∙_}
 use mathlib.Core.List.{List, [], _∷_}
 use Prim.Native.Nat.{ℕ, _^_, _≤_, _<_}
 use native.Mathlib.Omega.{arith}
-use lib.IntN.{ℤ, pos, natAbs, _+ℤ_, _-ℤ_, +ℤ-idl}
+use lib.IntN.{ℤ, pos, _+ℤ_, _-ℤ_, +ℤ-idl}
 use lib.ListN.{length}
 use Rattle.whole.specs.Sums.{table}
 use Rattle.whole.specs.Squares.{at, rowsOf, squareOf, Small, Holds}
 use Rattle.whole.proofs.Signs.{natAbs-minus}
 use Rattle.whole.proofs.Squares.{square-at, square-ext, small-square, holds-minus, holds-square, holds-same}
-use Rattle.paper.specs.Kinds.{kindOf}
 use Rattle.paper.specs.Cards.{rowAt}
 use Rattle.paper.specs.Corners.{mass}
-use Rattle.paper.specs.Parts.{Part, partOf, partFor, partAt}
+use Rattle.paper.specs.Parts.{Part, partFor}
 use Rattle.laws.proofs.Places.{squareP, squareA}
 use Rattle.square.proofs.Held.{mass-size}
 use Rattle.part.proofs.Parts.{four-at-most, stored-size}
-use Rattle.laws.proofs.Tables.{row-field}
 use Rattle.change.specs.Asks.{Changes, Added, Taken}
+use Rattle.packed.proofs.Assembling.{part-row}
 use Rattle.change.proofs.Forming.{old-card, same-corners}
-
--- the card in a row, as its six numbers
-pub part-row : (t : List ℕ) (row : ℕ) → partAt t row ≡ partFor t (rowAt t row)
-part-row t row = ap (λ (l : ℕ). partOf t (rowAt t row) (kindOf l)) (sym (row-field t row 0 (omega arith)))
 
 -- the square before the first card
 abbrev pub none : List (List ℤ)

@@ -1,51 +1,52 @@
 -- A card that stirs, replaced: the places of P and A written, and the factor from its least corner's row on.
 use mathlib.Core.Path.{_≡_, refl, sym, ap, subst, _∙_}
-use mathlib.Core.Bool.{Bool, true, false, cond, _||_}
+use mathlib.Core.Bool.{Bool, true, cond}
 use mathlib.Core.List.{List, [], _∷_, _++_}
-use Prim.Native.Nat.{ℕ, zero, suc, _+_, _-_, _*_, _^_, _≤_, _<_, min}
+use Prim.Native.Nat.{ℕ, zero, suc, _+_, _-_, _^_, _≤_, _<_, min}
 use native.Mathlib.Omega.{arith}
 use lib.IntN.{ℤ, natAbs, _-ℤ_}
 use lib.ListN.{length, getD, take, drop}
-use lib.Seq.{length-take-le}
 use Rattle.whole.specs.Packed.{tri, matrix, cell, entry, lower, Bounded}
 use Rattle.whole.specs.Squares.{at, squareOf, Holds}
 use Rattle.whole.proofs.Squares.{holds-same}
 use Rattle.whole.proofs.Tests.{never}
 use Rattle.whole.proofs.Packed.{lower-eta, lower-within}
-use Rattle.paper.specs.Refusals.{Outcome, done, then, after}
+use Rattle.paper.specs.Refusals.{done, then, after}
 use Rattle.paper.specs.Kinds.{about, kindAt}
-use Rattle.paper.specs.Cards.{rowAt, field, rows, nodes, elements, elementRow, put}
+use Rattle.paper.specs.Cards.{rowAt, field, rows, nodes, elementRow, put}
 use Rattle.paper.specs.Corners.{shapeOf}
 use Rattle.paper.specs.Tetrahedron.{spaceOf}
-use Rattle.paper.specs.Elements.{elementOf, elementAt, elementJudged}
-use Rattle.paper.specs.Parts.{Part, namedRow, partOf, partFor, partAt, least, leastRow}
+use Rattle.paper.specs.Elements.{elementAt, elementJudged}
+use Rattle.paper.specs.Parts.{Part, namedRow, partOf, partFor, partAt, least}
 use Rattle.paper.specs.Matrices.{addsP, addsA, fixed, cleared}
 use Rattle.paper.specs.Factor.{rowsFrom}
 use Rattle.paper.specs.Building.{Slices}
-use Rattle.paper.specs.Replacing.{formOf, moved, firstRow, redone, replaced, stirs}
+use Rattle.paper.specs.Replacing.{moved, firstRow, redone, replaced, stirs}
 use Rattle.paper.specs.declared.Answer.{Answer}
-use Rattle.paper.specs.declared.Answer.the-variants.{Done}
 use Rattle.paper.specs.declared.Kind.{Kind}
 use Rattle.paper.specs.declared.Kind.the-variants.{D, N, M, E, «V», H, F, G, T, Z, Other}
-use Rattle.laws.proofs.Decks.{In, Deck, kindIn}
-use Rattle.laws.proofs.Spans.{Inside, part-corners, few-corners, names-F, lower-first}
+use Rattle.laws.proofs.Decks.{kindIn}
+use Rattle.laws.proofs.Spans.{Inside, inside-each, part-corners, few-corners, names-F, lower-first}
 use Rattle.laws.proofs.Sizes.{Distinct}
-use Rattle.laws.proofs.Square.{Sound, part-sound}
-use Rattle.laws.proofs.Least.{least-in, least-each, least-most}
+use Rattle.laws.proofs.Square.{part-sound}
+use Rattle.laws.proofs.Least.{least-each}
 use Rattle.laws.proofs.Apart.{two-distinct}
 use Rattle.laws.proofs.Elements.{sound-one, distinct}
 use Rattle.laws.proofs.Changed.{part-here, corners-here, fixed-same, form-load}
 use Rattle.laws.proofs.Places.{addSquare, squareP, squareA, moved-P, moved-A}
+use Rattle.starts.specs.Lent.{wide}
+use Rattle.starts.proofs.Lent.{wide-length}
 use Rattle.triangle.specs.Forms.{numbers}
 use Rattle.part.specs.Forms.{cornersOf, doesBy}
 use Rattle.part.specs.Asks.{Full}
 use Rattle.part.specs.declared.Corners.{Corners}
-use Rattle.packed.specs.Asks.{Takes}
+use Rattle.packed.specs.Asks.{Keeps, Takes, Suits}
 use Rattle.packed.proofs.Adding.{square-size}
 use Rattle.packed.proofs.Squares.{takes, gives}
-use Rattle.change.specs.Asks.{Changes, Renews}
+use Rattle.packed.proofs.Assembling.{part-row, part-keeps}
+use Rattle.change.specs.Asks.{Renews}
 use Rattle.change.proofs.Forming.{some-new, same-kind, same-corners, stirs-new}
-use Rattle.change.proofs.Moving.{part-row, moved-held}
+use Rattle.change.proofs.Moving.{moved-held}
 
 least-some : (ns : List ℕ) (m n : ℕ) → Inside n ns → 1 ≤ m → 1 ≤ least ns m
 unfolding least
@@ -132,32 +133,45 @@ module _ (t : List ℕ) (row : ℕ) (new : List ℕ) (h : Renews t row new) wher
     pub least-is : least (cornersOf c) (getD (cornersOf c) 0 1) - 1 ≡ firstRow t row new
     least-is = ap (λ (ns : List ℕ). least ns (getD ns 0 1) - 1) (e ∙ ap (λ (x : Part). x .corners) (sym x′-is))
 
-    pub least-low : firstRow t row new ≤ nodes t
-    least-low = rw (sym least-is) (rw e (least-in (nodes t) (partFor t new .corners) new-inside))
+    pub least-inside : firstRow t row new < nodes t
+    least-inside = rw (sym least-is) (omega (arith, some-corners .1, most))
+      where
+        first-corner : getD (partFor t new .corners) 0 0 ≤ nodes t
+        first-corner = inside-each (nodes t) (partFor t new .corners) new-inside 0 (omega (arith, some-corners .0, full .full, ap length e)) .1
+
+        most : least (cornersOf c) (getD (cornersOf c) 0 1) ≤ nodes t
+        most = rw e (omega (arith, least-each (partFor t new .corners) (getD (partFor t new .corners) 0 1) 0 (omega (arith, some-corners .0, full .full, ap length e)), first-corner))
 
     at-old : cornersOf c ≡ partAt t row .corners
     at-old = e ∙ same
 
-    module _ (xs : List ℤ) (long : length xs ≡ matrix (nodes t)) (small : (i j : ℕ) → i < nodes t → j ≤ i → natAbs (entry xs i j) ≤ 2 ^ 33) where
-      small-slice : Bounded (2 ^ 33) xs
-      small-slice = record { each = λ p. subst (λ (z : List ℤ). natAbs (cell z p) ≤ 2 ^ 33) (sym (lower-eta (nodes t) xs long)) (lower-within (nodes t) (2 ^ 33) (entry xs) small p) }
+    -- kept rows of P or A
+    module _ (st : List ℕ) (ks : List ℤ) (suits : Suits t st (length ks)) (small : (i j : ℕ) → i < nodes t → j ≤ i → natAbs (entry (wide st ks) i j) ≤ 2 ^ 33) where
+      long : length (wide st ks) ≡ matrix (nodes t)
+      long = wide-length st ks ∙ ap matrix (suits .rows)
 
-      roomy : Bounded (2 ^ 58) xs
+      small-slice : Bounded (2 ^ 33) (wide st ks)
+      small-slice = record { each = λ p. subst (λ (z : List ℤ). natAbs (cell z p) ≤ 2 ^ 33) (sym (lower-eta (nodes t) (wide st ks) long)) (lower-within (nodes t) (2 ^ 33) (entry (wide st ks)) small p) }
+
+      roomy : Bounded (2 ^ 58) (wide st ks)
       roomy = record { each = λ p. omega (arith, small-slice .each p) }
+
+      keeps : Keeps st (length ks) (partFor t new .corners) (length (partFor t new .corners))
+      keeps = subst (λ (ns : List ℕ). Keeps st (length ks) ns (length ns)) (sym same) (part-keeps t st (length ks) row (h .changes .deck) (h .changes .change .inside) suits)
 
       -- what is moved, of either matrix
       module _ (f : Part → ℕ → ℕ → ℤ) (q : List (List ℤ)) (s : Holds (length (partFor t new .corners)) (2 ^ 58) (λ i j. f (partFor t new) i j -ℤ f (partFor t (rowAt t row)) i j) q) where
-        pub takes-moved : Takes (c .count) xs (numbers (c .nodes)) q
-        takes-moved = takes c full (partFor t new .corners) e q _ s (nodes t) xs (h .changes .deck .someN .1) long roomy new-inside (omega arith)
+        pub takes-moved : Takes (c .count) st ks (numbers (c .nodes)) q
+        takes-moved = takes c full (partFor t new .corners) e q _ s st ks (suits .lent) roomy (subst (λ (n : ℕ). Inside n (partFor t new .corners)) (sym (suits .rows)) new-inside) keeps (omega arith)
 
-        moved-is : addSquare (c .count) xs (numbers (c .nodes)) (at q) ≡ addSquare (length (partAt t row .corners)) xs (partAt t row .corners) (λ i j. f (partAt t′ row) i j -ℤ f (partAt t row) i j)
+        moved-is : addSquare (c .count) (wide st ks) (numbers (c .nodes)) (at q) ≡ addSquare (length (partAt t row .corners)) (wide st ks) (partAt t row .corners) (λ i j. f (partAt t′ row) i j -ℤ f (partAt t row) i j)
         moved-is =
             gives c full (partAt t row .corners) at-old q (λ i j. f (partAt t′ row) i j -ℤ f (partAt t row) i j)
-            (subst (λ (n : ℕ). Holds n (2 ^ 58) (λ i j. f (partAt t′ row) i j -ℤ f (partAt t row) i j) q) (ap length same) (holds-same s (omega arith) (λ i j k l. λ d. f (sym x′-is d) i j -ℤ f (sym (part-row t row) d) i j))) xs
+            (subst (λ (n : ℕ). Holds n (2 ^ 58) (λ i j. f (partAt t′ row) i j -ℤ f (partAt t row) i j) q) (ap length same) (holds-same s (omega arith) (λ i j k l. λ d. f (sym x′-is d) i j -ℤ f (sym (part-row t row) d) i j))) (wide st ks)
 
-        pub small-added : Bounded (2 ^ 62) (addSquare (c .count) xs (numbers (c .nodes)) (at q))
+        pub small-added : Bounded (2 ^ 62) (addSquare (c .count) (wide st ks) (numbers (c .nodes)) (at q))
         small-added =
-            let added = square-size (c .count) (2 ^ 33) xs (numbers (c .nodes)) q small-slice (takes-moved .square) in
+            let added = square-size (c .count) (2 ^ 33) (wide st ks) (numbers (c .nodes)) q small-slice (takes-moved .square) in
             record { each = λ p. omega (arith, added .each p, ten (c .count) (full .few)) }
           where
             ten : (n : ℕ) → n ≤ 4 → tri n ≤ 10
@@ -169,27 +183,26 @@ module _ (t : List ℕ) (row : ℕ) (new : List ℕ) (h : Renews t row new) wher
             ten (suc (suc (suc (suc (suc n))))) l = absurd (omega arith)
 
       pub added-A-is : {q : List (List ℤ)} → Holds (length (partFor t new .corners)) (2 ^ 58) (λ i j. squareA (partFor t new) i j -ℤ squareA (partFor t (rowAt t row)) i j) q
-          → addSquare (c .count) xs (numbers (c .nodes)) (at q) ≡ moved (nodes t) xs (addsA (partAt t′ row)) (addsA (partAt t row))
+          → addSquare (c .count) (wide st ks) (numbers (c .nodes)) (at q) ≡ moved (nodes t) (wide st ks) (addsA (partAt t′ row)) (addsA (partAt t row))
       added-A-is {q} s =
           moved-is squareA q s
-          ∙ sym (moved-A (nodes t) (partAt t row) xs (part-corners t (h .changes .deck) row (h .changes .change .inside)) old-distinct (part-sound t row) long (partAt t′ row) (corners-here t row new (h .changes .deck) (h .changes .change)) (part-sound t′ row))
+          ∙ sym (moved-A (nodes t) (partAt t row) (wide st ks) (part-corners t (h .changes .deck) row (h .changes .change .inside)) old-distinct (part-sound t row) long (partAt t′ row) (corners-here t row new (h .changes .deck) (h .changes .change)) (part-sound t′ row))
 
-      pub takes-P : {u : List (List ℤ)} → u ≡ squareOf 4 (λ i j. squareP (partFor t new) i j -ℤ squareP (partFor t (rowAt t row)) i j) → Takes (c .count) xs (numbers (c .nodes)) u
+      pub takes-P : {u : List (List ℤ)} → u ≡ squareOf 4 (λ i j. squareP (partFor t new) i j -ℤ squareP (partFor t (rowAt t row)) i j) → Takes (c .count) st ks (numbers (c .nodes)) u
       takes-P {u} s = takes-moved squareP u (moved-held t row new (h .changes) s)
 
       pub added-P-is : {u : List (List ℤ)} → u ≡ squareOf 4 (λ i j. squareP (partFor t new) i j -ℤ squareP (partFor t (rowAt t row)) i j)
-          → addSquare (c .count) xs (numbers (c .nodes)) (at u) ≡ moved (nodes t) xs (addsP (partAt t′ row)) (addsP (partAt t row))
+          → addSquare (c .count) (wide st ks) (numbers (c .nodes)) (at u) ≡ moved (nodes t) (wide st ks) (addsP (partAt t′ row)) (addsP (partAt t row))
       added-P-is {u} s =
           moved-is squareP u (moved-held t row new (h .changes) s)
-          ∙ sym (moved-P (nodes t) (partAt t row) xs (part-corners t (h .changes .deck) row (h .changes .change .inside)) old-distinct (part-sound t row) long (partAt t′ row) (corners-here t row new (h .changes .deck) (h .changes .change)) (part-sound t′ row))
+          ∙ sym (moved-P (nodes t) (partAt t row) (wide st ks) (part-corners t (h .changes .deck) row (h .changes .change .inside)) old-distinct (part-sound t row) long (partAt t′ row) (corners-here t row new (h .changes .deck) (h .changes .change)) (part-sound t′ row))
 
   -- ---- THEOREM. The replacement as the code makes it: P and A with their squares, the factor from the first row on.
-  pub redone-is : (s : Slices) (m : ℕ) (p a : List ℤ) → m ≡ firstRow t row new → tri m ≤ length (s .factor) → p ≡ moved (nodes t) (s .p) (addsP (partAt t′ row)) (addsP (partAt t row))
+  pub redone-is : (s : Slices) (m : ℕ) (p a : List ℤ) → m ≡ firstRow t row new → p ≡ moved (nodes t) (s .p) (addsP (partAt t′ row)) (addsP (partAt t row))
       → a ≡ moved (nodes t) (s .a) (addsA (partAt t′ row)) (addsA (partAt t row))
-      → replaced t s row new ≡ then (rowsFrom (nodes t - m) m (take (tri m) (s .factor) ++ drop (length (take (tri m) (s .factor))) (lower (nodes t) (cleared (fixed t) (entry a))))) (λ f. done (record { p = p; a = a; factor = f }))
+      → replaced t s row new ≡ then (rowsFrom (nodes t - m) m (take (tri m) (s .factor) ++ drop (tri m) (lower (nodes t) (cleared (fixed t) (entry a))))) (λ f. done (record { p = p; a = a; factor = f }))
   unfolding replaced redone
-  redone-is s m p a em room ep ea =
+  redone-is s m p a em ep ea =
       ap (λ (b : Bool). cond b (redone t s row new) (done s)) (h .stir)
       ∙ ap (λ (x : Answer). after x (then (rowsFrom (nodes t - firstRow t row new) (firstRow t row new) (take (tri (firstRow t row new)) (s .factor) ++ drop (tri (firstRow t row new)) (lower (nodes t) (cleared (fixed t′) (entry (moved (nodes t) (s .a) (addsA (partAt t′ row)) (addsA (partAt t row)))))))) (λ f. done (record { p = moved (nodes t) (s .p) (addsP (partAt t′ row)) (addsP (partAt t row)); a = moved (nodes t) (s .a) (addsA (partAt t′ row)) (addsA (partAt t row)); factor = f })))) (h .form)
       ∙ (λ d. then (rowsFrom (nodes t - sym em d) (sym em d) (take (tri (sym em d)) (s .factor) ++ drop (tri (sym em d)) (lower (nodes t) (cleared (λ k. fixed-same t row new (h .changes .deck) (h .changes .change) k d) (entry (sym ea d)))))) (λ f. done (record { p = sym ep d; a = sym ea d; factor = f })))
-      ∙ (λ d. then (rowsFrom (nodes t - m) m (take (tri m) (s .factor) ++ drop (sym (length-take-le (tri m) (s .factor) room) d) (lower (nodes t) (cleared (fixed t) (entry a))))) (λ f. done (record { p = p; a = a; factor = f })))

@@ -4,17 +4,18 @@ use paper::Element;
 use part::Corners;
 ghost use mathlib.Core.Path.{_≡_};
 ghost use mathlib.Core.Bool.{cond};
-ghost use Prim.Native.Nat.{_+_, _-_, _*_, _^_, _<_, _≤_};
+ghost use Prim.Native.Nat.{_+_, _-_, _*_, _^_, _≤_};
 ghost use lib.IntN.{_-ℤ_};
 ghost use lib.ListN.{length};
 ghost use Rattle.whole.specs.Squares.{at, squareOf, Small, Holds};
-ghost use Rattle.paper.specs.Cards.{rowAt, rows, nodes, materials, elements, put};
+ghost use Rattle.paper.specs.Cards.{rowAt, nodes, materials, put};
 ghost use Rattle.paper.specs.Elements.{elementOf, formJudged};
 ghost use Rattle.paper.specs.Parts.{partFor};
 ghost use Rattle.paper.specs.Replacing.{stirs, formOf};
 ghost use Rattle.paper.specs.declared.Answer.the-variants.{Done};
 ghost use Rattle.laws.proofs.Decks.{Deck};
 ghost use Rattle.laws.proofs.Places.{squareP, squareA, addSquare};
+ghost use Rattle.starts.specs.Lent.{wide, Turned};
 ghost use Rattle.triangle.specs.Forms.{numbers};
 ghost use Rattle.element.specs.Asks.{ElementCard};
 ghost use Rattle.part.specs.Asks.{Card, Solid};
@@ -38,7 +39,7 @@ fn judge_own(table: &[u32], row: usize, new: [u32; 6]) -> Answer
     element::judge_card(table, new, element_in(table, row))
 }
 
-// Refusals 5 and 6 of the element that a new card makes or is of, before anything is written. An edge is of none.
+// Refusals 5, 14 and 6 of the element that a new card makes or is of, before anything is written. An edge is of none.
 pub fn judge_form(table: &[u32], row: usize, new: [u32; 6]) -> Answer
     requires { ⌜ Changes (now table) row new ⌝ }
     ensures { λ r. ⌜ r ≡ cond (stirs (now (table .entry)) row) (formOf (put (now (table .entry)) row new) row) Done ⌝ }
@@ -97,13 +98,20 @@ pub fn stored(table: &[u32], row: usize, new: [u32; 6]) -> [[i64; 4]; 4]
 // ---- writing
 
 // P and A, at the same corners.
-pub fn matrices(p: &mut [i64], a: &mut [i64], c: Corners, u: [[i64; 4]; 4], q: [[i64; 4]; 4])
-    requires { ⌜ Takes (c .count) (now p) (numbers (c .nodes)) u × Takes (c .count) (now a) (numbers (c .nodes)) q ⌝ }
-    ensures { λ _. ⌜ now (p .exit) ≡ addSquare (c .count) (now (p .entry)) (numbers (c .nodes)) (at u) ⌝ }
-    ensures { λ _. ⌜ now (a .exit) ≡ addSquare (c .count) (now (a .entry)) (numbers (c .nodes)) (at q) ⌝ }
+pub fn matrices(
+    p: &mut [i64],
+    a: &mut [i64],
+    starts: &[u32],
+    c: Corners,
+    u: [[i64; 4]; 4],
+    q: [[i64; 4]; 4],
+)
+    requires { ⌜ Takes (c .count) (now starts) (now p) (numbers (c .nodes)) u × Takes (c .count) (now starts) (now a) (numbers (c .nodes)) q ⌝ }
+    ensures { λ _. ⌜ Turned (now (starts .entry)) (now (p .entry)) (now (p .exit)) (addSquare (c .count) (wide (now (starts .entry)) (now (p .entry))) (numbers (c .nodes)) (at u)) ⌝ }
+    ensures { λ _. ⌜ Turned (now (starts .entry)) (now (a .entry)) (now (a .exit)) (addSquare (c .count) (wide (now (starts .entry)) (now (a .entry))) (numbers (c .nodes)) (at q)) ⌝ }
 {
-    packed::add_square(p, c, u);
-    packed::add_square(a, c, q);
+    packed::add_square(p, starts, c, u);
+    packed::add_square(a, starts, c, q);
 }
 
 // The card in its row.

@@ -1,15 +1,17 @@
-// The factor of a packed triangle in place, row by row, from any row on.
+// The factor of kept rows in place, row by row, from any row on.
 ghost use mathlib.Core.Path.{_≡_};
 ghost use mathlib.Core.List.{[]};
-ghost use Prim.Native.Nat.{_-_, _≤_};
+ghost use Prim.Native.Nat.{suc, _-_, _+_, _≤_, _<_, max};
 ghost use lib.IntN.{pos, _*ℤ_};
 ghost use lib.Signed.{leZ};
-ghost use lib.ListN.{length, take};
+ghost use lib.ListN.{length};
 ghost use Rattle.whole.specs.Packed.{cell};
 ghost use Rattle.whole.specs.Sums.{sum};
 ghost use Rattle.paper.specs.Refusals.{done, after};
-ghost use Rattle.paper.specs.Factor.{R, small, w, rowFrom, rowsFrom};
-ghost use Rattle.factor.specs.Asks.{Ready, Terms, Entry, Column, ColumnDone, Row, ColumnsDone, RowDone};
+ghost use Rattle.paper.specs.Factor.{R, small, rowFrom, rowsFrom};
+ghost use Rattle.starts.specs.Lent.{by, wide};
+ghost use Rattle.factor.specs.Asks.{Ready, Terms, Past, pastSum, wAt, Entry, ColumnDone, Here, ColumnsDone, Diagonal, RowDone};
+ghost use Rattle.factor.specs.InPlace.{ended, lsFrom};
 use paper::Answer;
 use paper::Refusal;
 
@@ -31,6 +33,20 @@ fn is_pivot(d: i64) -> bool
     16 <= d
 }
 
+fn later(a: usize, b: usize) -> usize
+    ensures { λ r. ⌜ r ≡ max a b ⌝ }
+{
+    if a < b { b } else { a }
+}
+
+// The first column of row j, which stands from `at` to `end`.
+fn first(at: usize, end: usize, j: usize) -> usize
+    requires { ⌜ (at < end) × (end ≤ at + suc j) × (j < 96) ⌝ }
+    ensures { λ r. ⌜ r ≡ j - (end - suc at) ⌝ }
+{
+    j + 1 - (end - at)
+}
+
 // The sum of R(l * w): nearly all of a factor's time goes here.
 fn dot(ls: &[i64], ws: &[i64]) -> i64
     requires { ⌜ Terms (now ls) (now ws) ⌝ }
@@ -45,98 +61,118 @@ fn dot(ls: &[i64], ws: &[i64]) -> i64
     sum
 }
 
-// w(i, j), where row i starts at s and row j at `at`.
-fn entry(work: &[i64], ws: &[i64], s: usize, at: usize, j: usize) -> i64
-    requires { ⌜ Entry (now work) (now ws) s at j ⌝ }
-    ensures { λ r. ⌜ r ≡ w (now (work .entry)) s j (now (ws .entry)) ⌝ }
+// The sum of w's definition from column c on, where both rows have numbers.
+fn past(work: &[i64], s: usize, fi: usize, at: usize, fj: usize, j: usize, c: usize) -> i64
+    requires { ⌜ Past (now work) s fi at fj j c ⌝ }
+    ensures { λ r. ⌜ r ≡ pastSum (now (work .entry)) s fi at fj j c ⌝ }
 {
-    whole::minus(work[s + j], dot(&work[at..at + j], ws))
+    let from = at + (c - fj);
+    dot(&work[from..from + (j - c)], &work[s + (c - fi)..])
 }
 
-// Column j of the row that starts at s: its w goes to ws, its l to the row. False where one of the two is too large.
-fn column(work: &mut [i64], ws: &mut [i64], s: usize, at: usize, j: usize) -> bool
-    requires { ⌜ Column (now work) (now ws) s at j ⌝ }
-    ensures { λ r. ⌜ ColumnDone r s j (now (work .entry)) (now (ws .entry)) (now (work .exit)) (now (ws .exit)) ⌝ }
+// w at column j of the row that starts at s with column fi; row j starts at `at` with column fj.
+fn entry(work: &[i64], s: usize, fi: usize, at: usize, fj: usize, j: usize) -> i64
+    requires { ⌜ Entry (now work) s fi at fj j ⌝ }
+    ensures { λ r. ⌜ r ≡ wAt (now (work .entry)) s fi at fj j ⌝ }
 {
-    let w = entry(&work[..], &ws[..], s, at, j);
+    let c = later(fi, fj);
+    whole::minus(work[s + (j - fi)], past(work, s, fi, at, fj, j, c))
+}
+
+// Column j: its w goes where its l will stand. False where it is too large.
+fn column(work: &mut [i64], s: usize, fi: usize, at: usize, fj: usize, j: usize) -> bool
+    requires { ⌜ Entry (now work) s fi at fj j ⌝ }
+    ensures { λ r. ⌜ ColumnDone r s fi at fj j (now (work .entry)) (now (work .exit)) ⌝ }
+{
+    let w = entry(&work[..], s, fi, at, fj, j);
     if !bounded_w(w) {
         return false;
     }
-    let l = whole::ratio(w, work[at + j]);
-    if !bounded_l(l) {
-        return false;
-    }
-    work[s + j] = l;
-    ws[j] = w;
+    work[s + (j - fi)] = w;
     true
 }
 
-// The columns of row i left of the diagonal.
-fn columns(work: &mut [i64], ws: &mut [i64], s: usize, i: usize) -> bool
-    requires { ⌜ Row (now work) (now ws) s i 0 ⌝ }
-    ensures { λ r. ⌜ ColumnsDone r s i (now (work .entry)) (now (work .exit)) (now (ws .exit)) ⌝ }
+// The numbers w of row i left of the diagonal, from its first column.
+fn columns(work: &mut [i64], starts: &[u32], s: usize, fi: usize, i: usize) -> bool
+    requires { ⌜ Here (now starts) (now work) s fi i fi fi ⌝ }
+    ensures { λ r. ⌜ ColumnsDone r (by (now (starts .entry)) (now (work .entry))) (length (now (starts .entry))) i (now (work .entry)) (now (work .exit)) ⌝ }
 {
-    let mut j = 0;
-    let mut at = 0;
+    let mut j = fi;
+    let mut at = starts::start(starts, fi);
     while j < i {
-        if !column(&mut work[..], &mut ws[..], s, at, j) {
+        let end = starts::start(starts, j + 1);
+        let fj = first(at, end, j);
+        if !column(&mut work[..], s, fi, at, fj, j) {
             return false;
         }
         j += 1;
-        at += j;
+        at = end;
     }
     true
 }
 
-// The row's end.
-fn diagonal(work: &mut [i64], ws: &[i64], s: usize, i: usize) -> Answer
-    requires { ⌜ Row (now work) (now ws) s i i ⌝ }
-    ensures { λ r. ⌜ RowDone r (rowFrom 0 i i (now (work .entry)) (take i (now (ws .entry)))) i (now (work .exit)) ⌝ }
+// The row's end, at p.
+fn diagonal(work: &mut [i64], p: usize, past: i64, i: usize) -> Answer
+    requires { ⌜ Diagonal (now work) p past i ⌝ }
+    ensures { λ r. ⌜ after r (done (now (work .exit))) ≡ ended i (now (work .entry)) p past ⌝ }
 {
-    let d = entry(&work[..], ws, s, s, i);
+    let d = whole::minus(work[p], past);
     if !bounded_w(d) {
         return Answer::Refused(Refusal::Bound(i as u32 + 1));
     }
     if !is_pivot(d) {
         return Answer::Refused(Refusal::Pivot(i as u32 + 1));
     }
-    work[s + i] = d;
+    work[p] = d;
     Answer::Done
 }
 
-// Row i, which starts at s, against the finished rows above it.
-fn row(work: &mut [i64], ws: &mut [i64], s: usize, i: usize) -> Answer
-    requires { ⌜ Row (now work) (now ws) s i 0 ⌝ }
-    ensures { λ r. ⌜ RowDone r (rowFrom i i 0 (now (work .entry)) []) i (now (work .exit)) ⌝ }
+// The numbers l of row i, each in its w's place, and the diagonal.
+fn ratios(work: &mut [i64], starts: &[u32], s: usize, fi: usize, i: usize) -> Answer
+    requires { ⌜ Here (now starts) (now work) s fi i fi i ⌝ }
+    ensures { λ r. ⌜ RowDone r (lsFrom i i 0 (wide (now (starts .entry)) (now (work .entry))) (pos 0)) (by (now (starts .entry)) (now (work .entry))) (length (now (starts .entry))) i (now (work .exit)) ⌝ }
 {
-    if !columns(&mut work[..], &mut ws[..], s, i) {
-        return Answer::Refused(Refusal::Bound(i as u32 + 1));
+    let mut sum: i64 = 0;
+    let mut j = fi;
+    while j < i {
+        let w = work[s + (j - fi)];
+        let l = whole::ratio(w, work[starts::start(starts, j + 1) - 1]);
+        if !bounded_l(l) {
+            return Answer::Refused(Refusal::Bound(i as u32 + 1));
+        }
+        work[s + (j - fi)] = l;
+        sum += whole::scaled_product(l, w);
+        j += 1;
     }
-    diagonal(&mut work[..], &ws[..], s, i)
+    diagonal(&mut work[..], s + (i - fi), sum, i)
 }
 
-// Rows m to n; ws is a row's room for its numbers w.
-fn rows(work: &mut [i64], ws: &mut [i64], m: usize, n: usize) -> Answer
-    requires { ⌜ Ready (now work) m n × (n ≤ length (now ws)) ⌝ }
-    ensures { λ r. ⌜ after r (done (now (work .exit))) ≡ rowsFrom (n - m) m (now (work .entry)) ⌝ }
+// Row i, against the finished rows above it.
+fn row(work: &mut [i64], starts: &[u32], s: usize, fi: usize, i: usize) -> Answer
+    requires { ⌜ Here (now starts) (now work) s fi i fi fi ⌝ }
+    ensures { λ r. ⌜ RowDone r (rowFrom i i 0 (wide (now (starts .entry)) (now (work .entry))) []) (by (now (starts .entry)) (now (work .entry))) (length (now (starts .entry))) i (now (work .exit)) ⌝ }
 {
+    if !columns(&mut work[..], starts, s, fi, i) {
+        return Answer::Refused(Refusal::Bound(i as u32 + 1));
+    }
+    ratios(&mut work[..], starts, s, fi, i)
+}
+
+// Rows m on of the factor, in place, against the finished rows above m: with zeros put left of the first columns it is the packed
+// factor. After a refusal the numbers are of no use.
+pub fn factor(work: &mut [i64], starts: &[u32], m: usize) -> Answer
+    requires { ⌜ Ready (now starts) (now work) m ⌝ }
+    ensures { λ r. ⌜ after r (done (wide (now (starts .entry)) (now (work .exit)))) ≡ rowsFrom (length (now (starts .entry)) - m) m (wide (now (starts .entry)) (now (work .entry))) ⌝ }
+{
+    let long = work.len();
     let mut i = m;
-    let mut s = m * (m + 1) / 2;
-    while i < n {
-        if let Answer::Refused(r) = row(&mut work[..], &mut ws[..], s, i) {
+    while i < starts.len() {
+        let s = starts::start(starts, i);
+        let fi = starts::first(starts, i, long);
+        if let Answer::Refused(r) = row(&mut work[..], starts, s, fi, i) {
             return Answer::Refused(r);
         }
         i += 1;
-        s += i;
     }
     Answer::Done
-}
-
-// Rows m to n of the factor, in place, against the finished rows above m. After a refusal the numbers are of no use.
-pub fn factor(work: &mut [i64], m: usize, n: usize) -> Answer
-    requires { ⌜ Ready (now work) m n ⌝ }
-    ensures { λ r. ⌜ after r (done (now (work .exit))) ≡ rowsFrom (n - m) m (now (work .entry)) ⌝ }
-{
-    let mut ws = [0i64; 96];
-    rows(&mut work[..], &mut ws, m, n)
 }

@@ -1,7 +1,8 @@
 // What C links: each call on plain numbers and slices, its answer as one number.
 ghost use mathlib.Core.Path.{_≡_};
 ghost use mathlib.Core.List.{List, [], _∷_};
-ghost use Rattle.paper.specs.Calls.{lent, buildCall, replaceCall, stepCall, gave, marked, readToC, writeToC, exitToC, stepToC};
+ghost use Rattle.paper.specs.Calls.{gave, marked, readToC, writeToC};
+ghost use Rattle.paper.specs.KeptCalls.{kept, keptBuild, keptReplace, keptStep, keptToC, keptStepToC};
 
 #[no_mangle]
 pub extern "C" fn gormulast_read(
@@ -38,8 +39,9 @@ pub extern "C" fn gormulast_build(
     a: &mut [i64],
     factor: &mut [i64],
     work: &mut [i64],
+    starts: &mut [u32],
 ) -> u64
-    ensures { λ r. ⌜ gave r (lent (now (table .entry)) (now (p .exit)) (now (a .exit)) (now (factor .exit)) (now (work .exit)) [] []) ≡ exitToC (buildCall (lent (now (table .entry)) (now (p .entry)) (now (a .entry)) (now (factor .entry)) (now (work .entry)) [] [])) ⌝ }
+    ensures { λ r. ⌜ gave r (kept (now (table .entry)) (now (p .exit)) (now (a .exit)) (now (factor .exit)) (now (work .exit)) (now (starts .exit)) [] []) ≡ keptToC (keptBuild (kept (now (table .entry)) (now (p .entry)) (now (a .entry)) (now (factor .entry)) (now (work .entry)) (now (starts .entry)) [] [])) ⌝ }
 {
     paper::packed_answer(model::build(
         table,
@@ -47,6 +49,7 @@ pub extern "C" fn gormulast_build(
         &mut a[..],
         &mut factor[..],
         &mut work[..],
+        &mut starts[..],
     ))
 }
 
@@ -57,6 +60,7 @@ pub extern "C" fn gormulast_replace(
     a: &mut [i64],
     factor: &mut [i64],
     work: &mut [i64],
+    starts: &[u32],
     card: u32,
     letter: u32,
     f1: u32,
@@ -65,7 +69,7 @@ pub extern "C" fn gormulast_replace(
     f4: u32,
     f5: u32,
 ) -> u64
-    ensures { λ r. ⌜ gave r (lent (now (table .exit)) (now (p .exit)) (now (a .exit)) (now (factor .exit)) (now (work .exit)) [] []) ≡ exitToC (replaceCall (lent (now (table .entry)) (now (p .entry)) (now (a .entry)) (now (factor .entry)) (now (work .entry)) [] []) card (letter ∷ f1 ∷ f2 ∷ f3 ∷ f4 ∷ f5 ∷ [])) ⌝ }
+    ensures { λ r. ⌜ gave r (kept (now (table .exit)) (now (p .exit)) (now (a .exit)) (now (factor .exit)) (now (work .exit)) (now (starts .entry)) [] []) ≡ keptToC (keptReplace (kept (now (table .entry)) (now (p .entry)) (now (a .entry)) (now (factor .entry)) (now (work .entry)) (now (starts .entry)) [] []) card (letter ∷ f1 ∷ f2 ∷ f3 ∷ f4 ∷ f5 ∷ [])) ⌝ }
 {
     let new = [letter, f1, f2, f3, f4, f5];
     paper::packed_answer(model::replace(
@@ -74,6 +78,7 @@ pub extern "C" fn gormulast_replace(
         &mut a[..],
         &mut factor[..],
         &mut work[..],
+        starts,
         card,
         new,
     ))
@@ -85,10 +90,19 @@ pub extern "C" fn gormulast_step(
     p: &[i64],
     a: &[i64],
     factor: &[i64],
+    starts: &[u32],
     temperatures: &mut [i64],
     carried: &mut [i64],
 ) -> u64
-    ensures { λ r. ⌜ gave r (lent (now (table .entry)) (now (p .entry)) (now (a .entry)) (now (factor .entry)) [] (now (temperatures .exit)) (now (carried .exit))) ≡ stepToC (stepCall (lent (now (table .entry)) (now (p .entry)) (now (a .entry)) (now (factor .entry)) [] (now (temperatures .entry)) (now (carried .entry)))) ⌝ }
+    ensures { λ r. ⌜ gave r (kept (now (table .entry)) (now (p .entry)) (now (a .entry)) (now (factor .entry)) [] (now (starts .entry)) (now (temperatures .exit)) (now (carried .exit))) ≡ keptStepToC (keptStep (kept (now (table .entry)) (now (p .entry)) (now (a .entry)) (now (factor .entry)) [] (now (starts .entry)) (now (temperatures .entry)) (now (carried .entry)))) ⌝ }
 {
-    paper::packed_step(step::step(table, p, a, factor, &mut temperatures[..], &mut carried[..]))
+    paper::packed_step(step::step(
+        table,
+        p,
+        a,
+        factor,
+        starts,
+        &mut temperatures[..],
+        &mut carried[..],
+    ))
 }

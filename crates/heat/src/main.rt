@@ -65,10 +65,19 @@ fn stepped(
     p: &[i64],
     a: &[i64],
     factor: &[i64],
+    starts: &[u32],
     temperatures: &mut [i64],
     carried: &mut [i64],
 ) {
-    match run::run(table, p, a, factor, &mut temperatures[..], &mut carried[..]) {
+    match run::run(
+        table,
+        p,
+        a,
+        factor,
+        starts,
+        &mut temperatures[..],
+        &mut carried[..],
+    ) {
         Ran::Finished(steps) => printed(&temperatures[..], steps),
         Ran::Refused(why) => refused(why),
     }
@@ -79,9 +88,10 @@ fn ran(table: &[u32]) {
     let mut a = [0i64; LONGEST];
     let mut factor = [0i64; LONGEST];
     let mut work = [0i64; LONGEST];
+    let mut starts = [0u32; NODES];
     let mut temperatures = [0i64; NODES];
     let mut carried = [0i64; NODES];
-    let answer = model::build(table, &mut p, &mut a, &mut factor, &mut work);
+    let answer = model::build(table, &mut p, &mut a, &mut factor, &mut work, &mut starts);
     if let Answer::Refused(why) = answer {
         refused(why);
         return;
@@ -95,6 +105,7 @@ fn ran(table: &[u32]) {
             &p,
             &a,
             &factor,
+            &starts,
             &mut temperatures[0..n],
             &mut carried[0..n],
         );

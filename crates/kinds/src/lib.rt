@@ -62,8 +62,16 @@ pub fn kind(letter: u32) -> Kind
     }
 }
 
-fn line(letter: u32, order: u32, section: usize, keeps: usize, keys: u32, most: usize) -> About
-    ensures { λ r. ⌜ r ≡ kinds.line letter order section keeps keys most ⌝ }
+fn line(
+    letter: u32,
+    order: u32,
+    section: usize,
+    keeps: usize,
+    keys: u32,
+    joins: usize,
+    most: usize,
+) -> About
+    ensures { λ r. ⌜ r ≡ kinds.line letter order section keeps keys joins most ⌝ }
 {
     About {
         letter: letter,
@@ -71,26 +79,27 @@ fn line(letter: u32, order: u32, section: usize, keeps: usize, keys: u32, most: 
         section: section,
         keeps: keeps,
         keys: keys,
+        joins: joins,
         most: most,
     }
 }
 
-// Letter, order, section, keeps, keys, most.
+// Letter, order, section, keeps, keys, joins, most.
 pub fn about(k: Kind) -> About
     ensures { λ r. ⌜ r ≡ kinds.about k ⌝ }
 {
     match k {
-        Kind::D => line(D, 0, 0, 0, 0, MANY),
-        Kind::N => line(N, 1, 1, 0, 0, MANY),
-        Kind::M => line(M, 2, 2, 0, 0, MANY),
-        Kind::E => line(E, 3, BODIES, 3, 0, MANY),
-        Kind::V => line(V, 4, BODIES, 4, 0, MANY),
-        Kind::H => line(H, 5, LOADS, 1, 1, MANY),
-        Kind::F => line(F, 6, LOADS, 1, 1, MANY),
-        Kind::G => line(G, 7, LOADS, 2, 2, 160),
-        Kind::T => line(T, 8, LOADS, 1, 1, MANY),
-        Kind::Z => line(Z, 9, ENDS, 0, 0, MANY),
-        Kind::Other => line(0, 10, 6, 0, 0, MANY),
+        Kind::D => line(D, 0, 0, 0, 0, 0, MANY),
+        Kind::N => line(N, 1, 1, 0, 0, 0, MANY),
+        Kind::M => line(M, 2, 2, 0, 0, 0, MANY),
+        Kind::E => line(E, 3, BODIES, 3, 0, 3, MANY),
+        Kind::V => line(V, 4, BODIES, 4, 0, 4, MANY),
+        Kind::H => line(H, 5, LOADS, 1, 1, 0, MANY),
+        Kind::F => line(F, 6, LOADS, 1, 1, 0, MANY),
+        Kind::G => line(G, 7, LOADS, 2, 2, 2, 160),
+        Kind::T => line(T, 8, LOADS, 1, 1, 0, MANY),
+        Kind::Z => line(Z, 9, ENDS, 0, 0, 0, MANY),
+        Kind::Other => line(0, 10, 6, 0, 0, 0, MANY),
     }
 }
 

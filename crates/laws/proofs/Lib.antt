@@ -3,6 +3,8 @@ pub mod Scale
 pub mod Outcomes
 pub mod Tables
 pub mod Update
+pub mod KeptFactor
+pub mod Narrowed
 pub mod Finished
 pub mod Letters
 pub mod Decks
@@ -13,6 +15,7 @@ pub mod Faces
 pub mod Solids
 pub mod Square
 pub mod Spans
+pub mod Firsts
 pub mod Edge
 pub mod Places
 pub mod Fields
@@ -21,6 +24,7 @@ pub mod Judging
 pub mod Judged
 pub mod Alike
 pub mod Kept
+pub mod Coupled
 pub mod NewCard
 pub mod InTurn
 pub mod Elements
@@ -44,8 +48,16 @@ pub mod Calls
 pub mod Left
 pub mod Carried
 pub mod Running
+pub mod KeptCalls
+pub mod Widened
+pub mod KeptLeft
+pub mod KeptDemand3
+pub mod KeptNumbers
+pub mod KeptSteps
 pub mod Balance
 pub mod Book
+pub mod KeptBook
+pub mod KeptOwn
 pub mod Rounds
 pub mod Floats
 pub mod Recorded

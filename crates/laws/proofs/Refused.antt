@@ -32,44 +32,44 @@ Plain (Refused r) = inFactor r ≡ false
 pub plain-told : (a : Answer) (r : Refusal) → Plain a → a ≡ Refused r → inFactor r ≡ false
 plain-told a r p e = rw e at p
 
-both : (a b : Answer) → Plain a → Plain b → Plain (andThen a b)
-both Done b p q = q
-both (Refused r) b p q = p
+pub plain-and : (a b : Answer) → Plain a → Plain b → Plain (andThen a b)
+plain-and Done b p q = q
+plain-and (Refused r) b p q = p
 
-either : (b : Bool) (x y : Answer) → Plain x → Plain y → Plain (cond b x y)
-either true x y p q = p
-either false x y p q = q
+pub plain-cond : (b : Bool) (x y : Answer) → Plain x → Plain y → Plain (cond b x y)
+plain-cond true x y p q = p
+plain-cond false x y p q = q
 
 card-plain : (z : Counts) (row : ℕ → List ℕ) (i p key : ℕ) → Plain (judgeCard z row i p key)
 unfolding judgeCard judgeOne
 card-plain z row i p key =
-    both (judgeOne z i p key (full row i (aboutOf (row i))) (row i)) _
-    (either (formed z i p (full row i (aboutOf (row i))) (row i)) _ _ (either (ranged z p key (row i)) _ _ tt refl) refl)
-    (either (asks z row (row i) (kindAt (row i))) _ _ tt refl)
+    plain-and (judgeOne z i p key (full row i (aboutOf (row i))) (row i)) _
+    (plain-cond (formed z i p (full row i (aboutOf (row i))) (row i)) _ _ (plain-cond (ranged z p key (row i)) _ _ tt refl) refl)
+    (plain-cond (asks z row (row i) (kindAt (row i))) _ _ tt refl)
 
 cards-plain : (z : Counts) (row : ℕ → List ℕ) (n i p key : ℕ) → Plain (judgeFrom z row n i p key)
 unfolding judgeFrom
 cards-plain z row zero i p key = tt
 cards-plain z row (suc n) i p key =
-    both (judgeCard z row i p key) _ (card-plain z row i p key) (cards-plain z row n (suc i) (orderOf (row i)) (rank (row i)))
+    plain-and (judgeCard z row i p key) _ (card-plain z row i p key) (cards-plain z row n (suc i) (orderOf (row i)) (rank (row i)))
 
 pub judged-plain : (t : List ℕ) → Plain (judged t)
 unfolding judged judgeRows
 judged-plain t =
     let n = rows t - 1 in
-    either (not (eqb (length t % 6) 0) || ltb (length t) 12 || ltb (mostRows * 6) (length t)) _ _ refl
-    (either (trailer (rowAt t n) && eqb (getD (rowAt t n) 1 0) (42 * n)) _ _ (cards-plain (countsAt t) (rowAt t) n 0 0 0) refl)
+    plain-cond (not (eqb (length t % 6) 0) || ltb (length t) 12 || ltb (mostRows * 6) (length t)) _ _ refl
+    (plain-cond (trailer (rowAt t n) && eqb (getD (rowAt t n) 1 0) (42 * n)) _ _ (cards-plain (countsAt t) (rowAt t) n 0 0 0) refl)
 
 pub new-plain : (t : List ℕ) (card : ℕ) (new : List ℕ) → Plain (newJudged t card new)
 unfolding newJudged
 new-plain t card new =
-    either (ltb (orderOf new) (about Other .order) && clean new) _ _
-    (either (answers t card new) _ _ (either (inRange (columnsOf (countsAt t) new) new 5 0) _ _ tt refl) refl)
+    plain-cond (ltb (orderOf new) (about Other .order) && clean new) _ _
+    (plain-cond (answers t card new) _ _ (plain-cond (inRange (columnsOf (countsAt t) new) new 5 0) _ _ tt refl) refl)
     refl
 
 pub form-plain : (it : Element) (e : ℕ) → Plain (formJudged it e)
 unfolding formJudged areaOf
-form-plain it e = with-area (leb 1 (it .size)) (it .thin) _ (either (fair it) _ _ tt refl)
+form-plain it e = with-area (leb 1 (it .size)) (it .thin) _ (plain-cond (fair it) _ _ tt refl)
   where
     with-area : (b c : Bool) (rest : Answer) → Plain rest → Plain (withArea (cond b (cond c (area.Refused (Thin e)) (area.Of (it .size))) (area.Refused (Flat e))) rest)
     with-area true true rest p = refl
@@ -83,7 +83,7 @@ element-plain t e = form-plain (elementAt t (elementRow t e)) e
 pub elements-plain : (n e : ℕ) (t : List ℕ) → Plain (elementsFrom n e t)
 unfolding elementsFrom
 elements-plain zero e t = tt
-elements-plain (suc n) e t = both (elementJudged t e) _ (element-plain t e) (elements-plain n (suc e) t)
+elements-plain (suc n) e t = plain-and (elementJudged t e) _ (element-plain t e) (elements-plain n (suc e) t)
 
 -- ---- the factor's own
 

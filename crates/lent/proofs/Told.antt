@@ -1,8 +1,8 @@
--- What lent numbers that refusals 9, 10 and 11 let pass are: the bounds of a step and of a replacement.
-use mathlib.Core.Path.{_≡_, sym, ap, subst, _∙_}
-use mathlib.Core.Bool.{Bool, true, false, not, _&&_, _||_}
+-- What lent numbers that refusals 10 and 11 let pass are: the bounds of a step and of a replacement; and that 9 and 17 are the calls'.
+use mathlib.Core.Path.{_≡_, refl, sym, ap, subst, _∙_}
+use mathlib.Core.Bool.{Bool, true, false, not, cond, _&&_, _||_}
 use mathlib.Core.List.{List}
-use Prim.Native.Nat.{ℕ, _+_, _^_, _≤_, _<_}
+use Prim.Native.Nat.{ℕ, zero, suc, _+_, _^_, _≤_, _<_}
 use native.Mathlib.Omega.{arith}
 use lib.Dec.{leb}
 use lib.IntN.{ℤ, pos, natAbs}
@@ -11,21 +11,27 @@ use lib.ListN.{length, take}
 use lib.Seq.{getD-take, length-take-le}
 use borrow.Author.Tests.{leb-true, not-false}
 use Rattle.whole.specs.Sums.{sumN, any}
-use Rattle.whole.specs.Packed.{tri, matrix, cell, entry}
+use Rattle.whole.specs.Packed.{tri, cell, entry}
 use Rattle.whole.proofs.Linear.{zarith}
 use Rattle.whole.proofs.Sums.{sumN-upto, sumN-one, any-each, first-none}
 use Rattle.whole.proofs.Tests.{and-told, nor-told}
 use Rattle.paper.specs.Ticks.{onScale}
 use Rattle.paper.specs.Factor.{small}
+use Rattle.paper.specs.Refusals.{andThen}
+use Rattle.paper.specs.Cards.{nodes}
 use Rattle.paper.specs.Building.{Slices}
-use Rattle.paper.specs.Lent.{rowSize, heavy, pivot, badRow, noFactor, foreign, laden, roomy, enough, opened, lentJudged}
+use Rattle.paper.specs.Lent.{rowSize, heavy, pivot, badRow, noFactor, foreign, laden}
 use Rattle.paper.specs.Step.{offScale}
+use Rattle.paper.specs.Coupled.{strayRow}
+use Rattle.paper.specs.KeptCalls.{Kept, keptRoomy, keptEnough, lengthsJudged, startsJudged}
 use Rattle.paper.specs.declared.Answer.{Answer}
-use Rattle.paper.specs.declared.Answer.the-variants.{Done}
-use Rattle.paper.specs.declared.Refusal.the-variants.{Short, Foreign}
-use Rattle.laws.proofs.Outcomes.{cond-done, cond-rest}
+use Rattle.paper.specs.declared.Answer.the-variants.{Done, Refused}
+use Rattle.paper.specs.declared.Refusal.the-variants.{Short}
 use Rattle.laws.proofs.Scale.{on-scale-size}
+use Rattle.starts.specs.Lent.{Starts, wide, foundIn}
+use Rattle.starts.proofs.Lent.{wide-length}
 use Rattle.lent.specs.Rows.{Rows, Light, Factored, Mild, Borne, Passed}
+use Rattle.lent.specs.Judged.{roomFor, strayed, foundJudged}
 
 -- ---- a matrix that is not heavy
 
@@ -70,39 +76,38 @@ factored-above {l} {n} s i h = let k = s .least i h in omega zarith
 
 -- ---- all that is lent
 
-pub enough-told : (n : ℕ) (s : Slices) (rest : Bool) → enough n s && rest ≡ true
-    → (matrix n ≤ length (s .p)) × (matrix n ≤ length (s .a)) × (matrix n ≤ length (s .factor)) × (rest ≡ true)
-unfolding enough
-enough-told n s rest e =
-    let (all, r) = and-told (roomy n (s .p) && roomy n (s .a) && roomy n (s .factor)) rest e in
-    let (both, f) = and-told (roomy n (s .p) && roomy n (s .a)) (roomy n (s .factor)) all in
-    let (p, a) = and-told (roomy n (s .p)) (roomy n (s .a)) both in
-    (leb-true (matrix n) (length (s .p)) p, leb-true (matrix n) (length (s .a)) a, leb-true (matrix n) (length (s .factor)) f, r)
+-- kept rows as packed ones
+pub wide-rows : (st : List ℕ) (ks : List ℤ) → Starts st (length ks) → Rows (wide st ks) (length st)
+wide-rows st ks lent = record { few = lent .few; room = omega (arith, wide-length st ks) }
 
-pub room-told : (n : ℕ) (s : Slices) (rest r : Bool) → r ≡ enough n s && rest → not r ≡ false
-    → (matrix n ≤ length (s .p)) × (matrix n ≤ length (s .a)) × (matrix n ≤ length (s .factor)) × (rest ≡ true)
-room-told n s rest r e t = enough-told n s rest (sym e ∙ not-false r t)
+-- THEOREM. What refusal 10 lets pass is within bounds.
+pub passed : (n : ℕ) (s : Slices) → Rows (s .p) n → Rows (s .a) n → Rows (s .factor) n → foreign n s ≡ false → Passed n s
+unfolding foreign
+passed n s rp ra rf e =
+    let (b, f) = nor-told (heavy n (s .p) || heavy n (s .a)) (noFactor n (s .factor)) e in
+    let (p, a) = nor-told (heavy n (s .p)) (heavy n (s .a)) b in
+    record { p-light = light (s .p) n rp p; a-light = light (s .a) n ra a; factored = factored (s .factor) n rf f }
 
-cut : (n : ℕ) (xs : List ℤ) → n ≤ 96 → matrix n ≤ length xs → Rows (take (matrix n) xs) n
-cut n xs few h = record { few = few; room = omega (arith, length-take-le (matrix n) xs h) }
+-- THEOREM. By what was found of the deck, 9 and 17 are the calls'.
+stray-judged : (z : Kept) → strayed (strayRow (z .lent .table) (nodes (z .lent .table)) (z .starts)) ≡ startsJudged z
+unfolding startsJudged
+stray-judged z = go (strayRow (z .lent .table) (nodes (z .lent .table)) (z .starts)) refl
+  where
+    go : (k : ℕ) → strayRow (z .lent .table) (nodes (z .lent .table)) (z .starts) ≡ k → strayed (strayRow (z .lent .table) (nodes (z .lent .table)) (z .starts)) ≡ startsJudged z
+    go zero e = rw e refl
+    go (suc k) e = rw e refl
 
--- THEOREM. What refusals 9 and 10 let pass is long enough and within bounds.
-pub passed : (n : ℕ) (s : Slices) (rest : Bool) → n ≤ 96 → lentJudged n s rest ≡ Done → Passed n s rest
-unfolding lentJudged foreign opened
-passed n s rest few e =
-    let (room, own) = cond-done (enough n s && rest) _ Short e in
-    let (lp, la, lf, r) = enough-told n s rest room in
-    let (b, f) = nor-told (heavy n (opened n s .p) || heavy n (opened n s .a)) (noFactor n (opened n s .factor)) (cond-rest (foreign n (opened n s)) Done Foreign own .0) in
-    let (p, a) = nor-told (heavy n (opened n s .p)) (heavy n (opened n s .a)) b in
-    record {
-      p-long = lp;
-      a-long = la;
-      factor-long = lf;
-      rest-long = r;
-      p-light = light (opened n s .p) n (cut n (s .p) few lp) p;
-      a-light = light (opened n s .a) n (cut n (s .a) few la) a;
-      factored = factored (opened n s .factor) n (cut n (s .factor) few lf) f;
-    }
+pub found-judged : (z : Kept) (rest : Bool) → foundJudged (foundIn (z .lent .table) (z .starts)) (nodes (z .lent .table)) (z .lent .slices) (z .starts) rest ≡ andThen (lengthsJudged z rest) (startsJudged z)
+unfolding foundJudged roomFor lengthsJudged keptEnough
+found-judged z rest =
+    let t = z .lent .table in
+    let s = z .lent .slices in
+    let b = keptRoomy t (s .p) && keptRoomy t (s .a) && keptRoomy t (s .factor) && leb (nodes t) (length (z .starts)) && rest in
+    ap (λ (x : Answer). cond b x (Refused Short)) (stray-judged z) ∙ go b (startsJudged z)
+  where
+    go : (b : Bool) (x : Answer) → cond b x (Refused Short) ≡ andThen (cond b Done (Refused Short)) x
+    go false x = refl
+    go true x = refl
 
 -- what refusal 10 lets n nodes carry
 pub borne : (n : ℕ) (c : List ℤ) → n ≤ length c → laden n c ≡ false → Borne (take n c) n

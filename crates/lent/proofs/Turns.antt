@@ -1,5 +1,5 @@
 -- One turn of each test of lent numbers.
-use mathlib.Core.Path.{_≡_, refl, sym, ap, _∙_}
+use mathlib.Core.Path.{_≡_, refl, sym, ap, subst, _∙_}
 use mathlib.Core.Bool.{Bool, true, false, not, cond, _&&_, _||_}
 use mathlib.Core.List.{List}
 use Prim.Native.Nat.{ℕ, zero, suc, _+_, _-_, _*_, _^_, _≤_, _<_, max}
@@ -7,41 +7,43 @@ use native.Mathlib.Nat.{zero-mul, suc-mul}
 use native.Mathlib.Omega.{arith}
 use lib.Dec.{leb, ltb}
 use lib.IntN.{ℤ, pos, natAbs}
-use lib.ListN.{length, take, drop, length-drop}
+use lib.ListN.{length, getD, take, drop, length-drop, List·getD-eq-default}
 use lib.Seq.{getD-take, getD-drop, length-take-le}
-use native.Mathlib.Decide.{ℕ-discrete}
+use native.Mathlib.Decide.{ℕ-discrete, decLt}
 use mir.Syntax.{w64}
 use mir.Val.{SFits}
 use mir.Facts.{toZ-ofZ}
 use borrow.Author.Tests.{le-leb, lt-leb, lt-ltb, le-ltb, leb-true, leb-false, ltb-true, ltb-false, not-true, not-false}
 use Rattle.whole.specs.Sums.{sumN, any}
-use Rattle.whole.specs.Packed.{tri, matrix, cell, place, entry}
+use Rattle.whole.specs.Packed.{tri, cell, place, entry}
 use Rattle.whole.proofs.Calc.{rd}
-use Rattle.whole.proofs.Packed.{place-in}
 use Rattle.whole.proofs.Tests.{cond-true, cond-false}
-use Rattle.whole.proofs.Sums.{sumN-more, sumN-mono, sumN-min, any-ext, any-none, any-one}
+use Rattle.whole.proofs.Sums.{sumN-mono, sumN-min, any-ext, any-none, any-one, any-skip}
 use Rattle.paper.specs.Ticks.{onScale}
 use Rattle.paper.specs.Factor.{small}
 use Rattle.paper.specs.Building.{Slices, slices}
-use Rattle.paper.specs.Lent.{rowSize, heavy, pivot, badRow, noFactor, foreign, laden, enough, opened, lentJudged}
+use Rattle.paper.specs.Lent.{rowSize, heavy, pivot, badRow, noFactor, foreign, laden}
 use Rattle.paper.specs.declared.Answer.the-variants.{Done, Refused}
-use Rattle.paper.specs.declared.Refusal.the-variants.{Short, Foreign}
-use Rattle.lent.specs.Rows.{largest, capped, cappedTo}
+use Rattle.paper.specs.declared.Refusal.the-variants.{Short, Stray}
+use Rattle.starts.specs.Lent.{by, wide}
+use Rattle.starts.specs.declared.Found.{Found}
+use Rattle.starts.proofs.Lent.{last, wide-low, wide-left, wide-size, wide-cell, wide-in}
+use Rattle.lent.specs.Rows.{InRow, largest, capped, cappedTo}
+use Rattle.lent.specs.Judged.{roomFor, strayed, foundJudged}
 
 -- ---- a row's sizes, capped
 
 capped-small : (m : List ℤ) (i j : ℕ) → cappedTo j m i ≤ j * 8589934593
-unfolding cappedTo sumN
+unfolding sumN
 capped-small m i zero = omega arith
 capped-small m i (suc j) = omega (arith, capped-small m i j, suc-mul j 8589934593)
 
-module _ (m : List ℤ) (i at j : ℕ) (e : at ≡ place i j) (g : SFits w64 (cell m at)) (sum z : ℕ) (es : sum ≡ cappedTo j m i) (ez : z ≡ capped (rd (cell m at))) where
-  pub capped-next : sum + z ≡ cappedTo (j + 1) m i
-  unfolding cappedTo
-  capped-next = (λ k. es k + (ez ∙ ap capped (toZ-ofZ g ∙ ap (cell m) e)) k) ∙ sym (sumN-more j (λ (k : ℕ). capped (entry m i k)))
+-- as the machine reads it
+pub capped-read : (x : ℤ) → SFits w64 x → {z : ℕ} → z ≡ capped (rd x) → z ≡ capped x
+capped-read x g e = e ∙ ap capped (toZ-ofZ g)
 
-  pub capped-fits : j < 96 → sum + z < 2 ^ 64
-  capped-fits h = omega (arith, capped-next, capped-small m i (j + 1))
+pub capped-fits : (m : List ℤ) (i j : ℕ) {s : ℕ} → s ≡ cappedTo (j + 1) m i → j < 96 → s < 2 ^ 64
+capped-fits m i j e h = omega (arith, capped-small m i (j + 1))
 
 -- s passes c where r does
 above : (c s r : ℕ) → (c < s → c < r) → (s ≤ c → r ≤ c) → ltb c s ≡ not (leb r c)
@@ -52,7 +54,7 @@ above c s r f g = go (ltb c s) refl
     go false e = sym (ap not (le-leb r c (g (ltb-false c s e))))
 
 pub row-above : (m : List ℤ) (i n sum : ℕ) → sum ≡ cappedTo n m i → ltb (2 ^ 33) sum ≡ not (leb (rowSize n m i) (2 ^ 33))
-unfolding rowSize cappedTo
+unfolding rowSize
 row-above m i n sum es =
     above (2 ^ 33) sum (sumN n (λ k. natAbs (entry m i k)))
     (λ h. omega (arith, es, sumN-mono n (λ (k : ℕ). capped (entry m i k)) (λ (k : ℕ). natAbs (entry m i k)) (λ k l. omega arith)))
@@ -112,16 +114,26 @@ unfolding sumN
 sumN-same zero c = sym (zero-mul c)
 sumN-same (suc n) c = omega (arith, sumN-same n c, suc-mul n c)
 
--- where no number passes 2^26, no row of 96 passes 2^33
-pub light-all : (m : List ℤ) (n most : ℕ) → n ≤ 96 → tri n ≤ length m → most ≡ largest (length m) m → most ≤ 2 ^ 26 → false ≡ heavy n m
-unfolding heavy rowSize
-light-all m n most few room em h = sym (any-none n _ (λ i l. ap not (le-leb (sumN n (λ j. natAbs (entry m i j))) (2 ^ 33) (row i l))))
+-- any number of it
+largest-any : (m : List ℤ) (k : ℕ) → natAbs (cell m k) ≤ largest (length m) m
+largest-any m k = go (decLt k (length m))
   where
-    row : (i : ℕ) → i < n → sumN n (λ j. natAbs (entry m i j)) ≤ 2 ^ 33
-    row i l =
-        let each : (j : ℕ) → j < n → natAbs (entry m i j) ≤ 67108864 = λ j k. omega (arith, largest-each m (length m) (place i j) (omega (arith, place-in i j n l k)), em) in
-        let all = sumN-mono n (λ j. natAbs (entry m i j)) (λ j. 67108864) each in
-        omega (arith, sumN-same n 67108864)
+    go : Dec (k < length m) → natAbs (cell m k) ≤ largest (length m) m
+    go (yes h) = largest-each m (length m) k h
+    go (no h) =
+        let h′ : k < length m → ⊥ = h in
+        subst (λ (z : ℤ). natAbs z ≤ largest (length m) m) (sym (List·getD-eq-default m (pos 0) {n = k} (omega arith))) (omega arith)
+
+-- where no number passes 2^26, no row of 96 passes 2^33
+pub light-all : (st : List ℕ) (m : List ℤ) (most : ℕ) → length st ≤ 96 → most ≡ largest (length m) m → most ≤ 2 ^ 26 → false ≡ heavy (length st) (wide st m)
+unfolding heavy rowSize
+light-all st m most few em h = sym (any-none (length st) _ (λ i l. ap not (le-leb (sumN (length st) (λ j. natAbs (entry (wide st m) i j))) (2 ^ 33) (row i))))
+  where
+    row : (i : ℕ) → sumN (length st) (λ j. natAbs (entry (wide st m) i j)) ≤ 2 ^ 33
+    row i =
+        let each : (j : ℕ) → j < length st → natAbs (entry (wide st m) i j) ≤ 67108864 = λ j k. wide-size st m 67108864 (λ q. omega (arith, largest-any m q, em)) (place i j) in
+        let all = sumN-mono (length st) (λ j. natAbs (entry (wide st m) i j)) (λ j. 67108864) each in
+        omega (arith, sumN-same (length st) 67108864)
 
 -- ---- a test of each in turn
 
@@ -141,20 +153,39 @@ module _ (a b r : Bool) (e : r ≡ a) where
   or-last : r ≡ false → b ≡ a || b
   or-last f = sym (ap (λ (x : Bool). x || b) (sym e ∙ f))
 
-module _ (l : List ℤ) (i at : ℕ) (ea : at ≡ tri i) (h : at + i ≤ length l) (xs : List ℤ) (ex : xs ≡ take (at + i - at) (drop at l)) (most : ℕ) (em : most ≡ largest (length xs) xs) where
-  large-is : ltb (2 ^ 24) most ≡ any i (λ j. not (small 24 (cell l (tri i + j))))
-  large-is =
-      let e : at + i - at ≡ i = omega arith in
-      large-part 24 l at i xs (ex ∙ ap (λ (k : ℕ). take k (drop at l)) e) h most em ∙ ap (λ (s : ℕ). any i (λ j. not (small 24 (cell l (s + j))))) ea
+-- row i of a factor, from `at` to its last number, the d
+module _ (st : List ℕ) (l : List ℤ) (i : ℕ) (q : InRow st l i) (at d : ℕ) (ea : at ≡ getD st i 0) (ed : d ≡ getD st (suc i) (length l) - 1) where
+  abbrev f : ℕ
+  f = by st l i
 
-  pub row-large : 2 ^ 24 < most → ltb (2 ^ 24) most ≡ badRow l i
-  unfolding badRow
-  row-large t = or-first _ (not (pivot (cell l (tri i + i)))) (ltb (2 ^ 24) most) large-is (lt-ltb (2 ^ 24) most t)
+  low : f ≤ i
+  low = wide-low st l i
 
-  pub row-end : most ≤ 2 ^ 24 → SFits w64 (cell l (at + i)) → (s : Bool) → s ≡ pivot (rd (cell l (at + i))) → not s ≡ badRow l i
-  unfolding badRow
-  row-end f g s es =
-      ap not (es ∙ ap pivot (toZ-ofZ g ∙ ap (λ (x : ℕ). cell l (x + i)) ea)) ∙ or-last _ (not (pivot (cell l (tri i + i)))) (ltb (2 ^ 24) most) large-is (le-ltb (2 ^ 24) most f)
+  d-is : d ≡ getD st i 0 + (i - f)
+  d-is = ed ∙ last (q .lent) i (q .here)
+
+  pub row-in : (at ≤ d) × (d < length l)
+  row-in = (omega (arith, d-is), omega (arith, d-is, wide-in st l (q .lent) i i (q .here) (omega arith)))
+
+  module _ (xs : List ℤ) (ex : xs ≡ take (d - at) (drop at l)) (most : ℕ) (em : most ≡ largest (length xs) xs) where
+    large-is : ltb (2 ^ 24) most ≡ any i (λ j. not (small 24 (cell (wide st l) (tri i + j))))
+    large-is =
+        let e : d - at ≡ i - f = omega (arith, d-is) in
+        large-part 24 l at (i - f) xs (ex ∙ ap (λ (k : ℕ). take k (drop at l)) e) (omega (arith, d-is, row-in)) most em
+        ∙ any-ext (i - f) _ _ (λ k s.
+        let there : at + k ≡ getD st i 0 + (f + k - f) = omega arith in
+        ap (λ (z : ℤ). not (small 24 z)) (ap (cell l) there ∙ sym (wide-cell st l (q .lent) i (f + k) (q .here) (omega arith) (omega (arith, low)))))
+        ∙ sym (any-skip f i (λ j. not (small 24 (cell (wide st l) (tri i + j)))) low (λ j s. ap (λ (z : ℤ). not (small 24 z)) (wide-left st l i j (q .here) (omega (arith, low)) s)))
+
+    pub row-large : 2 ^ 24 < most → ltb (2 ^ 24) most ≡ badRow (wide st l) i
+    unfolding badRow
+    row-large t = or-first _ (not (pivot (cell (wide st l) (tri i + i)))) (ltb (2 ^ 24) most) large-is (lt-ltb (2 ^ 24) most t)
+
+    pub row-end : most ≤ 2 ^ 24 → SFits w64 (cell l d) → (s : Bool) → s ≡ pivot (rd (cell l d)) → not s ≡ badRow (wide st l) i
+    unfolding badRow
+    row-end t g s es =
+        ap not (es ∙ ap pivot (toZ-ofZ g ∙ ap (cell l) d-is ∙ sym (wide-cell st l (q .lent) i i (q .here) low (omega arith))))
+        ∙ or-last _ (not (pivot (cell (wide st l) (tri i + i)))) (ltb (2 ^ 24) most) large-is (le-ltb (2 ^ 24) most t)
 
 module _ (p a l : List ℤ) (n : ℕ) (r : Bool) (er : r ≡ heavy n p) where
   pub p-heavy : r ≡ true → true ≡ foreign n (slices p a l)
@@ -179,53 +210,53 @@ module _ (t : List ℤ) (i : ℕ) (g : SFits w64 (cell t i)) (r : Bool) (er : r 
   pub off-is : {b : Bool} → r ≡ b → not (onScale (cell t i)) ≡ not b
   off-is e = ap not (sym (er ∙ ap onScale (toZ-ofZ g)) ∙ e)
 
--- ---- what is lent, by lengths and then by numbers
+-- ---- 9 and 17
 
-module _ (n : ℕ) (p a f : List ℤ) (rest : Bool) (long : ℕ) (el : long ≡ matrix n) where
-  room-is : (xs : List ℤ) → leb long (length xs) ≡ leb (matrix n) (length xs)
-  room-is xs = ap (λ (k : ℕ). leb k (length xs)) el
+module _ (long n : ℕ) (p a f : List ℤ) (st : List ℕ) (rest : Bool) where
+  by-lengths : (x y z w : Bool) → leb long (length p) ≡ x → leb long (length a) ≡ y → leb long (length f) ≡ z → leb n (length st) ≡ w → x && y && z && w && rest ≡ roomFor long n (slices p a f) st && rest
+  unfolding roomFor
+  by-lengths x y z w ex ey ez ew = sym (λ i. ex i && ey i && ez i && ew i && rest)
 
-  by : (x y z : Bool) → leb (matrix n) (length p) ≡ x → leb (matrix n) (length a) ≡ y → leb (matrix n) (length f) ≡ z → x && y && z && rest ≡ enough n (slices p a f) && rest
-  unfolding enough
-  by x y z ex ey ez = sym (λ i. ex i && ey i && ez i && rest)
+  short : (xs : List ℤ) → length xs < long → leb long (length xs) ≡ false
+  short xs h = lt-leb long (length xs) h
 
-  short : (xs : List ℤ) → length xs < long → leb (matrix n) (length xs) ≡ false
-  short xs h = lt-leb (matrix n) (length xs) (omega (arith, el))
+  fair : (xs : List ℤ) → long ≤ length xs → leb long (length xs) ≡ true
+  fair xs h = le-leb long (length xs) h
 
-  fair : (xs : List ℤ) → long ≤ length xs → leb (matrix n) (length xs) ≡ true
-  fair xs h = le-leb (matrix n) (length xs) (omega (arith, el))
+  pub enough-p : length p < long → false ≡ roomFor long n (slices p a f) st && rest
+  enough-p h = by-lengths false _ _ _ (short p h) refl refl refl
 
-  pub enough-p : length p < long → false ≡ enough n (slices p a f) && rest
-  enough-p h = by false _ _ (short p h) refl refl
+  module _ (hp : long ≤ length p) where
+    pub enough-a : length a < long → false ≡ roomFor long n (slices p a f) st && rest
+    enough-a h = by-lengths true false _ _ (fair p hp) (short a h) refl refl
 
-  pub enough-a : long ≤ length p → length a < long → false ≡ enough n (slices p a f) && rest
-  enough-a h k = by true false _ (fair p h) (short a k) refl
+    module _ (ha : long ≤ length a) where
+      pub enough-factor : length f < long → false ≡ roomFor long n (slices p a f) st && rest
+      enough-factor h = by-lengths true true false _ (fair p hp) (fair a ha) (short f h) refl
 
-  pub enough-factor : long ≤ length p → long ≤ length a → length f < long → false ≡ enough n (slices p a f) && rest
-  enough-factor h k l = by true true false (fair p h) (fair a k) (short f l)
+      module _ (hf : long ≤ length f) where
+        pub enough-starts : length st < n → false ≡ roomFor long n (slices p a f) st && rest
+        enough-starts h = by-lengths true true true false (fair p hp) (fair a ha) (fair f hf) (lt-leb n (length st) h)
 
-  pub enough-rest : long ≤ length p → long ≤ length a → long ≤ length f → rest ≡ enough n (slices p a f) && rest
-  enough-rest h k l = by true true true (fair p h) (fair a k) (fair f l)
+        pub enough-rest : n ≤ length st → rest ≡ roomFor long n (slices p a f) st && rest
+        enough-rest h = by-lengths true true true true (fair p hp) (fair a ha) (fair f hf) (le-leb n (length st) h)
 
-module _ (n : ℕ) (p a f : List ℤ) (rest r : Bool) (er : r ≡ enough n (slices p a f) && rest) where
-  abbrev s : Slices
-  s = slices p a f
+stray-is : (k : ℕ) → (k ≡ 0 → ⊥) → Refused (Stray k) ≡ strayed k
+stray-is zero h = absurd (h refl)
+stray-is (suc k) h = refl
 
-  pub judged-short : not r ≡ true → Refused Short ≡ lentJudged n s rest
-  unfolding lentJudged
-  judged-short t = sym (cond-false (enough n s && rest) _ (Refused Short) (sym er ∙ not-true r t))
+module _ (found : Found) (n : ℕ) (s : Slices) (st : List ℕ) (rest r : Bool) (er : r ≡ roomFor (found .long) n s st && rest) where
+  pub judged-short : not r ≡ true → Refused Short ≡ foundJudged found n s st rest
+  unfolding foundJudged
+  judged-short t = sym (cond-false (roomFor (found .long) n s st && rest) _ (Refused Short) (sym er ∙ not-true r t))
 
-  module _ (t : not r ≡ false) (long : ℕ) (el : long ≡ matrix n) (b : Bool) (eb : b ≡ foreign n (slices (take (long - 0) p) (take (long - 0) a) (take (long - 0) f))) where
-    cut-is : b ≡ foreign n (opened n s)
-    unfolding opened
-    cut-is = let e : long - 0 ≡ matrix n = omega (arith, el) in eb ∙ (λ i. foreign n (slices (take (e i) p) (take (e i) a) (take (e i) f)))
+  module _ (t : not r ≡ false) where
+    on : strayed (found .stray) ≡ foundJudged found n s st rest
+    unfolding foundJudged
+    on = sym (cond-true (roomFor (found .long) n s st && rest) _ (Refused Short) (sym er ∙ not-false r t))
 
-    on : cond b (Refused Foreign) Done ≡ lentJudged n s rest
-    unfolding lentJudged
-    on = ap (λ (x : Bool). cond x (Refused Foreign) Done) cut-is ∙ sym (cond-true (enough n s && rest) _ (Refused Short) (sym er ∙ not-false r t))
+    pub judged-stray : (found .stray ≡ 0 → ⊥) → Refused (Stray (found .stray)) ≡ foundJudged found n s st rest
+    judged-stray h = stray-is (found .stray) h ∙ on
 
-    pub judged-foreign : b ≡ true → Refused Foreign ≡ lentJudged n s rest
-    judged-foreign e = sym (ap (λ (x : Bool). cond x (Refused Foreign) Done) e) ∙ on
-
-    pub judged-done : b ≡ false → Done ≡ lentJudged n s rest
-    judged-done e = sym (ap (λ (x : Bool). cond x (Refused Foreign) Done) e) ∙ on
+    pub judged-done : found .stray ≡ 0 → Done ≡ foundJudged found n s st rest
+    judged-done e = sym (ap strayed e) ∙ on

@@ -1,6 +1,5 @@
--- What is lent of n nodes: room for n rows, and the bounds that refusals 9, 10 and 11 leave.
+-- What is lent of n nodes: room for n rows, and the bounds that refusals 10 and 11 leave. Matrices and factors are packed triangles here.
 use mathlib.Core.Path.{_≡_}
-use mathlib.Core.Bool.{Bool, true}
 use Prim.Native.Nat.{ℕ, zero, suc, _+_, _^_, _≤_, _<_, min, max}
 use mathlib.Core.List.{List}
 use lib.IntN.{ℤ, pos, natAbs}
@@ -9,15 +8,17 @@ use lib.ListN.{length}
 use Rattle.whole.specs.Sums.{sumN}
 use Rattle.whole.specs.Packed.{start, matrix, cell, entry}
 use Rattle.paper.specs.Building.{Slices}
-use Rattle.paper.specs.Lent.{rowSize, opened}
+use Rattle.paper.specs.Lent.{rowSize}
+use Rattle.starts.specs.Lent.{Starts}
 
 pub record Rows (m : List ℤ) (n : ℕ) : Type 0 where
   pub few : n ≤ 96
   pub room : matrix n ≤ length m
 
-pub record InRow (m : List ℤ) (i n : ℕ) : Type 0 where
-  pub rows : Rows m n
-  pub here : i < n
+-- one of the rows that are kept
+pub record InRow (st : List ℕ) (ks : List ℤ) (i : ℕ) : Type 0 where
+  pub lent : Starts st (length ks)
+  pub here : i < length st
 
 -- the largest size of the first j
 unfoldable pub largest : ℕ → List ℤ → ℕ
@@ -29,7 +30,7 @@ abbrev pub capped : ℤ → ℕ
 capped x = min (natAbs x) (suc (2 ^ 33))
 
 -- and the sum of the first j in row i
-unfoldable pub cappedTo : ℕ → List ℤ → ℕ → ℕ
+abbrev pub cappedTo : ℕ → List ℤ → ℕ → ℕ
 cappedTo j m i = sumN j (λ k. capped (entry m i k))
 
 -- a matrix that is not heavy
@@ -54,12 +55,8 @@ pub record Borne (c : List ℤ) (n : ℕ) : Type 0 where
   pub long : length c ≡ n
   pub each : (j : ℕ) → j < n → natAbs (cell c j) ≤ 2 ^ 33
 
--- slices of any length that refusals 9 and 10 let pass, and that whatever else is lent is long enough
-pub record Passed (n : ℕ) (s : Slices) (rest : Bool) : Type 0 where
-  pub p-long : matrix n ≤ length (s .p)
-  pub a-long : matrix n ≤ length (s .a)
-  pub factor-long : matrix n ≤ length (s .factor)
-  pub rest-long : rest ≡ true
-  pub p-light : Light (opened n s .p) n
-  pub a-light : Light (opened n s .a) n
-  pub factored : Factored (opened n s .factor) n
+-- matrices and a factor of n rows that refusal 10 lets pass
+pub record Passed (n : ℕ) (s : Slices) : Type 0 where
+  pub p-light : Light (s .p) n
+  pub a-light : Light (s .a) n
+  pub factored : Factored (s .factor) n

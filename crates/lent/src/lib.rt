@@ -1,17 +1,20 @@
-// Refusals 9, 10 and 11: slices too short, lent numbers that no build gives, and temperatures off the scale. The numbers may be of
-// any size, the least i64 too.
+// Refusals 9, 17, 10 and 11: slices too short, row starts of another deck, lent numbers that no build gives, and temperatures off the
+// scale. The numbers may be of any size, the least i64 too. Rows are kept from their first columns on, by the row starts.
 use paper::Answer;
 use paper::Refusal;
 use paper::Ticks;
+use starts::Found;
 ghost use mathlib.Core.Path.{_≡_};
 ghost use mathlib.Core.Bool.{not, _&&_};
 ghost use Prim.Native.Nat.{_+_, _^_, _≤_, _<_};
 ghost use lib.Dec.{leb};
 ghost use lib.ListN.{length};
 ghost use Rattle.paper.specs.Building.{slices};
-ghost use Rattle.paper.specs.Lent.{rowSize, heavy, pivot, badRow, noFactor, foreign, laden, enough, lentJudged};
+ghost use Rattle.paper.specs.Lent.{rowSize, heavy, pivot, badRow, noFactor, foreign, laden};
 ghost use Rattle.paper.specs.Step.{offScale};
-ghost use Rattle.lent.specs.Rows.{InRow, Rows, largest, capped, cappedTo};
+ghost use Rattle.starts.specs.Lent.{Starts, wide};
+ghost use Rattle.lent.specs.Rows.{InRow, largest, capped, cappedTo};
+ghost use Rattle.lent.specs.Judged.{roomFor, foundJudged};
 
 // ---- the largest
 
@@ -39,51 +42,50 @@ fn capped(x: i64) -> u64
 }
 
 // Row i up to its diagonal.
-fn left(m: &[i64], i: usize, n: usize) -> u64
-    requires { ⌜ InRow (now m) i n ⌝ }
-    ensures { λ r. ⌜ r ≡ cappedTo (i + 1) (now (m .entry)) i ⌝ }
+fn left(m: &[i64], starts: &[u32], i: usize) -> u64
+    requires { ⌜ InRow (now starts) (now m) i ⌝ }
+    ensures { λ r. ⌜ r ≡ cappedTo (i + 1) (wide (now (starts .entry)) (now (m .entry))) i ⌝ }
 {
-    let at = whole::start(i);
+    let mut at = starts::start(starts, i);
+    let mut j = starts::first(starts, i, m.len());
     let mut sum: u64 = 0;
-    let mut j = 0;
     while j <= i {
-        sum += capped(m[at + j]);
+        sum += capped(m[at]);
+        at += 1;
         j += 1;
     }
     sum
 }
 
 // The whole row i, from what it comes to up to its diagonal.
-fn down(m: &[i64], left: u64, i: usize, n: usize) -> u64
-    requires { ⌜ InRow (now m) i n × (left ≡ cappedTo (i + 1) (now m) i) ⌝ }
-    ensures { λ r. ⌜ r ≡ cappedTo n (now (m .entry)) i ⌝ }
+fn down(m: &[i64], starts: &[u32], left: u64, i: usize) -> u64
+    requires { ⌜ InRow (now starts) (now m) i × (left ≡ cappedTo (i + 1) (wide (now starts) (now m)) i) ⌝ }
+    ensures { λ r. ⌜ r ≡ cappedTo (length (now (starts .entry))) (wide (now (starts .entry)) (now (m .entry))) i ⌝ }
 {
     let mut sum = left;
     let mut j = i + 1;
-    let mut at = whole::start(j) + i;
-    while j < n {
-        sum += capped(m[at]);
+    while j < starts.len() {
+        sum += capped(starts::number(m, starts, j, i));
         j += 1;
-        at += j;
     }
     sum
 }
 
 // Whether the magnitudes of row i sum above 2^33.
-fn heavy_row(m: &[i64], i: usize, n: usize) -> bool
-    requires { ⌜ InRow (now m) i n ⌝ }
-    ensures { λ r. ⌜ r ≡ not (leb (rowSize n (now (m .entry)) i) (2 ^ 33)) ⌝ }
+fn heavy_row(m: &[i64], starts: &[u32], i: usize) -> bool
+    requires { ⌜ InRow (now starts) (now m) i ⌝ }
+    ensures { λ r. ⌜ r ≡ not (leb (rowSize (length (now (starts .entry))) (wide (now (starts .entry)) (now (m .entry))) i) (2 ^ 33)) ⌝ }
 {
-    8_589_934_592 < down(m, left(m, i, n), i, n)
+    8_589_934_592 < down(m, starts, left(m, starts, i), i)
 }
 
-fn heavy_rows(m: &[i64], n: usize) -> bool
-    requires { ⌜ Rows (now m) n ⌝ }
-    ensures { λ r. ⌜ r ≡ heavy n (now (m .entry)) ⌝ }
+fn heavy_rows(m: &[i64], starts: &[u32]) -> bool
+    requires { ⌜ Starts (now starts) (length (now m)) ⌝ }
+    ensures { λ r. ⌜ r ≡ heavy (length (now (starts .entry))) (wide (now (starts .entry)) (now (m .entry))) ⌝ }
 {
     let mut i = 0;
-    while i < n {
-        if heavy_row(m, i, n) {
+    while i < starts.len() {
+        if heavy_row(m, starts, i) {
             return true;
         }
         i += 1;
@@ -92,14 +94,14 @@ fn heavy_rows(m: &[i64], n: usize) -> bool
 }
 
 // Where no number passes 2^26, no row of 96 passes 2^33.
-fn heavy(m: &[i64], n: usize) -> bool
-    requires { ⌜ Rows (now m) n ⌝ }
-    ensures { λ r. ⌜ r ≡ heavy n (now (m .entry)) ⌝ }
+fn heavy(m: &[i64], starts: &[u32]) -> bool
+    requires { ⌜ Starts (now starts) (length (now m)) ⌝ }
+    ensures { λ r. ⌜ r ≡ heavy (length (now (starts .entry))) (wide (now (starts .entry)) (now (m .entry))) ⌝ }
 {
     if largest(m) <= 67_108_864 {
         return false;
     }
-    heavy_rows(m, n)
+    heavy_rows(m, starts)
 }
 
 // ---- a factor
@@ -110,21 +112,23 @@ fn pivot(d: i64) -> bool
     16 <= d && whole::size(d) <= 274_877_906_944
 }
 
-fn bad_row(l: &[i64], i: usize, n: usize) -> bool
-    requires { ⌜ InRow (now l) i n ⌝ }
-    ensures { λ r. ⌜ r ≡ badRow (now (l .entry)) i ⌝ }
+// A row's last number is its d.
+fn bad_row(l: &[i64], starts: &[u32], i: usize) -> bool
+    requires { ⌜ InRow (now starts) (now l) i ⌝ }
+    ensures { λ r. ⌜ r ≡ badRow (wide (now (starts .entry)) (now (l .entry))) i ⌝ }
 {
-    let at = whole::start(i);
-    16_777_216 < largest(&l[at..at + i]) || !pivot(l[at + i])
+    let at = starts::start(starts, i);
+    let d = starts::end(starts, i, l.len()) - 1;
+    16_777_216 < largest(&l[at..d]) || !pivot(l[d])
 }
 
-fn no_factor(l: &[i64], n: usize) -> bool
-    requires { ⌜ Rows (now l) n ⌝ }
-    ensures { λ r. ⌜ r ≡ noFactor n (now (l .entry)) ⌝ }
+fn no_factor(l: &[i64], starts: &[u32]) -> bool
+    requires { ⌜ Starts (now starts) (length (now l)) ⌝ }
+    ensures { λ r. ⌜ r ≡ noFactor (length (now (starts .entry))) (wide (now (starts .entry)) (now (l .entry))) ⌝ }
 {
     let mut i = 0;
-    while i < n {
-        if bad_row(l, i, n) {
+    while i < starts.len() {
+        if bad_row(l, starts, i) {
             return true;
         }
         i += 1;
@@ -134,26 +138,33 @@ fn no_factor(l: &[i64], n: usize) -> bool
 
 // ---- all that is lent
 
-// P, A, then the factor.
-fn foreign(p: &[i64], a: &[i64], factor: &[i64], n: usize) -> bool
-    requires { ⌜ Rows (now p) n × Rows (now a) n × Rows (now factor) n ⌝ }
-    ensures { λ r. ⌜ r ≡ foreign n (slices (now (p .entry)) (now (a .entry)) (now (factor .entry))) ⌝ }
+// Refusal 10 of slices of the matrix length: P, A, then the factor.
+pub fn foreign(p: &[i64], a: &[i64], factor: &[i64], starts: &[u32]) -> bool
+    requires { ⌜ Starts (now starts) (length (now p)) × Starts (now starts) (length (now a)) × Starts (now starts) (length (now factor)) ⌝ }
+    ensures { λ r. ⌜ r ≡ foreign (length (now (starts .entry))) (slices (wide (now (starts .entry)) (now (p .entry))) (wide (now (starts .entry)) (now (a .entry))) (wide (now (starts .entry)) (now (factor .entry)))) ⌝ }
 {
-    if heavy(p, n) {
+    if heavy(p, starts) {
         return true;
     }
-    if heavy(a, n) {
+    if heavy(a, starts) {
         return true;
     }
-    no_factor(factor, n)
+    no_factor(factor, starts)
 }
 
-// Whether P, A and the factor have the matrix length; rest: whether what else is lent is long enough.
-pub fn enough(p: &[i64], a: &[i64], factor: &[i64], rest: bool, n: usize) -> bool
-    requires { ⌜ n ≤ 96 ⌝ }
-    ensures { λ r. ⌜ r ≡ (enough n (slices (now (p .entry)) (now (a .entry)) (now (factor .entry))) && rest) ⌝ }
+// Refusal 9: whether P, A and the factor have the matrix length, and there is a start for each of n rows; rest: whether what else
+// is lent is long enough.
+pub fn enough(
+    p: &[i64],
+    a: &[i64],
+    factor: &[i64],
+    starts: &[u32],
+    rest: bool,
+    long: usize,
+    n: usize,
+) -> bool
+    ensures { λ r. ⌜ r ≡ (roomFor long n (slices (now (p .entry)) (now (a .entry)) (now (factor .entry))) (now (starts .entry)) && rest) ⌝ }
 {
-    let long = whole::matrix(n);
     if p.len() < long {
         return false;
     }
@@ -163,20 +174,29 @@ pub fn enough(p: &[i64], a: &[i64], factor: &[i64], rest: bool, n: usize) -> boo
     if factor.len() < long {
         return false;
     }
+    if starts.len() < n {
+        return false;
+    }
     rest
 }
 
-// Refusals 9 and 10 of slices of any length.
-pub fn judge(p: &[i64], a: &[i64], factor: &[i64], rest: bool, n: usize) -> Answer
-    requires { ⌜ n ≤ 96 ⌝ }
-    ensures { λ r. ⌜ r ≡ lentJudged n (slices (now (p .entry)) (now (a .entry)) (now (factor .entry))) rest ⌝ }
+// Refusals 9 and 17 of slices of any length, for n nodes.
+pub fn judge(
+    found: Found,
+    p: &[i64],
+    a: &[i64],
+    factor: &[i64],
+    starts: &[u32],
+    rest: bool,
+    n: usize,
+) -> Answer
+    ensures { λ r. ⌜ r ≡ foundJudged found n (slices (now (p .entry)) (now (a .entry)) (now (factor .entry))) (now (starts .entry)) rest ⌝ }
 {
-    if !enough(p, a, factor, rest, n) {
+    if !enough(p, a, factor, starts, rest, found.long, n) {
         return Answer::Refused(Refusal::Short);
     }
-    let long = whole::matrix(n);
-    if foreign(&p[0..long], &a[0..long], &factor[0..long], n) {
-        return Answer::Refused(Refusal::Foreign);
+    if found.stray != 0 {
+        return Answer::Refused(Refusal::Stray(found.stray));
     }
     Answer::Done
 }

@@ -1,24 +1,28 @@
--- A square added by rows: what the loops hold, ask and give.
-use mathlib.Core.Path.{_≡_, refl, sym, ap, subst, _∙_}
+-- A square added by rows: what the loops hold, ask and give, of the packed triangle of kept rows.
+use mathlib.Core.Path.{_≡_, sym, ap, subst, transport, _∙_}
 use mathlib.Core.List.{List}
-use Prim.Native.Nat.{ℕ, zero, suc, _+_, _-_, _*_, _^_, _≤_, _<_}
+use Prim.Native.Nat.{ℕ, zero, suc, _+_, _-_, _*_, _^_, _≤_, _<_, min, max}
 use native.Mathlib.Numerals.{add-one}
 use native.Mathlib.Decide.{ℕ-discrete, decLt}
 use native.Mathlib.Omega.{arith}
 use lib.Dec.{lit<}
 use lib.IntN.{ℤ, pos, natAbs, _+ℤ_}
-use lib.ListN.{length, getD, set}
+use lib.ListN.{length, set}
 use lib.Seq.{getD-set-same, getD-set-other, set-out}
 use Rattle.whole.specs.Packed.{tri, cell, place, entry, Bounded}
+use Rattle.whole.specs.Kept.{firstBy}
 use Rattle.whole.specs.Squares.{at, Small}
 use Rattle.whole.proofs.Signs.{natAbs-plus}
 use Rattle.whole.proofs.Calc.{rd, num, size-of}
-use Rattle.whole.proofs.Packed.{place-in, add}
+use Rattle.whole.proofs.Packed.{add}
 use Rattle.paper.specs.declared.Node.{Node}
-use Rattle.laws.proofs.Places.{cornerRow, addRow, addSquare, length-row, length-square}
+use Rattle.laws.proofs.Places.{cornerRow, addRow, addSquare}
+use Rattle.starts.specs.Lent.{Starts, wide, Turned}
+use Rattle.starts.proofs.Lent.{turned-none}
 use Rattle.triangle.specs.Forms.{numbers}
 use Rattle.part.proofs.Leasts.{nth, nth-is}
-use Rattle.packed.specs.Asks.{AddsAt, AddsRow, Takes}
+use Rattle.packed.specs.Asks.{Stands, AddsAt, AddsRow, Takes}
+use Rattle.packed.proofs.Spots.{turned-as}
 
 -- ---- sizes
 
@@ -52,55 +56,69 @@ square-size (suc n) b xs ns q h s =
 -- ---- a row
 
 -- its first b places are added
-pub record Row (xs₀ : List ℤ) (c : List Node) (q : List (List ℤ)) (a : ℕ) (xs : List ℤ) (b : ℕ) : Type 0 where
+pub record Row (st : List ℕ) (ks₀ : List ℤ) (c : List Node) (q : List (List ℤ)) (a : ℕ) (ks : List ℤ) (b : ℕ) : Type 0 where
   pub within : b ≤ suc a
-  pub is : xs ≡ addRow b xs₀ (numbers c) (at q) a
+  pub turned : Turned st ks₀ ks (addRow b (wide st ks₀) (numbers c) (at q) a)
 
-pub row-start : (xs : List ℤ) (c : List Node) (q : List (List ℤ)) (a : ℕ) → Row xs c q a xs 0
+pub row-start : (st : List ℕ) (ks : List ℤ) (c : List Node) (q : List (List ℤ)) (a : ℕ) → Row st ks c q a ks 0
 unfolding addRow
-row-start xs c q a = record { within = omega arith; is = refl }
+row-start st ks c q a = record { within = omega arith; turned = turned-none st ks }
 
-module _ {xs₀ : List ℤ} {c : List Node} {q : List (List ℤ)} {a : ℕ} (h : AddsRow xs₀ (numbers c) q a) {xs : List ℤ} {b : ℕ} (r : Row xs₀ c q a xs b) where
-  pub row-long : length xs ≡ length xs₀
-  row-long = ap length (r .is) ∙ length-row b xs₀ (numbers c) (at q) a
+module _ {st : List ℕ} {ks₀ : List ℤ} {c : List Node} {q : List (List ℤ)} {a : ℕ} (h : AddsRow st ks₀ (numbers c) q a) {ks : List ℤ} {b : ℕ} (r : Row st ks₀ c q a ks b) where
+  pub row-long : length ks ≡ length ks₀
+  row-long = r .turned .long
 
-  row-bound : Bounded (8 * 2 ^ 58 + b * 2 ^ 58) xs
-  row-bound = subst (Bounded (8 * 2 ^ 58 + b * 2 ^ 58)) (sym (r .is)) (row-size b (8 * 2 ^ 58) xs₀ (numbers c) q a (h .small) (h .square))
+  row-bound : Bounded (8 * 2 ^ 58 + b * 2 ^ 58) (wide st ks)
+  row-bound = subst (Bounded (8 * 2 ^ 58 + b * 2 ^ 58)) (sym (r .turned .is)) (row-size b (8 * 2 ^ 58) (wide st ks₀) (numbers c) q a (h .small) (h .square))
 
-  pub row-asks : b ≤ a → AddsAt xs (nth c a) (nth c b) × (natAbs (rd (at q a b)) ≤ 2 ^ 58)
+  -- the places of two corners
+  stands : b ≤ a → Stands st (length ks) (nth c a - 1) (nth c b - 1)
+  stands l =
+      let (la, ha) = h .corners a (omega arith) in
+      let (lb, hb) = h .corners b l in
+      let ea = nth-is c a in
+      let eb = nth-is c b in
+      record {
+        lent = subst (Starts st) (sym row-long) (h .lent);
+        row = omega arith;
+        column = omega arith;
+        inside = transport (λ d. firstBy st (sym row-long d) (max (ea d - 1) (eb d - 1)) ≤ min (ea d - 1) (eb d - 1)) (h .keeps a b (omega arith) (omega arith));
+      }
+
+  pub row-asks : b ≤ a → AddsAt st ks (nth c a) (nth c b) × (natAbs (rd (at q a b)) ≤ 2 ^ 58)
   row-asks l =
       let (la, ha) = h .corners a (omega arith) in
       let (lb, hb) = h .corners b l in
       let ea = nth-is c a in
       let eb = nth-is c b in (
         record {
-          inA = (omega (arith, h .few), omega (arith, h .few));
-          inB = (omega (arith, h .few), omega (arith, h .few));
-          inside = omega (arith, row-long, h .long, place-in (nth c a - 1) (nth c b - 1) (h .m) (omega arith) (omega arith));
+          inA = (omega (arith, h .lent .few), omega (arith, h .lent .few));
+          inB = (omega (arith, h .lent .few), omega (arith, h .lent .few));
+          stands = stands l;
           small = record { each = λ p. omega (arith, row-bound .each p, h .last) };
         },
         size-of (num (at q a b) (h .square .each a b) (lit< tt)),
       )
 
-  pub row-next : {ys : List ℤ} → b ≤ a → ys ≡ add xs (nth c a - 1) (nth c b - 1) (rd (at q a b)) → Row xs₀ c q a ys (b + 1)
+  pub row-next : {ls : List ℤ} → b ≤ a → Turned st ks ls (add (wide st ks) (nth c a - 1) (nth c b - 1) (rd (at q a b))) → Row st ks₀ c q a ls (b + 1)
   unfolding addRow
-  row-next {ys} l e =
-      let step : ys ≡ addRow (suc b) xs₀ (numbers c) (at q) a = e ∙ (λ d. add (r .is d) (sym (nth-is c a) d - 1) (sym (nth-is c b) d - 1) (num (at q a b) (h .square .each a b) (lit< tt) .eq d)) in
-      record { within = omega arith; is = subst (λ (k : ℕ). ys ≡ addRow k xs₀ (numbers c) (at q) a) (sym (add-one b)) step }
+  row-next {ls} l e =
+      let step : wide st ls ≡ addRow (suc b) (wide st ks₀) (numbers c) (at q) a = e .is ∙ (λ d. add (r .turned .is d) (sym (nth-is c a) d - 1) (sym (nth-is c b) d - 1) (num (at q a b) (h .square .each a b) (lit< tt) .eq d)) in
+      record { within = omega arith; turned = record { long = e .long ∙ row-long; is = subst (λ (k : ℕ). wide st ls ≡ addRow k (wide st ks₀) (numbers c) (at q) a) (sym (add-one b)) step } }
 
-  pub row-end : a < b → xs ≡ addRow (suc a) xs₀ (numbers c) (at q) a
-  row-end l = let e : b ≡ suc a = omega (arith, r .within) in r .is ∙ ap (λ (k : ℕ). addRow k xs₀ (numbers c) (at q) a) e
+  pub row-end : a < b → Turned st ks₀ ks (addRow (suc a) (wide st ks₀) (numbers c) (at q) a)
+  row-end l = let e : b ≡ suc a = omega (arith, r .within) in turned-as (r .turned) (ap (λ (k : ℕ). addRow k (wide st ks₀) (numbers c) (at q) a) e)
 
 -- ---- a square
 
 -- its first a rows are added
-pub record Square (n : ℕ) (xs₀ : List ℤ) (c : List Node) (q : List (List ℤ)) (xs : List ℤ) (a : ℕ) : Type 0 where
+pub record Square (n : ℕ) (st : List ℕ) (ks₀ : List ℤ) (c : List Node) (q : List (List ℤ)) (ks : List ℤ) (a : ℕ) : Type 0 where
   pub within : a ≤ n
-  pub is : xs ≡ addSquare a xs₀ (numbers c) (at q)
+  pub turned : Turned st ks₀ ks (addSquare a (wide st ks₀) (numbers c) (at q))
 
-pub square-start : (n : ℕ) (xs : List ℤ) (c : List Node) (q : List (List ℤ)) → Square n xs c q xs 0
+pub square-start : (n : ℕ) (st : List ℕ) (ks : List ℤ) (c : List Node) (q : List (List ℤ)) → Square n st ks c q ks 0
 unfolding addSquare
-square-start n xs c q = record { within = omega arith; is = refl }
+square-start n st ks c q = record { within = omega arith; turned = turned-none st ks }
 
 -- before its last row a square over four corners has six places
 few-places : (a : ℕ) → a ≤ 3 → tri a ≤ 6
@@ -111,29 +129,28 @@ few-places (suc (suc zero)) h = omega arith
 few-places (suc (suc (suc zero))) h = omega arith
 few-places (suc (suc (suc (suc a)))) h = absurd (omega arith)
 
-module _ {n : ℕ} {xs₀ : List ℤ} {c : List Node} {q : List (List ℤ)} (h : Takes n xs₀ (numbers c) q) {xs : List ℤ} {a : ℕ} (r : Square n xs₀ c q xs a) where
-  pub square-long : length xs ≡ length xs₀
-  square-long = ap length (r .is) ∙ length-square a xs₀ (numbers c) (at q)
+module _ {n : ℕ} {st : List ℕ} {ks₀ : List ℤ} {c : List Node} {q : List (List ℤ)} (h : Takes n st ks₀ (numbers c) q) {ks : List ℤ} {a : ℕ} (r : Square n st ks₀ c q ks a) where
+  pub square-long : length ks ≡ length ks₀
+  square-long = r .turned .long
 
-  square-bound : Bounded (2 ^ 58 + tri a * 2 ^ 58) xs
-  square-bound = subst (Bounded (2 ^ 58 + tri a * 2 ^ 58)) (sym (r .is)) (square-size a (2 ^ 58) xs₀ (numbers c) q (h .small) (h .square))
+  square-bound : Bounded (2 ^ 58 + tri a * 2 ^ 58) (wide st ks)
+  square-bound = subst (Bounded (2 ^ 58 + tri a * 2 ^ 58)) (sym (r .turned .is)) (square-size a (2 ^ 58) (wide st ks₀) (numbers c) q (h .small) (h .square))
 
-  pub square-asks : a < n → AddsRow xs (numbers c) q a
+  pub square-asks : a < n → AddsRow st ks (numbers c) q a
   square-asks l = record {
-    m = h .m;
-    few = h .few;
-    long = square-long ∙ h .long;
+    lent = subst (Starts st) (sym square-long) (h .lent);
     last = omega (arith, h .most);
     corners = λ k m. h .corners k (omega arith);
+    keeps = λ b d x y. subst (λ (k : ℕ). firstBy st k (max (cornerRow (numbers c) b) (cornerRow (numbers c) d)) ≤ min (cornerRow (numbers c) b) (cornerRow (numbers c) d)) (sym square-long) (h .keeps b d (omega arith) (omega arith));
     small = record { each = λ p. omega (arith, square-bound .each p, few-places a (omega (arith, h .most))) };
     square = h .square;
   }
 
-  pub square-next : {ys : List ℤ} → a < n → ys ≡ addRow (suc a) xs (numbers c) (at q) a → Square n xs₀ c q ys (a + 1)
+  pub square-next : {ls : List ℤ} → a < n → Turned st ks ls (addRow (suc a) (wide st ks) (numbers c) (at q) a) → Square n st ks₀ c q ls (a + 1)
   unfolding addSquare
-  square-next {ys} l e =
-      let step : ys ≡ addSquare (suc a) xs₀ (numbers c) (at q) = e ∙ ap (λ (z : List ℤ). addRow (suc a) z (numbers c) (at q) a) (r .is) in
-      record { within = omega arith; is = subst (λ (k : ℕ). ys ≡ addSquare k xs₀ (numbers c) (at q)) (sym (add-one a)) step }
+  square-next {ls} l e =
+      let step : wide st ls ≡ addSquare (suc a) (wide st ks₀) (numbers c) (at q) = e .is ∙ ap (λ (z : List ℤ). addRow (suc a) z (numbers c) (at q) a) (r .turned .is) in
+      record { within = omega arith; turned = record { long = e .long ∙ square-long; is = subst (λ (k : ℕ). wide st ls ≡ addSquare k (wide st ks₀) (numbers c) (at q)) (sym (add-one a)) step } }
 
-  pub square-end : n ≤ a → xs ≡ addSquare n xs₀ (numbers c) (at q)
-  square-end l = let e : a ≡ n = omega (arith, r .within) in r .is ∙ ap (λ (k : ℕ). addSquare k xs₀ (numbers c) (at q)) e
+  pub square-end : n ≤ a → Turned st ks₀ ks (addSquare n (wide st ks₀) (numbers c) (at q))
+  square-end l = let e : a ≡ n = omega (arith, r .within) in turned-as (r .turned) (ap (λ (k : ℕ). addSquare k (wide st ks₀) (numbers c) (at q)) e)

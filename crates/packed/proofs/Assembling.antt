@@ -2,7 +2,7 @@
 use mathlib.Core.Path.{_≡_, refl, sym, ap, subst, _∙_}
 use mathlib.Core.Bool.{Bool, true, false, cond, _&&_, _||_}
 use mathlib.Core.List.{List}
-use Prim.Native.Nat.{ℕ, zero, suc, _+_, _-_, _*_, _^_, _≤_, _<_}
+use Prim.Native.Nat.{ℕ, suc, _+_, _-_, _*_, _^_, _≤_, _<_, max}
 use native.Mathlib.Omega.{arith}
 use lib.IntN.{ℤ, pos, natAbs, _+ℤ_}
 use lib.Dec.{eqb}
@@ -12,11 +12,10 @@ use Rattle.whole.specs.Packed.{tri, cell, entry, lower}
 use Rattle.whole.specs.Squares.{at, Holds}
 use Rattle.whole.proofs.Tests.{never}
 use Rattle.whole.proofs.Sums.{sum-more, sum-none}
-use Rattle.whole.proofs.Packed.{length-lower, lower-at, lower-ext, lower-zeros, lower-size}
+use Rattle.whole.proofs.Packed.{lower-at, lower-ext, lower-zeros, lower-size}
 use Rattle.paper.specs.Kinds.{about, kindOf, kindAt}
-use Rattle.paper.specs.Cards.{rowAt, letter, rows, nodes, field}
+use Rattle.paper.specs.Cards.{rowAt, rows, nodes}
 use Rattle.paper.specs.Corners.{mass, spread}
-use Rattle.paper.specs.Elements.{elementOf}
 use Rattle.paper.specs.Parts.{Part, partOf, partFor, partAt}
 use Rattle.paper.specs.Matrices.{addsP, addsA}
 use Rattle.paper.specs.declared.Kind.{Kind}
@@ -24,18 +23,22 @@ use Rattle.paper.specs.declared.Kind.the-variants.{D, N, M, E, «V», H, F, G, 
 use Rattle.laws.proofs.Letters.{Body, flat, solid}
 use Rattle.laws.proofs.Decks.{kindIn, Deck}
 use Rattle.laws.proofs.Tables.{row-field}
-use Rattle.laws.proofs.Spans.{part-corners, body-inner, in-loads}
+use Rattle.laws.proofs.Spans.{Inside, inside-each, part-corners, body-inner, in-loads}
 use Rattle.laws.proofs.Square.{part-sound}
 use Rattle.laws.proofs.Elements.{sound, part-distinct}
 use Rattle.laws.proofs.Weights.{part-P, part-A}
-use Rattle.laws.proofs.Places.{addSquare, squareP, squareA, added-P, added-A}
+use Rattle.laws.proofs.Places.{cornerRow, addSquare, squareP, squareA, added-P, added-A}
+use Rattle.laws.proofs.Coupled.{corners-in}
+use Rattle.starts.specs.Lent.{wide, Turned}
+use Rattle.starts.proofs.Lent.{wide-length}
 use Rattle.triangle.specs.Forms.{numbers}
-use Rattle.part.specs.Forms.{cornersOf, doesBy, does}
+use Rattle.part.specs.Forms.{cornersOf, doesBy}
 use Rattle.part.specs.Asks.{Card, Solid, Full}
 use Rattle.part.specs.declared.Corners.{Corners}
 use Rattle.part.specs.declared.Does.{Does}
 use Rattle.part.proofs.Parts.{As, as-kind, card-at}
-use Rattle.packed.specs.Asks.{Takes, Sound, Walked, addsTo, has}
+use Rattle.packed.specs.Asks.{Keeps, Takes, Sound, Suits, Walked, addsTo, has}
+use Rattle.packed.proofs.Spots.{wide-zeros, turned-as}
 use Rattle.packed.proofs.Squares.{takes, gives}
 
 -- ---- the card in a row, as its six numbers
@@ -140,9 +143,18 @@ module _ (t : List ℕ) (row : ℕ) (s : Sound t) (h : row < rows t) where
   pub solid-row : Solid t (rowAt t row)
   solid-row = record { some = λ q. sound t row (s .deck) (s .passed) h (subst Body (kind-row t row (s .deck) h) (conducts-kind t row (s .deck) h (kindAt (rowAt t row)) q)) .some }
 
--- ---- a card's square at its corners, and the slice with what the card adds
+-- ---- a card's square at its corners, and the rows with what the card adds
 
-module _ (t : List ℕ) (row : ℕ) (xs : List ℤ) (k : Walked t row xs) (q : partAt t row .stirs ≡ true) (c : Corners) (full : Full c) (e : cornersOf c ≡ partFor t (rowAt t row) .corners) where
+-- its corners stand in the rows, as far as those keep all that the deck's cards join
+pub part-keeps : (t st : List ℕ) (long row : ℕ) → Deck t → row < rows t → Suits t st long → Keeps st long (partAt t row .corners) (length (partAt t row .corners))
+part-keeps t st long row d h s a b la lb =
+    let ia = inside-each (nodes t) (partAt t row .corners) (part-corners t d row h) a la in
+    let ib = inside-each (nodes t) (partAt t row .corners) (part-corners t d row h) b lb in
+    let i : ℕ = max (cornerRow (partAt t row .corners) a) (cornerRow (partAt t row .corners) b) in
+    let l : i < nodes t = omega (arith, ia, ib) in
+    omega (arith, s .covers i l, corners-in t d row a b h la lb)
+
+module _ (t : List ℕ) (row : ℕ) (st : List ℕ) (ks : List ℤ) (k : Walked t row st ks) (q : partAt t row .stirs ≡ true) (c : Corners) (full : Full c) (e : cornersOf c ≡ partFor t (rowAt t row) .corners) where
   abbrev x : Part
   x = partAt t row
 
@@ -152,41 +164,54 @@ module _ (t : List ℕ) (row : ℕ) (xs : List ℤ) (k : Walked t row xs) (q : p
   card : Card t (rowAt t row)
   card = stirring t row (k .sound .deck) (k .inside) q
 
+  inner : Inside (nodes t) (x .corners)
+  inner = part-corners t (k .sound .deck) row (k .inside)
+
   -- a square that holds what the card adds
   module _ {b : ℕ} (r : List (List ℤ)) (f : Part → ℕ → ℕ → ℤ) (s : Holds (length (partFor t (rowAt t row) .corners)) b (f (partFor t (rowAt t row))) r) where
     held : Holds (length (x .corners)) b (f x) r
     held = subst (λ (y : Part). Holds (length (y .corners)) b (f y) r) (sym (part-row t row)) s
 
-    pub walk-takes : b ≤ 2 ^ 58 → Takes (c .count) xs (numbers (c .nodes)) r
-    walk-takes l = takes c full (x .corners) at-row r (f x) held (nodes t) xs (k .sound .deck .someN .1) (k .long) (k .small) (part-corners t (k .sound .deck) row (k .inside)) l
+    pub walk-takes : b ≤ 2 ^ 58 → Takes (c .count) st ks (numbers (c .nodes)) r
+    walk-takes l =
+        takes c full (x .corners) at-row r (f x) held st ks (k .suits .lent) (k .small) (subst (λ (n : ℕ). Inside n (x .corners)) (sym (k .suits .rows)) inner)
+        (part-keeps t st (length ks) row (k .sound .deck) (k .inside) (k .suits)) l
 
-    walk-gives : addSquare (c .count) xs (numbers (c .nodes)) (at r) ≡ addSquare (length (x .corners)) xs (x .corners) (f x)
-    walk-gives = gives c full (x .corners) at-row r (f x) held xs
+    walk-gives : addSquare (c .count) (wide st ks) (numbers (c .nodes)) (at r) ≡ addSquare (length (x .corners)) (wide st ks) (x .corners) (f x)
+    walk-gives = gives c full (x .corners) at-row r (f x) held (wide st ks)
 
-  pub a-gives : {b : ℕ} {r : List (List ℤ)} {ys : List ℤ} → Holds (length (partFor t (rowAt t row) .corners)) b (squareA (partFor t (rowAt t row))) r → ys ≡ addSquare (c .count) xs (numbers (c .nodes)) (at r)
-      → ys ≡ lower (nodes t) (λ i j. entry xs i j +ℤ addsA x i j)
+  rows-long : length (wide st ks) ≡ tri (nodes t)
+  rows-long = wide-length st ks ∙ ap tri (k .suits .rows)
+
+  pub a-gives : {b : ℕ} {r : List (List ℤ)} {ls : List ℤ} → Holds (length (partFor t (rowAt t row) .corners)) b (squareA (partFor t (rowAt t row))) r → Turned st ks ls (addSquare (c .count) (wide st ks) (numbers (c .nodes)) (at r))
+      → Turned st ks ls (lower (nodes t) (λ i j. entry (wide st ks) i j +ℤ addsA x i j))
   a-gives {r = r} s g =
-      g ∙ walk-gives r squareA s
-      ∙ added-A (nodes t) x xs (part-corners t (k .sound .deck) row (k .inside)) (part-distinct t (k .sound .deck) (k .sound .passed) row (k .inside)) (part-sound t row) (k .long)
+      turned-as g (walk-gives r squareA s ∙ added-A (nodes t) x (wide st ks) inner (part-distinct t (k .sound .deck) (k .sound .passed) row (k .inside)) (part-sound t row) rows-long)
 
-  pub p-gives : {b : ℕ} {r : List (List ℤ)} {ys : List ℤ} → Holds (length (partFor t (rowAt t row) .corners)) b (squareP (partFor t (rowAt t row))) r → ys ≡ addSquare (c .count) xs (numbers (c .nodes)) (at r)
-      → ys ≡ lower (nodes t) (λ i j. entry xs i j +ℤ addsP x i j)
+  pub p-gives : {b : ℕ} {r : List (List ℤ)} {ls : List ℤ} → Holds (length (partFor t (rowAt t row) .corners)) b (squareP (partFor t (rowAt t row))) r → Turned st ks ls (addSquare (c .count) (wide st ks) (numbers (c .nodes)) (at r))
+      → Turned st ks ls (lower (nodes t) (λ i j. entry (wide st ks) i j +ℤ addsP x i j))
   p-gives {r = r} s g =
-      g ∙ walk-gives r squareP s
-      ∙ added-P (nodes t) x xs (part-corners t (k .sound .deck) row (k .inside)) (part-distinct t (k .sound .deck) (k .sound .passed) row (k .inside)) (part-sound t row) (k .long)
+      turned-as g (walk-gives r squareP s ∙ added-P (nodes t) x (wide st ks) inner (part-distinct t (k .sound .deck) (k .sound .passed) row (k .inside)) (part-sound t row) rows-long)
 
--- ---- the walk over the table: the slice is the sum over the first rows
+-- ---- the walk over the table: the triangle is the sum over the first rows
 
 abbrev pub partly : ℕ → (ℕ → ℕ → ℕ → ℤ) → ℕ → List ℤ
 partly n adds row = lower n (λ i j. sum row (λ r. adds r i j))
 
-pub walk-none : (n : ℕ) (adds : ℕ → ℕ → ℕ → ℤ) (xs ys : List ℤ) → length xs ≡ tri n → ys ≡ replicate (length xs) (pos 0) → ys ≡ partly n adds 0
+pub walk-none : (n m : ℕ) (adds : ℕ → ℕ → ℕ → ℤ) (st : List ℕ) (ks : List ℤ) → length st ≡ n → ks ≡ replicate m (pos 0) → Turned st ks ks (partly n adds 0)
 unfolding sum
-walk-none n adds xs ys long e = e ∙ ap (λ (k : ℕ). replicate k (pos 0)) long ∙ lower-zeros n (λ i j. sum 0 (λ r. adds r i j)) (λ i j. refl)
+walk-none n m adds st ks rows e = record {
+  long = refl;
+  is = ap (wide st) e ∙ wide-zeros st m ∙ ap (λ (k : ℕ). replicate (tri k) (pos 0)) rows ∙ lower-zeros n (λ i j. sum 0 (λ r. adds r i j)) (λ i j. refl);
+}
 
-pub walk-more : (n row : ℕ) (adds : ℕ → ℕ → ℕ → ℤ) (xs ys : List ℤ) → xs ≡ partly n adds row → ys ≡ lower n (λ i j. entry xs i j +ℤ adds row i j) → ys ≡ partly n adds (row + 1)
-walk-more n row adds xs ys e g =
-    g ∙ lower-ext n _ _ (λ i j a b. (λ d. (ap (λ (l : List ℤ). entry l i j) e ∙ lower-at n i j (λ i j. sum row (λ r. adds r i j)) a b) d +ℤ adds row i j) ∙ sym (sum-more row (λ r. adds r i j)))
+pub walk-more : (n row : ℕ) (adds : ℕ → ℕ → ℕ → ℤ) {st : List ℕ} {ks₀ ks ls : List ℤ} → Turned st ks₀ ks (partly n adds row) → Turned st ks ls (lower n (λ i j. entry (wide st ks) i j +ℤ adds row i j)) → Turned st ks₀ ls (partly n adds (row + 1))
+walk-more n row adds {st} {ks₀} {ks} {ls} e g = record {
+  long = g .long ∙ e .long;
+  is =
+      g .is
+      ∙ lower-ext n _ _ (λ i j a b. (λ d. (ap (λ (l : List ℤ). entry l i j) (e .is) ∙ lower-at n i j (λ i j. sum row (λ r. adds r i j)) a b) d +ℤ adds row i j) ∙ sym (sum-more row (λ r. adds r i j)));
+}
 
 -- how large it is
 pub walk-size : (all : Bool) (t : List ℕ) (s : Sound t) (row i j : ℕ) → row ≤ rows t → natAbs (sum row (λ r. addsTo all (partAt t r) i j)) ≤ 2 ^ 33
@@ -194,10 +219,11 @@ walk-size true t s row i j h = part-A t (s .deck) (s .passed) row i j h
 walk-size false t s row i j h = part-P t (s .deck) (s .passed) row i j h
 
 -- what a turn asks
-pub walk-card : (t : List ℕ) (adds : ℕ → ℕ → ℕ → ℤ) (row : ℕ) (xs : List ℤ) → Sound t → row < rows t → xs ≡ partly (nodes t) adds row → ((i j : ℕ) → natAbs (sum row (λ r. adds r i j)) ≤ 2 ^ 33) → Walked t row xs
-walk-card t adds row xs s h e b = record {
+pub walk-card : (t : List ℕ) (adds : ℕ → ℕ → ℕ → ℤ) (row : ℕ) {st : List ℕ} {ks₀ ks : List ℤ} → Sound t → Suits t st (length ks₀) → row < rows t → Turned st ks₀ ks (partly (nodes t) adds row) → ((i j : ℕ) → natAbs (sum row (λ r. adds r i j)) ≤ 2 ^ 33)
+    → Walked t row st ks
+walk-card t adds row {st} s suits h e b = record {
   sound = s;
   inside = h;
-  long = ap length e ∙ length-lower (nodes t) (λ i j. sum row (λ r. adds r i j));
-  small = record { each = λ k. omega (arith, subst (λ (l : List ℤ). natAbs (cell l k) ≤ 2 ^ 33) (sym e) (lower-size (nodes t) (2 ^ 33) (λ i j. sum row (λ r. adds r i j)) b k)) };
+  suits = subst (Suits t st) (sym (e .long)) suits;
+  small = record { each = λ k. omega (arith, subst (λ (l : List ℤ). natAbs (cell l k) ≤ 2 ^ 33) (sym (e .is)) (lower-size (nodes t) (2 ^ 33) (λ i j. sum row (λ r. adds r i j)) b k)) };
 }

@@ -1,6 +1,7 @@
--- Laws of packed slices: a square added, the cards in turn, a node cleared.
+-- Laws of kept rows as they are assembled: places, a square added, the cards in turn, a node cleared.
+pub mod Spots
 pub mod Adding
 pub mod Squares
-mod Assembling
+pub mod Assembling
 mod Clearing
 mod Turn

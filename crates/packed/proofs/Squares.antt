@@ -1,21 +1,23 @@
 -- A part's square at its corners, as code has them: what `add_square` asks of it, and what it gives.
-use mathlib.Core.Path.{_≡_, refl, sym, ap, subst, _∙_}
+use mathlib.Core.Path.{_≡_, refl, sym, ap, transport, _∙_}
 use mathlib.Core.List.{List}
-use Prim.Native.Nat.{ℕ, zero, suc, _+_, _-_, _^_, _≤_, _<_}
+use Prim.Native.Nat.{ℕ, zero, suc, _+_, _-_, _^_, _≤_, _<_, min, max}
 use native.Mathlib.Omega.{arith}
-use lib.IntN.{ℤ, pos, natAbs, _+ℤ_, +ℤ-idr}
-use lib.ListN.{length, getD, take}
+use lib.IntN.{ℤ, pos, _+ℤ_, +ℤ-idr}
+use lib.ListN.{length, getD}
 use lib.Seq.{getD-take}
-use Rattle.whole.specs.Packed.{tri, matrix, entry, lower, Bounded}
+use Rattle.whole.specs.Packed.{tri, entry, lower, Bounded}
+use Rattle.whole.specs.Kept.{firstBy}
 use Rattle.whole.specs.Squares.{at, Holds}
 use Rattle.whole.proofs.Packed.{lower-ext, lower-eta, add}
 use Rattle.laws.proofs.Spans.{Inside, inside-each}
-use Rattle.laws.proofs.Places.{cornerRow, addRow, addSquare}
+use Rattle.laws.proofs.Places.{addRow, addSquare}
+use Rattle.starts.specs.Lent.{Starts, wide}
 use Rattle.triangle.specs.Forms.{numbers}
 use Rattle.part.specs.Forms.{cornersOf}
 use Rattle.part.specs.Asks.{Full}
 use Rattle.part.specs.declared.Corners.{Corners}
-use Rattle.packed.specs.Asks.{Takes}
+use Rattle.packed.specs.Asks.{Keeps, Takes}
 
 -- ---- only the first n corners count, and the first n rows of the square
 
@@ -44,13 +46,14 @@ module _ (c : Corners) (full : Full c) (ns : List ℕ) (e : cornersOf c ≡ ns) 
   corner-at : (a : ℕ) → a < c .count → getD (numbers (c .nodes)) a 0 ≡ getD ns a 0
   corner-at a l = sym (getD-take (c .count) (numbers (c .nodes)) a 0 l) ∙ ap (λ (z : List ℕ). getD z a 0) e
 
-  pub takes : (m : ℕ) (xs : List ℤ) → m ≤ 96 → length xs ≡ matrix m → Bounded (2 ^ 58) xs → Inside m ns → b ≤ 2 ^ 58 → Takes (c .count) xs (numbers (c .nodes)) q
-  takes m xs few long small inside size = record {
-    m = m;
-    few = few;
-    long = long;
+  pub takes : (st : List ℕ) (ks : List ℤ) → Starts st (length ks) → Bounded (2 ^ 58) (wide st ks) → Inside (length st) ns → Keeps st (length ks) ns (length ns) → b ≤ 2 ^ 58 → Takes (c .count) st ks (numbers (c .nodes)) q
+  takes st ks lent small inside keeps size = record {
+    lent = lent;
     most = full .few;
-    corners = λ k l. rw (corner-at k l) (inside-each m ns inside k (omega (arith, count-is)));
+    corners = λ k l. rw (corner-at k l) (inside-each (length st) ns inside k (omega (arith, count-is)));
+    keeps = λ a d x y.
+        transport (λ i. firstBy st (length ks) (max (sym (corner-at a x) i - 1) (sym (corner-at d y) i - 1)) ≤ min (sym (corner-at a x) i - 1) (sym (corner-at d y) i - 1))
+        (keeps a d (omega (arith, count-is)) (omega (arith, count-is)));
     small = small;
     square = record { each = λ i j. omega (arith, s .small .each i j) };
   }
@@ -61,6 +64,6 @@ module _ (c : Corners) (full : Full c) (ns : List ℕ) (e : cornersOf c ≡ ns) 
       (λ a b l k. s .each a b (omega (arith, count-is)) (omega (arith, count-is)))
       ∙ ap (λ (n : ℕ). addSquare n xs ns f) count-is
 
--- a slice to which nothing is added
+-- a triangle to which nothing is added
 pub unchanged : (n : ℕ) (xs : List ℤ) (f : ℕ → ℕ → ℤ) → length xs ≡ tri n → ((i j : ℕ) → f i j ≡ pos 0) → xs ≡ lower n (λ i j. entry xs i j +ℤ f i j)
 unchanged n xs f long h = lower-eta n xs long ∙ lower-ext n _ _ (λ i j a b. sym (ap (λ (z : ℤ). entry xs i j +ℤ z) (h i j) ∙ +ℤ-idr (entry xs i j)))

@@ -2,22 +2,25 @@
 use mathlib.Core.Path.{_≡_, sym, ap, subst, _∙_}
 use mathlib.Core.Bool.{Bool, true, false, not}
 use mathlib.Core.List.{List}
-use Prim.Native.Nat.{ℕ, _^_, _≤_, _<_}
+use Prim.Native.Nat.{ℕ, _^_, _≤_}
 use borrow.Author.Tests.{not-true, not-false}
-use lib.IntN.{ℤ, pos, _+ℤ_}
+use lib.IntN.{ℤ, _+ℤ_}
 use lib.ListN.{length}
-use Rattle.whole.specs.Packed.{entry, lower}
+use Rattle.whole.specs.Packed.{tri, entry, lower}
 use Rattle.whole.specs.Squares.{at, Holds}
 use Rattle.paper.specs.Kinds.{kindOf}
 use Rattle.paper.specs.Cards.{rowAt, field, nodes}
 use Rattle.paper.specs.Parts.{Part, partFor, partAt}
 use Rattle.laws.proofs.Decks.{kindIn}
 use Rattle.laws.proofs.Places.{addSquare, squareP, squareA}
+use Rattle.starts.specs.Lent.{wide, Turned}
+use Rattle.starts.proofs.Lent.{turned-none, wide-length}
 use Rattle.triangle.specs.Forms.{numbers}
 use Rattle.part.specs.Forms.{cornersOf, doesBy}
 use Rattle.part.specs.Asks.{Card, Solid, Full}
 use Rattle.part.specs.declared.Corners.{Corners}
 use Rattle.packed.specs.Asks.{Takes, Walked, addsTo, has}
+use Rattle.packed.proofs.Spots.{turned-as}
 use Rattle.packed.proofs.Squares.{unchanged}
 use Rattle.packed.proofs.Assembling.{idle-row, has-stirs, stirring, solid-row, walk-takes, a-gives, p-gives}
 
@@ -26,11 +29,11 @@ module _ (all : Bool) (t : List ℕ) (row : ℕ) {l : ℕ} (el : l ≡ field t r
   has-is = eb ∙ ap (λ (k : ℕ). has all (doesBy (kindOf k))) el
 
   -- it has none
-  pub stays : not b ≡ true → (xs : List ℤ) → Walked t row xs → xs ≡ lower (nodes t) (λ i j. entry xs i j +ℤ addsTo all (partAt t row) i j)
-  stays q xs k = unchanged (nodes t) xs (addsTo all (partAt t row)) (k .long) (idle-row all t row (sym has-is ∙ not-true b q))
+  pub stays : not b ≡ true → (st : List ℕ) (ks : List ℤ) → Walked t row st ks → Turned st ks ks (lower (nodes t) (λ i j. entry (wide st ks) i j +ℤ addsTo all (partAt t row) i j))
+  stays q st ks k = turned-as (turned-none st ks) (unchanged (nodes t) (wide st ks) (addsTo all (partAt t row)) (wide-length st ks ∙ ap tri (k .suits .rows)) (idle-row all t row (sym has-is ∙ not-true b q)))
 
   -- it has one
-  module _ (q : not b ≡ false) (xs : List ℤ) (k : Walked t row xs) {card : List ℕ} (ec : card ≡ rowAt t row) where
+  module _ (q : not b ≡ false) (st : List ℕ) (ks : List ℤ) (k : Walked t row st ks) {card : List ℕ} (ec : card ≡ rowAt t row) where
     moves : partAt t row .stirs ≡ true
     moves = has-stirs all t row (sym has-is ∙ not-false b q)
 
@@ -47,13 +50,13 @@ module _ (all : Bool) (t : List ℕ) (row : ℕ) {l : ℕ} (el : l ≡ field t r
       in-row : {b : ℕ} {r : List (List ℤ)} (f : Part → ℕ → ℕ → ℤ) → Holds (length (partFor t card .corners)) b (f (partFor t card)) r → Holds (length (partFor t (rowAt t row) .corners)) b (f (partFor t (rowAt t row))) r
       in-row {b} {r} f s = subst (λ (z : List ℕ). Holds (length (partFor t z .corners)) b (f (partFor t z)) r) ec s
 
-      pub turn-takes : {b : ℕ} {r : List (List ℤ)} (f : Part → ℕ → ℕ → ℤ) → Holds (length (partFor t card .corners)) b (f (partFor t card)) r → b ≤ 2 ^ 58 → Takes (c .count) xs (numbers (c .nodes)) r
-      turn-takes {r = r} f s l = walk-takes t row xs k moves c full at-row r f (in-row f s) l
+      pub turn-takes : {b : ℕ} {r : List (List ℤ)} (f : Part → ℕ → ℕ → ℤ) → Holds (length (partFor t card .corners)) b (f (partFor t card)) r → b ≤ 2 ^ 58 → Takes (c .count) st ks (numbers (c .nodes)) r
+      turn-takes {r = r} f s l = walk-takes t row st ks k moves c full at-row r f (in-row f s) l
 
-      pub turn-a-gives : {b : ℕ} {r : List (List ℤ)} {ys : List ℤ} → all ≡ true → Holds (length (partFor t card .corners)) b (squareA (partFor t card)) r → ys ≡ addSquare (c .count) xs (numbers (c .nodes)) (at r)
-          → ys ≡ lower (nodes t) (λ i j. entry xs i j +ℤ addsTo all (partAt t row) i j)
-      turn-a-gives {ys = ys} z s g = subst (λ (a : Bool). ys ≡ lower (nodes t) (λ i j. entry xs i j +ℤ addsTo a (partAt t row) i j)) (sym z) (a-gives t row xs k moves c full at-row (in-row squareA s) g)
+      pub turn-a-gives : {b : ℕ} {r : List (List ℤ)} {ls : List ℤ} → all ≡ true → Holds (length (partFor t card .corners)) b (squareA (partFor t card)) r → Turned st ks ls (addSquare (c .count) (wide st ks) (numbers (c .nodes)) (at r))
+          → Turned st ks ls (lower (nodes t) (λ i j. entry (wide st ks) i j +ℤ addsTo all (partAt t row) i j))
+      turn-a-gives {ls = ls} z s g = subst (λ (a : Bool). Turned st ks ls (lower (nodes t) (λ i j. entry (wide st ks) i j +ℤ addsTo a (partAt t row) i j))) (sym z) (a-gives t row st ks k moves c full at-row (in-row squareA s) g)
 
-      pub turn-p-gives : {b : ℕ} {r : List (List ℤ)} {ys : List ℤ} → all ≡ false → Holds (length (partFor t card .corners)) b (squareP (partFor t card)) r → ys ≡ addSquare (c .count) xs (numbers (c .nodes)) (at r)
-          → ys ≡ lower (nodes t) (λ i j. entry xs i j +ℤ addsTo all (partAt t row) i j)
-      turn-p-gives {ys = ys} z s g = subst (λ (a : Bool). ys ≡ lower (nodes t) (λ i j. entry xs i j +ℤ addsTo a (partAt t row) i j)) (sym z) (p-gives t row xs k moves c full at-row (in-row squareP s) g)
+      pub turn-p-gives : {b : ℕ} {r : List (List ℤ)} {ls : List ℤ} → all ≡ false → Holds (length (partFor t card .corners)) b (squareP (partFor t card)) r → Turned st ks ls (addSquare (c .count) (wide st ks) (numbers (c .nodes)) (at r))
+          → Turned st ks ls (lower (nodes t) (λ i j. entry (wide st ks) i j +ℤ addsTo all (partAt t row) i j))
+      turn-p-gives {ls = ls} z s g = subst (λ (a : Bool). Turned st ks ls (lower (nodes t) (λ i j. entry (wide st ks) i j +ℤ addsTo a (partAt t row) i j))) (sym z) (p-gives t row st ks k moves c full at-row (in-row squareP s) g)

@@ -1,11 +1,14 @@
--- What the functions ask of slices, corners, squares and decks.
+-- What the functions ask of kept rows, corners, squares and decks.
 use mathlib.Core.Path.{_≡_}
-use mathlib.Core.Bool.{Bool, true, false, _&&_, _||_}
+use mathlib.Core.Bool.{Bool, true, false, cond, _&&_, _||_}
 use mathlib.Core.List.{List}
-use Prim.Native.Nat.{ℕ, suc, _-_, _*_, _≤_, _<_, _^_}
-use lib.IntN.{ℤ, natAbs}
+use Prim.Native.Nat.{ℕ, suc, _+_, _-_, _*_, _≤_, _<_, _^_, min, max}
+use lib.Dec.{eqb}
+use lib.IntN.{ℤ, pos}
 use lib.ListN.{length, getD}
-use Rattle.whole.specs.Packed.{matrix, cell, place, Bounded}
+use Rattle.whole.specs.Sums.{any}
+use Rattle.whole.specs.Packed.{place, entry, lower, Bounded}
+use Rattle.whole.specs.Kept.{firstBy}
 use Rattle.whole.specs.Squares.{Small}
 use Rattle.paper.specs.Cards.{rows, nodes, elements}
 use Rattle.paper.specs.Parts.{Part}
@@ -13,46 +16,73 @@ use Rattle.paper.specs.Matrices.{addsP, addsA}
 use Rattle.paper.specs.Building.{elementsFrom}
 use Rattle.paper.specs.declared.Answer.the-variants.{Done}
 use Rattle.laws.proofs.Decks.{Deck, In}
+use Rattle.laws.proofs.Places.{cornerRow}
+use Rattle.starts.specs.Lent.{Starts, wide, Covers}
 use Rattle.part.specs.declared.Does.{Does}
 
+-- ---- places
+
+-- row i and column j, on either side of the diagonal, in the row of the larger
+abbrev pub spotBy : List ℕ → ℕ → ℕ → ℕ → ℕ
+spotBy st long i j = getD st (max i j) 0 + (min i j - firstBy st long (max i j))
+
+-- it keeps them
+pub record Stands (st : List ℕ) (long i j : ℕ) : Type 0 where
+  pub lent : Starts st long
+  pub row : i < length st
+  pub column : j < length st
+  pub inside : firstBy st long (max i j) ≤ min i j
+
+-- any two of n corners stand so
+abbrev pub Keeps : List ℕ → ℕ → List ℕ → ℕ → Type 0
+Keeps st long ns n = (a b : ℕ) → a < n → b < n → firstBy st long (max (cornerRow ns a) (cornerRow ns b)) ≤ min (cornerRow ns a) (cornerRow ns b)
+
+-- ---- a square added
+
 -- a place in the slice for the nodes a and b
-pub record AddsAt (xs : List ℤ) (a b : ℕ) : Type 0 where
+pub record AddsAt (st : List ℕ) (ks : List ℤ) (a b : ℕ) : Type 0 where
   pub inA : In 1 96 a
   pub inB : In 1 96 b
-  pub inside : place (a - 1) (b - 1) < length xs
-  pub small : Bounded (2 ^ 62) xs
+  pub stands : Stands st (length ks) (a - 1) (b - 1)
+  pub small : Bounded (2 ^ 62) (wide st ks)
 
--- a slice of m rows with the corners 0, .., a among them, for row a of a square
-pub record AddsRow (xs : List ℤ) (ns : List ℕ) (q : List (List ℤ)) (a : ℕ) : Type 0 where
-  pub m : ℕ
-  pub few : m ≤ 96
-  pub long : length xs ≡ matrix m
+-- rows with the corners 0, .., a among them, for row a of a square
+pub record AddsRow (st : List ℕ) (ks : List ℤ) (ns : List ℕ) (q : List (List ℤ)) (a : ℕ) : Type 0 where
+  pub lent : Starts st (length ks)
   pub last : a ≤ 3
-  pub corners : (k : ℕ) → k ≤ a → In 1 m (getD ns k 0)
-  pub small : Bounded (8 * 2 ^ 58) xs
+  pub corners : (k : ℕ) → k ≤ a → In 1 (length st) (getD ns k 0)
+  pub keeps : Keeps st (length ks) ns (suc a)
+  pub small : Bounded (8 * 2 ^ 58) (wide st ks)
   pub square : Small (2 ^ 58) q
 
--- a slice of m rows with n corners among them
-pub record Takes (n : ℕ) (xs : List ℤ) (ns : List ℕ) (q : List (List ℤ)) : Type 0 where
-  pub m : ℕ
-  pub few : m ≤ 96
-  pub long : length xs ≡ matrix m
+-- rows with n corners among them
+pub record Takes (n : ℕ) (st : List ℕ) (ks : List ℤ) (ns : List ℕ) (q : List (List ℤ)) : Type 0 where
+  pub lent : Starts st (length ks)
   pub most : n ≤ 4
-  pub corners : (k : ℕ) → k < n → In 1 m (getD ns k 0)
-  pub small : Bounded (2 ^ 58) xs
+  pub corners : (k : ℕ) → k < n → In 1 (length st) (getD ns k 0)
+  pub keeps : Keeps st (length ks) ns n
+  pub small : Bounded (2 ^ 58) (wide st ks)
   pub square : Small (2 ^ 58) q
+
+-- ---- P and A
 
 -- a judged deck whose elements pass 5 and 6
 pub record Sound (t : List ℕ) : Type 0 where
   pub deck : Deck t
   pub passed : elementsFrom (elements t) 1 t ≡ Done
 
--- a card of it, and a slice of the matrix length
-pub record Walked (t : List ℕ) (row : ℕ) (xs : List ℤ) : Type 0 where
+-- row starts of `long` numbers that keep all that a deck's cards join
+pub record Suits (t st : List ℕ) (long : ℕ) : Type 0 where
+  pub lent : Starts st long
+  pub rows : length st ≡ nodes t
+  pub covers : Covers t st long
+
+-- a card of a sound deck, and its rows
+pub record Walked (t : List ℕ) (row : ℕ) (st : List ℕ) (ks : List ℤ) : Type 0 where
   pub sound : Sound t
   pub inside : row < rows t
-  pub long : length xs ≡ matrix (nodes t)
-  pub small : Bounded (2 ^ 58) xs
+  pub suits : Suits t st (length ks)
+  pub small : Bounded (2 ^ 58) (wide st ks)
 
 -- what a part adds to A, or to P; and whether a kind that does so has a square there
 abbrev pub addsTo : Bool → Part → ℕ → ℕ → ℤ
@@ -62,14 +92,23 @@ addsTo false = addsP
 abbrev pub has : Bool → Does → Bool
 has all it = it .conducts || all && it .films
 
--- a slice of n rows, and a node among them
-pub record Clears (xs : List ℤ) (n node : ℕ) : Type 0 where
-  pub few : n ≤ 96
-  pub long : length xs ≡ matrix n
-  pub among : In 1 n node
+-- ---- A'
 
--- a card of a judged deck, and a slice of the matrix length
-pub record Fixes (t : List ℕ) (row : ℕ) (xs : List ℤ) : Type 0 where
+-- the places (i, 0), .., (i, j - 1) of n rows cleared
+abbrev pub hit : ℕ → ℕ → ℕ → ℕ → Bool
+hit i j a b = any j (λ k. eqb (place a b) (place i k))
+
+abbrev pub swept : ℕ → List ℤ → ℕ → ℕ → List ℤ
+swept n xs i j = lower n (λ a b. cond (hit i j a b) (pos 0) (entry xs a b))
+
+-- rows, and a node among them
+pub record Clears (st : List ℕ) (ks : List ℤ) (node : ℕ) : Type 0 where
+  pub lent : Starts st (length ks)
+  pub among : In 1 (length st) node
+
+-- a card of a judged deck, and rows for its nodes
+pub record Fixes (t : List ℕ) (row : ℕ) (st : List ℕ) (ks : List ℤ) : Type 0 where
   pub deck : Deck t
   pub inside : row < rows t
-  pub long : length xs ≡ matrix (nodes t)
+  pub lent : Starts st (length ks)
+  pub rows : length st ≡ nodes t

@@ -1,14 +1,15 @@
-// A matrix as its lower triangle by rows: places, a square added, A and P assembled, A' in place.
+// A matrix without its leading zeros: places, a square added, A and P assembled, A' in place. Slices here are of the matrix length, and
+// `starts` has a start for each row.
 use paper::Kind;
 use paper::Node;
 use part::Corners;
 ghost use mathlib.Core.Path.{_≡_};
-ghost use Prim.Native.Nat.{ℕ, suc, _+_, _-_, _*_, _^_, _≤_, _<_};
+ghost use Prim.Native.Nat.{suc, _+_, _-_, _*_, _^_, _≤_, _<_};
 ghost use lib.Dec.{eqb};
 ghost use lib.IntN.{ℤ, pos, natAbs, _+ℤ_};
-ghost use lib.ListN.{length, replicate};
+ghost use lib.ListN.{length, set};
 ghost use Rattle.whole.specs.Sums.{sum};
-ghost use Rattle.whole.specs.Packed.{matrix, place, entry, lower};
+ghost use Rattle.whole.specs.Packed.{place, entry, lower};
 ghost use Rattle.whole.specs.Squares.{at};
 ghost use Rattle.whole.proofs.Packed.{add};
 ghost use Rattle.paper.specs.Kinds.{kindOf};
@@ -18,55 +19,62 @@ ghost use Rattle.paper.specs.Matrices as matrices;
 ghost use Rattle.paper.specs.Matrices.{fixes, fixed, cleared};
 ghost use Rattle.laws.proofs.Decks.{Deck};
 ghost use Rattle.laws.proofs.Places.{addRow, addSquare};
+ghost use Rattle.starts.specs.Lent.{Starts, wide, Turned};
 ghost use Rattle.triangle.specs.Forms.{numbers};
 ghost use Rattle.part.specs.Forms.{doesBy};
-ghost use Rattle.packed.specs.Asks.{AddsAt, AddsRow, Takes, Sound, Walked, addsTo, has, Clears, Fixes};
+ghost use Rattle.packed.specs.Asks.{spotBy, Stands, AddsAt, AddsRow, Takes, Sound, Suits, Walked, addsTo, has, swept, Clears, Fixes};
 
 // ---- places
 
-fn place(i: usize, j: usize) -> usize
-    requires { ⌜ (i < 96) × (j < 96) ⌝ }
-    ensures { λ r. ⌜ r ≡ place i j ⌝ }
+// Row i, column j, on either side of the diagonal: counted from the end of the larger's row, which is its diagonal.
+fn place(starts: &[u32], long: usize, i: usize, j: usize) -> usize
+    requires { ⌜ Stands (now starts) long i j ⌝ }
+    ensures { λ r. ⌜ r ≡ spotBy (now (starts .entry)) long i j ⌝ }
 {
     if j <= i {
-        whole::start(i) + j
+        starts::end(starts, i, long) - 1 - (i - j)
     } else {
-        whole::start(j) + i
+        starts::end(starts, j, long) - 1 - (j - i)
     }
 }
 
 // ---- a square added
 
-fn add_at(xs: &mut [i64], a: Node, b: Node, v: i64)
-    requires { ⌜ AddsAt (now xs) (a .0) (b .0) × (natAbs v ≤ 2 ^ 58) ⌝ }
-    ensures { λ _. ⌜ now (xs .exit) ≡ add (now (xs .entry)) (a .0 - 1) (b .0 - 1) v ⌝ }
+fn add_at(xs: &mut [i64], starts: &[u32], a: Node, b: Node, v: i64)
+    requires { ⌜ AddsAt (now starts) (now xs) (a .0) (b .0) × (natAbs v ≤ 2 ^ 58) ⌝ }
+    ensures { λ _. ⌜ Turned (now (starts .entry)) (now (xs .entry)) (now (xs .exit)) (add (wide (now (starts .entry)) (now (xs .entry))) (a .0 - 1) (b .0 - 1) v) ⌝ }
 {
-    let k = place(element::node_row(a) - 1, element::node_row(b) - 1);
+    let k = place(
+        starts,
+        xs.len(),
+        element::node_row(a) - 1,
+        element::node_row(b) - 1,
+    );
     xs[k] = xs[k] + v;
 }
 
 // Row a of a square, up to the diagonal.
-fn add_row(xs: &mut [i64], c: [Node; 4], q: [[i64; 4]; 4], a: usize)
-    requires { ⌜ AddsRow (now xs) (numbers c) q a ⌝ }
-    ensures { λ _. ⌜ now (xs .exit) ≡ addRow (suc a) (now (xs .entry)) (numbers c) (at q) a ⌝ }
+fn add_row(xs: &mut [i64], starts: &[u32], c: [Node; 4], q: [[i64; 4]; 4], a: usize)
+    requires { ⌜ AddsRow (now starts) (now xs) (numbers c) q a ⌝ }
+    ensures { λ _. ⌜ Turned (now (starts .entry)) (now (xs .entry)) (now (xs .exit)) (addRow (suc a) (wide (now (starts .entry)) (now (xs .entry))) (numbers c) (at q) a) ⌝ }
 {
     let mut b = 0;
     while b <= a {
-        add_at(&mut xs[..], c[a], c[b], q[a][b]);
+        add_at(&mut xs[..], starts, c[a], c[b], q[a][b]);
         b += 1;
     }
 }
 
 // Over any count of corners.
-pub fn add_square(xs: &mut [i64], c: Corners, q: [[i64; 4]; 4])
-    requires { ⌜ Takes (c .count) (now xs) (numbers (c .nodes)) q ⌝ }
-    ensures { λ _. ⌜ now (xs .exit) ≡ addSquare (c .count) (now (xs .entry)) (numbers (c .nodes)) (at q) ⌝ }
+pub fn add_square(xs: &mut [i64], starts: &[u32], c: Corners, q: [[i64; 4]; 4])
+    requires { ⌜ Takes (c .count) (now starts) (now xs) (numbers (c .nodes)) q ⌝ }
+    ensures { λ _. ⌜ Turned (now (starts .entry)) (now (xs .entry)) (now (xs .exit)) (addSquare (c .count) (wide (now (starts .entry)) (now (xs .entry))) (numbers (c .nodes)) (at q)) ⌝ }
 {
     let n = c.count;
     let nodes = c.nodes;
     let mut a = 0;
     while a < n {
-        add_row(&mut xs[..], nodes, q, a);
+        add_row(&mut xs[..], starts, nodes, q, a);
         a += 1;
     }
 }
@@ -88,9 +96,9 @@ fn adds(letter: u32, all: bool) -> bool
 }
 
 // What the card in a row adds to A, or to P.
-fn add_card(table: &[u32], row: usize, xs: &mut [i64], all: bool)
-    requires { ⌜ Walked (now table) row (now xs) ⌝ }
-    ensures { λ _. ⌜ now (xs .exit) ≡ lower (nodes (now (table .entry))) (λ i j. entry (now (xs .entry)) i j +ℤ addsTo all (partAt (now (table .entry)) row) i j) ⌝ }
+fn add_card(table: &[u32], row: usize, xs: &mut [i64], starts: &[u32], all: bool)
+    requires { ⌜ Walked (now table) row (now starts) (now xs) ⌝ }
+    ensures { λ _. ⌜ Turned (now (starts .entry)) (now (xs .entry)) (now (xs .exit)) (lower (nodes (now (table .entry))) (λ i j. entry (wide (now (starts .entry)) (now (xs .entry))) i j +ℤ addsTo all (partAt (now (table .entry)) row) i j)) ⌝ }
 {
     if !adds(element::field(table, row, 0), all) {
         return;
@@ -98,81 +106,104 @@ fn add_card(table: &[u32], row: usize, xs: &mut [i64], all: bool)
     let card = element::card_at(table, row);
     let c = part::corners_of(table, card);
     if all {
-        add_square(xs, c, part::square_a(table, card));
+        add_square(xs, starts, c, part::square_a(table, card));
         return;
     }
-    add_square(xs, c, part::square_p(table, card));
+    add_square(xs, starts, c, part::square_p(table, card));
 }
 
 // A, or P: of a square at a time.
-fn assemble_one(table: &[u32], xs: &mut [i64], all: bool)
-    requires { ⌜ Sound (now table) × (length (now xs) ≡ matrix (nodes (now table))) ⌝ }
-    ensures { λ _. ⌜ now (xs .exit) ≡ lower (nodes (now (table .entry))) (λ i j. sum (rows (now (table .entry))) (λ row. addsTo all (partAt (now (table .entry)) row) i j)) ⌝ }
+fn assemble_one(table: &[u32], xs: &mut [i64], starts: &[u32], all: bool)
+    requires { ⌜ Sound (now table) × Suits (now table) (now starts) (length (now xs)) ⌝ }
+    ensures { λ _. ⌜ Turned (now (starts .entry)) (now (xs .entry)) (now (xs .exit)) (lower (nodes (now (table .entry))) (λ i j. sum (rows (now (table .entry))) (λ row. addsTo all (partAt (now (table .entry)) row) i j))) ⌝ }
 {
     whole::slices::fill(xs, 0);
     let mut row = 0;
     while row * 6 < table.len() {
-        add_card(table, row, xs, all);
+        add_card(table, row, xs, starts, all);
         row += 1;
     }
 }
 
 // P and A.
-pub fn assemble(table: &[u32], p: &mut [i64], a: &mut [i64])
-    requires { ⌜ Sound (now table) × (length (now p) ≡ matrix (nodes (now table))) × (length (now a) ≡ matrix (nodes (now table))) ⌝ }
-    ensures { λ _. ⌜ now (p .exit) ≡ lower (nodes (now (table .entry))) (matrices.P (now (table .entry))) ⌝ }
-    ensures { λ _. ⌜ now (a .exit) ≡ lower (nodes (now (table .entry))) (matrices.A (now (table .entry))) ⌝ }
+pub fn assemble(table: &[u32], p: &mut [i64], a: &mut [i64], starts: &[u32])
+    requires { ⌜ Sound (now table) × Suits (now table) (now starts) (length (now p)) × Suits (now table) (now starts) (length (now a)) ⌝ }
+    ensures { λ _. ⌜ Turned (now (starts .entry)) (now (p .entry)) (now (p .exit)) (lower (nodes (now (table .entry))) (matrices.P (now (table .entry)))) ⌝ }
+    ensures { λ _. ⌜ Turned (now (starts .entry)) (now (a .entry)) (now (a .exit)) (lower (nodes (now (table .entry))) (matrices.A (now (table .entry)))) ⌝ }
 {
-    assemble_one(table, p, false);
-    assemble_one(table, a, true);
+    assemble_one(table, p, starts, false);
+    assemble_one(table, a, starts, true);
 }
 
 // A alone.
-pub fn assemble_a(table: &[u32], xs: &mut [i64])
-    requires { ⌜ Sound (now table) × (length (now xs) ≡ matrix (nodes (now table))) ⌝ }
-    ensures { λ _. ⌜ now (xs .exit) ≡ lower (nodes (now (table .entry))) (matrices.A (now (table .entry))) ⌝ }
+pub fn assemble_a(table: &[u32], xs: &mut [i64], starts: &[u32])
+    requires { ⌜ Sound (now table) × Suits (now table) (now starts) (length (now xs)) ⌝ }
+    ensures { λ _. ⌜ Turned (now (starts .entry)) (now (xs .entry)) (now (xs .exit)) (lower (nodes (now (table .entry))) (matrices.A (now (table .entry)))) ⌝ }
 {
-    assemble_one(table, xs, true);
+    assemble_one(table, xs, starts, true);
 }
 
 // ---- A'
 
-// A node's row and column cleared, 2^20 on its diagonal, in n rows.
-fn clear_node(xs: &mut [i64], n: usize, node: Node)
-    requires { ⌜ Clears (now xs) n (node .0) ⌝ }
-    ensures { λ _. ⌜ now (xs .exit) ≡ lower n (cleared (λ k. eqb (node .0) (suc k)) (entry (now (xs .entry)))) ⌝ }
+// Row i.
+fn clear_row(xs: &mut [i64], starts: &[u32], i: usize)
+    requires { ⌜ Starts (now starts) (length (now xs)) × (i < length (now starts)) ⌝ }
+    ensures { λ _. ⌜ Turned (now (starts .entry)) (now (xs .entry)) (now (xs .exit)) (swept (length (now (starts .entry))) (wide (now (starts .entry)) (now (xs .entry))) i (suc i)) ⌝ }
+{
+    let s = starts::start(starts, i);
+    let e = starts::end(starts, i, xs.len());
+    whole::slices::fill(&mut xs[s..e], 0);
+}
+
+// Column i of row j below it, where the row keeps it.
+fn clear_at(xs: &mut [i64], starts: &[u32], i: usize, j: usize)
+    requires { ⌜ Starts (now starts) (length (now xs)) × (i < j) × (j < length (now starts)) ⌝ }
+    ensures { λ _. ⌜ Turned (now (starts .entry)) (now (xs .entry)) (now (xs .exit)) (set (wide (now (starts .entry)) (now (xs .entry))) (place i j) (pos 0)) ⌝ }
+{
+    let s = starts::start(starts, j);
+    let e = starts::end(starts, j, xs.len());
+    let back = j - i;
+    if e - s <= back {
+        return;
+    }
+    xs[e - 1 - back] = 0;
+}
+
+// A node's row and column cleared, 2^20 on its diagonal.
+fn clear_node(xs: &mut [i64], starts: &[u32], node: Node)
+    requires { ⌜ Clears (now starts) (now xs) (node .0) ⌝ }
+    ensures { λ _. ⌜ Turned (now (starts .entry)) (now (xs .entry)) (now (xs .exit)) (lower (length (now (starts .entry))) (cleared (λ k. eqb (node .0) (suc k)) (entry (wide (now (starts .entry)) (now (xs .entry)))))) ⌝ }
 {
     let i = element::node_row(node) - 1;
-    let mut at = whole::start(i);
-    let mut j = 0;
-    while j < n {
-        xs[at] = 0;
-        at = whole::next(at, i, j);
+    clear_row(&mut xs[..], starts, i);
+    let mut j = i + 1;
+    while j < starts.len() {
+        clear_at(&mut xs[..], starts, i, j);
         j += 1;
     }
-    xs[whole::start(i) + i] = 1_048_576;
+    let e = starts::end(starts, i, xs.len());
+    xs[e - 1] = 1_048_576;
 }
 
 // The node that a T card in a row fixes.
-fn clear_card(table: &[u32], row: usize, xs: &mut [i64])
-    requires { ⌜ Fixes (now table) row (now xs) ⌝ }
-    ensures { λ _. ⌜ now (xs .exit) ≡ lower (nodes (now (table .entry))) (cleared (λ k. fixes (now (table .entry)) k row) (entry (now (xs .entry)))) ⌝ }
+fn clear_card(table: &[u32], row: usize, xs: &mut [i64], starts: &[u32])
+    requires { ⌜ Fixes (now table) row (now starts) (now xs) ⌝ }
+    ensures { λ _. ⌜ Turned (now (starts .entry)) (now (xs .entry)) (now (xs .exit)) (lower (nodes (now (table .entry))) (cleared (λ k. fixes (now (table .entry)) k row) (entry (wide (now (starts .entry)) (now (xs .entry)))))) ⌝ }
 {
     if element::field(table, row, 0) != kinds::about(Kind::T).letter {
         return;
     }
-    let node = element::node(element::field(table, row, 1));
-    clear_node(xs, element::nodes(table), node);
+    clear_node(xs, starts, element::node(element::field(table, row, 1)));
 }
 
 // A' of a matrix, in place.
-pub fn clear_fixed(table: &[u32], xs: &mut [i64])
-    requires { ⌜ Deck (now table) × (length (now xs) ≡ matrix (nodes (now table))) ⌝ }
-    ensures { λ _. ⌜ now (xs .exit) ≡ lower (nodes (now (table .entry))) (cleared (fixed (now (table .entry))) (entry (now (xs .entry)))) ⌝ }
+pub fn clear_fixed(table: &[u32], xs: &mut [i64], starts: &[u32])
+    requires { ⌜ Deck (now table) × Starts (now starts) (length (now xs)) × (length (now starts) ≡ nodes (now table)) ⌝ }
+    ensures { λ _. ⌜ Turned (now (starts .entry)) (now (xs .entry)) (now (xs .exit)) (lower (nodes (now (table .entry))) (cleared (fixed (now (table .entry))) (entry (wide (now (starts .entry)) (now (xs .entry)))))) ⌝ }
 {
     let mut row = 0;
     while row * 6 < table.len() {
-        clear_card(table, row, xs);
+        clear_card(table, row, xs, starts);
         row += 1;
     }
 }

@@ -9,3 +9,4 @@ pub mod Orders
 pub mod Redone
 pub mod Solids
 pub mod Recorded
+pub mod Kept

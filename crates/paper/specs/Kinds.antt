@@ -13,27 +13,28 @@ use Rattle.paper.specs.declared.Kind.the-variants.{D, N, M, E, «V», H,
 -- section: D, N, M, elements, loads, Z: which of Z's counts covers it
 -- keeps: the leading fields that a replacement keeps; 0 where the kind is not replaced
 -- keys: the leading fields by which its cards rise within their group; 0 where they need not
+-- joins: the leading fields that are nodes which it joins, an element's corners or an edge's ends
 -- most: the cards of the kind that a deck may have; Z's counts alone bound the kinds of which it may have `many`
-abbrev pub line : ℕ → ℕ → ℕ → ℕ → ℕ → ℕ → About
-line letter order section keeps keys most = record { letter = letter; order = order; section = section; keeps = keeps; keys = keys; most = most }
+abbrev pub line : ℕ → ℕ → ℕ → ℕ → ℕ → ℕ → ℕ → About
+line letter order section keeps keys joins most = record { letter = letter; order = order; section = section; keeps = keeps; keys = keys; joins = joins; most = most }
 
 -- more than any table has rows
 abbrev pub many : ℕ
 many = 2000
 
--- letter, order, section, keeps, keys, most
+-- letter, order, section, keeps, keys, joins, most
 unfoldable pub about : Kind → About
-about D = line 68 0 0 0 0 many
-about N = line 78 1 1 0 0 many
-about M = line 77 2 2 0 0 many
-about E = line 69 3 3 3 0 many
-about «V» = line 86 4 3 4 0 many
-about H = line 72 5 4 1 1 many
-about F = line 70 6 4 1 1 many
-about G = line 71 7 4 2 2 160
-about T = line 84 8 4 1 1 many
-about Z = line 90 9 5 0 0 many
-about Other = line 0 10 6 0 0 many
+about D = line 68 0 0 0 0 0 many
+about N = line 78 1 1 0 0 0 many
+about M = line 77 2 2 0 0 0 many
+about E = line 69 3 3 3 0 3 many
+about «V» = line 86 4 3 4 0 4 many
+about H = line 72 5 4 1 1 0 many
+about F = line 70 6 4 1 1 0 many
+about G = line 71 7 4 2 2 2 160
+about T = line 84 8 4 1 1 0 many
+about Z = line 90 9 5 0 0 0 many
+about Other = line 0 10 6 0 0 0 many
 
 abbrev pub letterOf : Kind → ℕ
 letterOf kind = about kind .letter

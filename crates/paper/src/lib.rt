@@ -55,6 +55,7 @@ pub struct About {
     pub section: usize,
     pub keeps: usize,
     pub keys: u32,
+    pub joins: usize,
     pub most: usize,
 }
 
@@ -91,6 +92,7 @@ pub enum Refusal {
     Thin(u32),
     Infinite(u32),
     Garbled(u32),
+    Stray(u32),
 }
 
 // A refusal's number and place.
@@ -153,6 +155,7 @@ pub fn given_by(r: Refusal) -> Given
         Refusal::Thin(element) => row(14, element),
         Refusal::Infinite(record) => row(15, record),
         Refusal::Garbled(record) => row(16, record),
+        Refusal::Stray(line) => row(17, line),
     }
 }
 

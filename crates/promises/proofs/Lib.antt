@@ -10,4 +10,6 @@ pub mod Leaving
 pub mod Heat
 pub mod Step
 pub mod Book
+pub mod Kept
+pub mod KeptReplacing
 pub mod Records

@@ -7,9 +7,10 @@ use lib.Dec.{eqb}
 use Rattle.paper.specs.Refusals.{numberOf, placeOf}
 use Rattle.paper.specs.Calls.{readCall, writeCall, Lent, buildCall, replaceCall, stepCall}
 use Rattle.paper.specs.Running.{runCall}
+use Rattle.paper.specs.KeptCalls.{Kept, keptBuild, keptReplace, keptStep, keptRun}
 use Rattle.paper.specs.Records.{importCall}
 use Rattle.paper.specs.declared.Refusal.{Refusal}
-use Rattle.paper.specs.declared.Refusal.the-variants.{Length, Trailer, Form, Range, Flat, Stiff, Pivot, Bound, Short, Foreign, OffScale, Unsettled, Replacement, Thin, Infinite, Garbled}
+use Rattle.paper.specs.declared.Refusal.the-variants.{Length, Trailer, Form, Range, Flat, Stiff, Pivot, Bound, Short, Foreign, OffScale, Unsettled, Replacement, Thin, Infinite, Garbled, Stray}
 
 -- the paper's number and place tell each refusal: this one has them
 abbrev pub refusalOf : ℕ → ℕ → Refusal
@@ -17,7 +18,8 @@ refusalOf n place =
     cond (eqb n 1) Length (cond (eqb n 2) Trailer (cond (eqb n 3) (Form place) (cond (eqb n 4) (Range place)
     (cond (eqb n 5) (Flat place) (cond (eqb n 6) (Stiff place) (cond (eqb n 7) (Pivot place) (cond (eqb n 8) (Bound place)
     (cond (eqb n 9) Short (cond (eqb n 10) Foreign (cond (eqb n 11) (OffScale place) (cond (eqb n 12) (Unsettled place)
-    (cond (eqb n 13) (Replacement place) (cond (eqb n 14) (Thin place) (cond (eqb n 15) (Infinite place) (Garbled place)))))))))))))))
+    (cond (eqb n 13) (Replacement place) (cond (eqb n 14) (Thin place) (cond (eqb n 15) (Infinite place)
+    (cond (eqb n 16) (Garbled place) (Stray place))))))))))))))))
 
 pub number-and-place-tell : (r : Refusal) → refusalOf (numberOf r) (placeOf r) ≡ r
 number-and-place-tell Length = refl
@@ -36,6 +38,7 @@ number-and-place-tell (Replacement k) = refl
 number-and-place-tell (Thin k) = refl
 number-and-place-tell (Infinite k) = refl
 number-and-place-tell (Garbled k) = refl
+number-and-place-tell (Stray k) = refl
 
 -- every outcome that keeps the promise is this one
 abbrev pub Only : {X : Type 0} → X → Type 0
@@ -61,6 +64,18 @@ step-only z = only (stepCall z)
 
 pub run-only : (z : Lent) → Only (runCall z)
 run-only z = only (runCall z)
+
+pub kept-build-only : (z : Kept) → Only (keptBuild z)
+kept-build-only z = only (keptBuild z)
+
+pub kept-replace-only : (z : Kept) (card : ℕ) (new : List ℕ) → Only (keptReplace z card new)
+kept-replace-only z card new = only (keptReplace z card new)
+
+pub kept-step-only : (z : Kept) → Only (keptStep z)
+kept-step-only z = only (keptStep z)
+
+pub kept-run-only : (z : Kept) → Only (keptRun z)
+kept-run-only z = only (keptRun z)
 
 pub import-only : (table records second : List ℕ) → Only (importCall table records second)
 import-only table records second = only (importCall table records second)

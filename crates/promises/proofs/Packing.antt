@@ -5,19 +5,21 @@ use Prim.Native.Nat.{ℕ, _/_, _%_, _≤_, _<_}
 use native.Mathlib.Omega.{arith}
 use Rattle.paper.specs.Refusals.{numberOf, placeOf, Told, refusal, told, toldStep, toldRun, packed}
 use Rattle.paper.specs.Calls.{Lent, stepCall}
+use Rattle.paper.specs.KeptCalls.{Kept, widened, keptStep}
 use Rattle.paper.specs.declared.Answer.{Answer}
 use Rattle.paper.specs.declared.Answer.the-variants.{Done, Refused}
 use Rattle.paper.specs.declared.Refusal.{Refusal}
-use Rattle.paper.specs.declared.Refusal.the-variants.{Length, Trailer, Form, Range, Flat, Stiff, Pivot, Bound, Short, Foreign, OffScale, Unsettled, Replacement, Thin, Infinite, Garbled}
+use Rattle.paper.specs.declared.Refusal.the-variants.{Length, Trailer, Form, Range, Flat, Stiff, Pivot, Bound, Short, Foreign, OffScale, Unsettled, Replacement, Thin, Infinite, Garbled, Stray}
 use Rattle.paper.specs.declared.Stepped.{Stepped}
 use Rattle.paper.specs.declared.Stepped.the-variants as stepAnswer
 use Rattle.paper.specs.declared.Ran.{Ran}
 use Rattle.paper.specs.declared.Ran.the-variants as runAnswer
+use Rattle.laws.proofs.KeptLeft as leaves
 use Rattle.promises.proofs.Outcomes.{refusalOf, number-and-place-tell}
 use Rattle.promises.proofs.Step.{at-most-four}
 
--- the numbers of the table of refusals are 1 to 16
-pub number-in-table : (r : Refusal) → (1 ≤ numberOf r) × (numberOf r ≤ 16)
+-- the numbers of the table of refusals are 1 to 17
+pub number-in-table : (r : Refusal) → (1 ≤ numberOf r) × (numberOf r ≤ 17)
 number-in-table Length = (omega arith, omega arith)
 number-in-table Trailer = (omega arith, omega arith)
 number-in-table (Form k) = (omega arith, omega arith)
@@ -34,6 +36,7 @@ number-in-table (Replacement k) = (omega arith, omega arith)
 number-in-table (Thin k) = (omega arith, omega arith)
 number-in-table (Infinite k) = (omega arith, omega arith)
 number-in-table (Garbled k) = (omega arith, omega arith)
+number-in-table (Stray k) = (omega arith, omega arith)
 
 -- number and place tell a refusal
 tells : (r q : Refusal) → numberOf r ≡ numberOf q → placeOf r ≡ placeOf q → r ≡ q
@@ -82,6 +85,15 @@ step-call-out z = go (stepCall z .answer) refl
   where
     go : (s : Stepped) → stepCall z .answer ≡ s → Holds (packed (toldStep s)) (toldStep s)
     go (stepAnswer.Settled c) e = out (toldStep (stepAnswer.Settled c)) (omega arith) (omega (arith, at-most-four z c e))
+    go (stepAnswer.Refused r) e = refusal-out r
+
+-- over kept rows
+pub kept-step-out : (z : Kept) → Holds (packed (toldStep (keptStep z .answer))) (toldStep (keptStep z .answer))
+unfolding toldStep
+kept-step-out z = go (keptStep z .answer) refl
+  where
+    go : (s : Stepped) → keptStep z .answer ≡ s → Holds (packed (toldStep s)) (toldStep s)
+    go (stepAnswer.Settled c) e = out (toldStep (stepAnswer.Settled c)) (omega arith) (omega (arith, at-most-four (widened (z .lent)) c (leaves.step-settled z c e .0)))
     go (stepAnswer.Refused r) e = refusal-out r
 
 pub step-told : (s z : Stepped) → packed (toldStep s) ≡ packed (toldStep z) → s ≡ z

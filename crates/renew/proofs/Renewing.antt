@@ -1,22 +1,21 @@
 -- A replacement that stirs: the factor from its least corner's row on, and what is left of table and slices.
 use mathlib.Core.Path.{_≡_, refl, sym, ap, subst, _∙_}
-use mathlib.Core.Bool.{Bool, true, false, not, cond, _||_}
+use mathlib.Core.Bool.{Bool, true, false, cond}
 use mathlib.Core.List.{List, [], _∷_, _++_, append-nil}
 use Prim.Native.Nat.{ℕ, zero, suc, _+_, _-_, _^_, _≤_, _<_}
 use native.Mathlib.Omega.{arith}
 use lib.IntN.{ℤ, pos, natAbs, _-ℤ_}
 use lib.ListN.{length, getD, take, drop, replicate, length-drop}
-use lib.Seq.{length-take-le, getD-take, drop-drop}
-use Rattle.whole.specs.Packed.{tri, matrix, cell, entry}
-use Rattle.whole.proofs.Sums.{any-ext, any-each, any-none}
-use Rattle.whole.proofs.Packed.{tri-below, tri-le}
+use lib.Seq.{length-take-le, drop-drop}
+use Rattle.whole.specs.Packed.{matrix, entry}
+use Rattle.whole.proofs.Sums.{any-each, any-none}
 use Rattle.paper.specs.Refusals.{Outcome, refused, done, then, after, answerOf}
 use Rattle.paper.specs.Cards.{rowAt, nodes, put}
 use Rattle.paper.specs.Parts.{partFor, least}
-use Rattle.paper.specs.Factor.{small, rowsFrom}
+use Rattle.paper.specs.Factor.{rowsFrom}
 use Rattle.paper.specs.Building.{Slices, slices}
 use Rattle.paper.specs.Replacing.{stirs, formOf, firstRow, replaced, redone}
-use Rattle.paper.specs.Lent.{pivot, badRow, noFactor}
+use Rattle.paper.specs.Lent.{badRow, noFactor}
 use Rattle.paper.specs.declared.Answer.{Answer}
 use Rattle.paper.specs.declared.Answer.the-variants.{Done, Refused}
 use Rattle.paper.specs.declared.Refusal.{Refusal}
@@ -24,16 +23,20 @@ use Rattle.laws.proofs.Outcomes.{done-refused}
 use Rattle.laws.proofs.Refused.{OfFactor, rows-inside}
 use Rattle.laws.proofs.Places.{addSquare, squareA}
 use Rattle.whole.specs.Squares.{at, Holds}
+use Rattle.starts.specs.Lent.{Starts, wide, Turned}
+use Rattle.starts.proofs.Lent.{wide-length}
 use Rattle.triangle.specs.Forms.{numbers}
 use Rattle.part.specs.Forms.{cornersOf}
 use Rattle.part.specs.Asks.{Full}
 use Rattle.part.specs.declared.Corners.{Corners}
+use Rattle.packed.specs.Asks.{Suits}
+use Rattle.packed.proofs.Spots.{wide-zeros}
 use Rattle.lent.specs.Rows.{Light}
 use Rattle.lent.proofs.Told.{light-entry}
 use Rattle.work.specs.Asks.{made, laid, added, addedFixed, Factored, Refactors}
-use Rattle.work.proofs.Redoing.{put-below, redone-length, fixed-length}
+use Rattle.work.proofs.Redoing.{put-below, cut, joined, fixed-length}
 use Rattle.change.specs.Asks.{Renews}
-use Rattle.change.proofs.Redone.{some-corners, least-is, least-low, takes-moved, takes-P, added-A-is, added-P-is, small-added, redone-is}
+use Rattle.change.proofs.Redone.{some-corners, least-is, least-inside, takes-moved, takes-P, added-A-is, added-P-is, small-added, redone-is}
 use Rattle.renew.specs.Asks.{storedSquare, Accepts, Open, tableOf, Renewed}
 
 none-left : (n : ℕ) (xs : List ℤ) → length xs ≤ n → drop n xs ≡ []
@@ -59,15 +62,27 @@ factor-alone t s row new h = by (stirs t row) (formOf (put t row new) row) _ (h 
     by true Done o e q = q
     by true (Refused r) o e q = done-refused e
 
-module _ (t : List ℕ) (p a f w : List ℤ) (row : ℕ) (new : List ℕ) (h : Open t p a f w row new) where
+module _ (t st : List ℕ) (p a f w : List ℤ) (row : ℕ) (new : List ℕ) (h : Open t st p a f w row new) where
   abbrev n : ℕ
   n = nodes t
 
   abbrev s : Slices
-  s = slices p a f
+  s = slices (wide st p) (wide st a) (wide st f)
+
+  rows : length st ≡ nodes t
+  rows = h .suits .rows
+
+  a-suits : Suits t st (length a)
+  a-suits = subst (Suits t st) (sym (h .of-a)) (h .suits)
+
+  f-lent : Starts st (length f)
+  f-lent = subst (Starts st) (sym (h .of-f)) (h .suits .lent)
 
   small-entries : (xs : List ℤ) → Light xs n → (i j : ℕ) → i < n → j ≤ i → natAbs (entry xs i j) ≤ 2 ^ 33
   small-entries xs l i j hi hj = light-entry l i j hi (omega arith)
+
+  zeroed : (k : ℕ) (xs : List ℤ) → xs ≡ replicate k (pos 0) → wide st xs ≡ replicate (matrix n) (pos 0)
+  zeroed k xs e = ap (wide st) e ∙ wide-zeros st k ∙ ap (λ (r : ℕ). replicate (matrix r) (pos 0)) rows
 
   -- what an outcome leaves
   renewed : {b : Answer} {t′ : List ℕ} {s′ : Slices} {w′ : List ℤ} (o : Outcome Slices) → replaced t s row new ≡ o → b ≡ answerOf o → t′ ≡ tableOf o (put t row new) t → s′ ≡ made o s → w′ ≡ replicate (matrix n) (pos 0)
@@ -89,101 +104,88 @@ module _ (t : List ℕ) (p a f w : List ℤ) (row : ℕ) (new : List ℕ) (h : O
       first-is : m ≡ firstRow t row new
       first-is = em ∙ least-is t row new (h .renews) c full e
 
-      pub low : m ≤ n
-      low = omega (arith, first-is, least-low t row new (h .renews) c full e)
+      pub inside : m < length st
+      inside = omega (arith, first-is, rows, least-inside t row new (h .renews) c full e)
 
-      pub above-room : tri m ≤ length f
-      above-room = omega (arith, tri-le m n low, h .of-f)
-
-      long-above : length (take (tri m) f) ≡ tri m
-      long-above = length-take-le (tri m) f above-room
-
-      same-row : (i : ℕ) → i < m → badRow (take (tri m) f) i ≡ badRow f i
-      unfolding badRow
-      same-row i l =
-          λ d. any-ext i _ _ (λ j k. ap (λ (x : ℤ). not (small 24 x)) (here (tri i + j) (omega (arith, tri-below i m l)))) d || not (pivot (here (tri i + i) (tri-below i m l) d))
-        where
-          here : (k : ℕ) → k < tri m → cell (take (tri m) f) k ≡ cell f k
-          here k l = getD-take (tri m) f k (pos 0) l
-
-      tame-above : noFactor m (take (tri m) f) ≡ false
+      pub refactors : Refactors t st a f w c q m
       unfolding noFactor
-      tame-above = any-none m _ (λ i l. same-row i l ∙ any-each n (badRow f) (h .tame) i (omega (arith, low)))
-
-      core : Refactors t a (take (tri m) f) w c q m
-      core = record {
+      refactors = record {
         edits = record {
           deck = h .renews .changes .deck;
-          of-a = h .of-a;
-          of-w = h .of-w;
-          takes = takes-moved t row new (h .renews) c full e a (h .of-a) (small-entries a (h .a-light)) squareA q sq;
+          rows = rows;
+          of-w = h .of-w ∙ sym (h .of-a);
+          takes = takes-moved t row new (h .renews) c full e st a a-suits (small-entries (wide st a) (h .a-light)) squareA q sq;
         };
-        of-above = long-above;
-        tame = tame-above;
-        low = low;
-        small = small-added t row new (h .renews) c full e a (h .of-a) (small-entries a (h .a-light)) squareA q sq;
+        of-f = h .of-f ∙ sym (h .of-a);
+        tame = any-none m (badRow (wide st f)) (λ i l. any-each n (badRow (wide st f)) (h .tame) i (omega (arith, inside, rows)));
+        inside = inside;
+        small = small-added t row new (h .renews) c full e st a a-suits (small-entries (wide st a) (h .a-light)) squareA q sq;
       }
 
+      -- the matrix below the rows that stay
+      abbrev below : List ℤ
+      below = addedFixed t (added (wide st a) c q)
+
       abbrev made-of : Outcome (List ℤ)
-      made-of = rowsFrom (n - m) m (laid (take (tri m) f) (addedFixed t (added a c q)))
+      made-of = rowsFrom (length st - m) m (laid m (wide st f) below)
 
       abbrev with-factor : Outcome (List ℤ) → Outcome Slices
-      with-factor o = then o (λ y. done (slices (addSquare (c .count) p (numbers (c .nodes)) (at (storedSquare t row new))) (added a c q) y))
+      with-factor o = then o (λ y. done (slices (addSquare (c .count) (wide st p) (numbers (c .nodes)) (at (storedSquare t row new))) (added (wide st a) c q) y))
 
       outcome : replaced t s row new ≡ with-factor made-of
       outcome =
-          redone-is t row new (h .renews) s m _ _ first-is above-room
-          (added-P-is t row new (h .renews) c full e p (h .of-p) (small-entries p (h .p-light)) refl)
-          (added-A-is t row new (h .renews) c full e a (h .of-a) (small-entries a (h .a-light)) sq)
+          redone-is t row new (h .renews) s m _ _ first-is
+          (added-P-is t row new (h .renews) c full e st p (h .suits) (small-entries (wide st p) (h .p-light)) refl)
+          (added-A-is t row new (h .renews) c full e st a a-suits (small-entries (wide st a) (h .a-light)) sq)
+          ∙ ap (λ (k : ℕ). with-factor (rowsFrom (k - m) m (laid m (wide st f) below))) (sym rows)
 
       ends : {o : Outcome (List ℤ)} → made-of ≡ o → replaced t s row new ≡ with-factor o
       ends is = outcome ∙ ap with-factor is
 
-      module _ (at-row : ℕ) (es : at-row ≡ tri m) where
-        s-is : at-row - 0 ≡ tri m
-        s-is = omega arith
+      module _ {b : Answer} {x : List ℤ} (g : Factored b (rowsFrom (length st - m) m (laid m (wide st f) (addedFixed t (added (wide st a) c q)))) st w x) where
+        left-is : {o : Outcome (List ℤ)} → made-of ≡ o → wide st x ≡ made o (replicate (matrix (length st)) (pos 0))
+        left-is is = g .left .is ∙ ap (λ (o : Outcome (List ℤ)). made o (replicate (matrix (length st)) (pos 0))) is
 
-        pub refactors : Refactors t a (take (at-row - 0) f) w c q m
-        refactors = subst (λ (x : ℕ). Refactors t a (take x f) w c q m) (sym s-is) core
+        pub factor-refused : (r : Refusal) → b ≡ Refused r → Renewed (Refused r) t t s s (wide st x) row new
+        factor-refused r eb = go made-of refl
+          where
+            go : (o : Outcome (List ℤ)) → made-of ≡ o → Renewed (Refused r) t t s s (wide st x) row new
+            go (done y) is = done-refused (sym eb ∙ g .answer ∙ ap answerOf is)
+            go (refused v) is =
+                renewed (refused v) (ends is) (sym eb ∙ g .answer ∙ ap answerOf is) refl refl (left-is is ∙ ap (λ (r : ℕ). replicate (matrix r) (pos 0)) rows)
 
-        module _ {b : Answer} {x : List ℤ} (g : Factored b (rowsFrom (n - m) m (laid (take (at-row - 0) f) (addedFixed t (added a c q)))) (matrix n) x) where
-          g′ : Factored b made-of (matrix n) x
-          g′ = subst (λ (o : Outcome (List ℤ)). Factored b o (matrix n) x) (λ i. rowsFrom (n - m) m (laid (take (s-is i) f) (addedFixed t (added a c q)))) g
-
-          pub factor-refused : (r : Refusal) → b ≡ Refused r → Renewed (Refused r) t t s s x row new
-          factor-refused r eb = go made-of refl
+        module _ (eb : b ≡ Done) (at-row : ℕ) (es : at-row ≡ getD st m 0) where
+          made-told : (y : List ℤ) × (made-of ≡ done y) × (wide st x ≡ y)
+          made-told = go made-of refl
             where
-              go : (o : Outcome (List ℤ)) → made-of ≡ o → Renewed (Refused r) t t s s x row new
-              go (done y) is = done-refused (sym eb ∙ g′ .answer ∙ ap answerOf is)
-              go (refused v) is =
-                  renewed (refused v) (ends is) (sym eb ∙ g′ .answer ∙ ap answerOf is) refl refl (g′ .left ∙ ap (λ (o : Outcome (List ℤ)). made o (replicate (matrix n) (pos 0))) is)
+              go : (o : Outcome (List ℤ)) → made-of ≡ o → (y : List ℤ) × (made-of ≡ done y) × (wide st x ≡ y)
+              go (refused v) is = done-refused (sym (g .answer ∙ ap answerOf is) ∙ eb)
+              go (done y) is = (y, is, left-is is)
 
-          module _ (eb : b ≡ Done) where
-            made-told : (y : List ℤ) × (made-of ≡ done y) × (x ≡ y)
-            made-told = go made-of refl
-              where
-                go : (o : Outcome (List ℤ)) → made-of ≡ o → (y : List ℤ) × (made-of ≡ done y) × (x ≡ y)
-                go (refused v) is = done-refused (sym (g′ .answer ∙ ap answerOf is) ∙ eb)
-                go (done y) is = (y, is, g′ .left ∙ ap (λ (o : Outcome (List ℤ)). made o (replicate (matrix n) (pos 0))) is)
+          long-x : length x ≡ length f
+          long-x = g .left .long ∙ h .of-w ∙ sym (h .of-f)
 
-            long-x : length x ≡ matrix n
-            long-x = let (y, is, xy) = made-told in ap length xy ∙ redone-length m n (take (tri m) f) (addedFixed t (added a c q)) y low long-above (fixed-length t a (take (tri m) f) w c q m core) is
+          pub at-within : at-row ≤ length f
+          at-within = cut st f x f-lent long-x m inside es
 
-            pub accepts : Accepts t p a (take (length f - at-row) (drop at-row f)) x at-row row new c q
-            accepts = record {
-              changes = h .renews .changes;
-              cut = omega (arith, long-x, above-room, h .of-f);
-              of-below = length-take-le (length f - at-row) (drop at-row f) (omega (arith, length-drop at-row f)) ∙ omega (arith, long-x, h .of-f);
-              to-P = takes-P t row new (h .renews) c full e p (h .of-p) (small-entries p (h .p-light)) refl;
-              to-A = takes-moved t row new (h .renews) c full e a (h .of-a) (small-entries a (h .a-light)) squareA q sq;
-            }
+          pub accepts : Accepts t st p a (take (length f - at-row) (drop at-row f)) x at-row row new c q
+          accepts = record {
+            changes = h .renews .changes;
+            cut = omega (arith, long-x, at-within);
+            of-below = length-take-le (length f - at-row) (drop at-row f) (omega (arith, length-drop at-row f)) ∙ omega (arith, long-x);
+            to-P = takes-P t row new (h .renews) c full e st p (h .suits) (small-entries (wide st p) (h .p-light)) refl;
+            to-A = takes-moved t row new (h .renews) c full e st a a-suits (small-entries (wide st a) (h .a-light)) squareA q sq;
+          }
 
-            pub all-renewed : {t′ : List ℕ} {p′ a′ f′ w′ : List ℤ} → t′ ≡ put t row new → p′ ≡ addSquare (c .count) p (numbers (c .nodes)) (at (storedSquare t row new)) → a′ ≡ addSquare (c .count) a (numbers (c .nodes)) (at q) → f′ ≡ drop at-row x
-                → w′ ≡ replicate (length x) (pos 0) → Renewed Done t t′ s (slices p′ a′ (take at-row f ++ (f′ ++ drop (length f - at-row) (drop at-row f)))) w′ row new
-            all-renewed {t′} {p′} {a′} {f′} {w′} et ep ea ef ew =
-                let (y, is, xy) = made-told in
-                let rest : drop (length f - at-row) (drop at-row f) ≡ [] = drop-drop (length f - at-row) at-row f ∙ none-left (at-row + (length f - at-row)) f (omega arith) in
-                let put-y : take at-row f ++ (f′ ++ drop (length f - at-row) (drop at-row f)) ≡ y =
-                (λ i. take (es i) f ++ (ap (λ (zs : List ℤ). f′ ++ zs) rest ∙ append-nil f′ ∙ ef ∙ (λ j. drop (es j) (xy j))) i)
-                ∙ put-below m n (take (tri m) f) (addedFixed t (added a c q)) y low long-above (fixed-length t a (take (tri m) f) w c q m core) is in
-                renewed (with-factor (done y)) (ends is) refl et (λ i. slices (ep i) (ea i) (put-y i)) (ew ∙ ap (λ (k : ℕ). replicate k (pos 0)) long-x)
+          pub all-renewed : {t′ : List ℕ} {p′ a′ f′ w′ : List ℤ} → t′ ≡ put t row new → Turned st p p′ (addSquare (c .count) (wide st p) (numbers (c .nodes)) (at (storedSquare t row new)))
+              → Turned st a a′ (addSquare (c .count) (wide st a) (numbers (c .nodes)) (at q)) → f′ ≡ drop at-row x → w′ ≡ replicate (length x) (pos 0)
+              → Renewed Done t t′ s (slices (wide st p′) (wide st a′) (wide st (take at-row f ++ (f′ ++ drop (length f - at-row) (drop at-row f))))) (wide st w′) row new
+          all-renewed {t′} {p′} {a′} {f′} {w′} et tp ta ef ew =
+              let (y, is, xy) = made-told in
+              let rest : drop (length f - at-row) (drop at-row f) ≡ [] = drop-drop (length f - at-row) at-row f ∙ none-left (at-row + (length f - at-row)) f (omega arith) in
+              let rows-of : take at-row f ++ (f′ ++ drop (length f - at-row) (drop at-row f)) ≡ take at-row f ++ drop at-row x =
+              ap (λ (zs : List ℤ). take at-row f ++ zs) (ap (λ (zs : List ℤ). f′ ++ zs) rest ∙ append-nil f′ ∙ ef) in
+              let put-y : wide st (take at-row f ++ (f′ ++ drop (length f - at-row) (drop at-row f))) ≡ y =
+              ap (wide st) rows-of ∙ joined st f x f-lent long-x m inside es ∙ ap (laid m (wide st f)) xy
+              ∙ put-below m (length st) (wide st f) below (omega (arith, inside)) (wide-length st f) (fixed-length t st a f w c q m refactors) y is in
+              renewed (with-factor (done y)) (ends is) refl et (λ i. slices (tp .is i) (ta .is i) (put-y i)) (zeroed (length x) w′ ew)

@@ -2,7 +2,7 @@
 use mathlib.Core.Path.{_≡_, sym, ap, _∙_}
 use mathlib.Core.Bool.{Bool, true, false, not, cond}
 use mathlib.Core.List.{List}
-use Prim.Native.Nat.{ℕ, _+_, _^_, _≤_, _<_}
+use Prim.Native.Nat.{ℕ, _^_, _≤_, _<_}
 use native.Mathlib.Omega.{arith}
 use lib.Dec.{leb, lit<}
 use lib.IntN.{ℤ, pos, natAbs, _+ℤ_}
@@ -12,9 +12,8 @@ use mir.Val.{SFits}
 use mir.Facts.{toZ-ofZ}
 use borrow.Author.Tests.{le-leb}
 use Rattle.whole.specs.Sums.{sum, sumN, firstFrom, table}
-use Rattle.whole.specs.Packed.{tri, cell, entry}
+use Rattle.whole.specs.Packed.{cell, entry}
 use Rattle.whole.proofs.Sums.{sumN-one, table-at, table-ext}
-use Rattle.whole.proofs.Packed.{place-low}
 use Rattle.whole.proofs.Calc.{rd, num}
 use Rattle.paper.specs.Step.{Board, isFixed, residual, residuals, rowBound, unsettled}
 use Rattle.lent.proofs.Narrow.{rd32, num32}
@@ -43,10 +42,9 @@ module _ {a f : List ℤ} {n i : ℕ} (q : Light a n) (s : Mild f n) (h : i < n)
     unfolding share
     own-is = ap (λ (w : Bool). cond w 0 (natAbs (entry a i i))) (test-is e)
 
-    pub own-settled : (at : ℕ) → at ≡ tri i → (z : ℕ) → z ≡ natAbs (rd (cell a (at + i))) → m ≤ z → true ≡ leb (natAbs r) (rowBound a f n i)
-    own-settled at ea z ez l =
-        let d : at + i ≡ _ = ap (λ (k : ℕ). k + i) ea ∙ sym (place-low i i (omega arith)) in
-        let y : z ≡ natAbs (entry a i i) = ez ∙ ap natAbs (ap (λ (k : ℕ). rd (cell a k)) d ∙ num (entry a i i) (light-entry q i i h h) (lit< tt) .eq) in
+    pub own-settled : {x : ℤ} → x ≡ entry a i i → (z : ℕ) → z ≡ natAbs (rd x) → m ≤ z → true ≡ leb (natAbs r) (rowBound a f n i)
+    own-settled ex z ez l =
+        let y : z ≡ natAbs (entry a i i) = ez ∙ ap natAbs (ap rd ex ∙ num (entry a i i) (light-entry q i i h h) (lit< tt) .eq) in
         sym (le-leb (natAbs r) (rowBound a f n i) (omega (arith, m-is, y, own-is, sumN-one (λ (j : ℕ). share (cell f j) (entry a i j)) i n h, free-bound a f n i (test-is e))))
 
 pub loose-is : (a f r : List ℤ) (n i : ℕ) → SFits w64 (cell r i) → (s : Bool) → s ≡ leb (natAbs (rd (cell r i))) (rowBound a f n i) → {b : Bool} → s ≡ b → not (leb (natAbs (cell r i)) (rowBound a f n i)) ≡ not b

@@ -6,12 +6,15 @@ use Prim.Native.Nat.{ℕ, _+_, _*_, _^_, _≤_, _<_}
 use native.Mathlib.Nat.{mul-le-mul, add-mul}
 use native.Mathlib.Omega.{arith}
 use lib.Dec.{lit<}
-use lib.IntN.{ℤ, pos, natAbs, _+ℤ_, _-ℤ_, _*ℤ_}
+use lib.IntN.{ℤ, pos, natAbs, _+ℤ_, _-ℤ_, _*ℤ_, zero-*ℤ}
 use lib.Signed.{leZ}
+use mir.Syntax.{w64}
+use mir.Val.{SFits}
+use mir.Facts.{toZ-ofZ}
 use Rattle.whole.specs.Sums.{sum, sumN}
-use Rattle.whole.specs.Packed.{cell, place, entry}
+use Rattle.whole.specs.Packed.{cell, entry}
 use Rattle.whole.proofs.Signs.{natAbs-plus, natAbs-minus, natAbs-times}
-use Rattle.whole.proofs.Sums.{sum-size, sumN-plus, sumN-more, sumN-mono}
+use Rattle.whole.proofs.Sums.{sum-size, sumN-plus, sumN-mono}
 use Rattle.whole.proofs.Calc.{Is, rd, num, is, plus, minus, times, again, size-of}
 use Rattle.lent.specs.Rows.{Light, Mild}
 use Rattle.lent.proofs.Narrow.{rd32, num32}
@@ -55,28 +58,34 @@ module _ {p a f old t : List ℤ} {n : ℕ} (q : Lines p a f old t n) where
         light-part (q .a-light) i k here h,
       )
 
-  -- column j of row i, which is at `at`: h is what the column is taken times
-  module _ (i j at : ℕ) (e : at ≡ place i j) (here : i < n) (l : j < n) (h : ℤ) (eh : h ≡ heldOr (rd32 (cell f j)) (rd32 (cell t j))) where
-    p-is : Is (rd (cell p at)) (entry p i j) (2 ^ 33)
-    p-is = subst (λ (k : ℕ). Is (rd (cell p k)) (entry p i j) (2 ^ 33)) (sym e) (num (entry p i j) (light-entry (q .p-light) i j here l) (lit< tt))
+  -- no term where both numbers are 0
+  pub mixed-none : (i j : ℕ) → entry p i j ≡ pos 0 → entry a i j ≡ pos 0 → mixed p a f old t i j ≡ pos 0
+  unfolding mixed
+  mixed-none i j ep ea =
+      (λ d. ep d *ℤ cell old j -ℤ ea d *ℤ heldOr (cell f j) (cell t j)) ∙ (λ d. zero-*ℤ (cell old j) d -ℤ zero-*ℤ (heldOr (cell f j) (cell t j)) d)
 
-    a-is : Is (rd (cell a at)) (entry a i j) (2 ^ 33)
-    a-is = subst (λ (k : ℕ). Is (rd (cell a k)) (entry a i j) (2 ^ 33)) (sym e) (num (entry a i j) (light-entry (q .a-light) i j here l) (lit< tt))
+  -- column j of row i: x and y are P's and A's numbers, h is what the column is taken times
+  module _ (i j : ℕ) {x y : ℤ} (ex : x ≡ entry p i j) (ey : y ≡ entry a i j) (here : i < n) (l : j < n) (h : ℤ) (eh : h ≡ heldOr (rd32 (cell f j)) (rd32 (cell t j))) where
+    p-is : Is (rd x) (entry p i j) (2 ^ 33)
+    p-is = subst (λ (z : ℤ). Is (rd z) (entry p i j) (2 ^ 33)) (sym ex) (num (entry p i j) (light-entry (q .p-light) i j here l) (lit< tt))
+
+    a-is : Is (rd y) (entry a i j) (2 ^ 33)
+    a-is = subst (λ (z : ℤ). Is (rd z) (entry a i j) (2 ^ 33)) (sym ey) (num (entry a i j) (light-entry (q .a-light) i j here l) (lit< tt))
 
     o-is : Is (rd (cell old j)) (cell old j) (2 ^ 25)
     o-is = num (cell old j) (q .old-mild .each j l) (lit< tt)
 
     h-is : Is (rd h) (heldOr (cell f j) (cell t j)) (2 ^ 25)
     h-is =
-        let x : rd32 (cell f j) ≡ cell f j = num32 (cell f j) (q .fixed-mild .each j l) (lit< tt) .eq in
-        let y : rd32 (cell t j) ≡ cell t j = num32 (cell t j) (q .t-mild .each j l) (lit< tt) .eq in
-        again (is (eh ∙ (λ k. heldOr (x k) (y k))) (held-small (cell f j) (cell t j) (q .fixed-mild .each j l) (q .t-mild .each j l))) (lit< tt)
+        let u : rd32 (cell f j) ≡ cell f j = num32 (cell f j) (q .fixed-mild .each j l) (lit< tt) .eq in
+        let v : rd32 (cell t j) ≡ cell t j = num32 (cell t j) (q .t-mild .each j l) (lit< tt) .eq in
+        again (is (eh ∙ (λ k. heldOr (u k) (v k))) (held-small (cell f j) (cell t j) (q .fixed-mild .each j l) (q .t-mild .each j l))) (lit< tt)
 
     module _ {s v : ℤ} (es : Is s v (2 ^ 60)) where
-      pub term-asks : Term s (rd (cell p at)) (rd (cell old j)) (rd (cell a at)) (rd h)
+      pub term-asks : Term s (rd x) (rd (cell old j)) (rd y) (rd h)
       term-asks = record { s-ok = size-of es; p-ok = size-of p-is; o-ok = size-of o-is; a-ok = size-of a-is; h-ok = size-of h-is }
 
-      pub term-is : (z : ℤ) → z ≡ s +ℤ (rd (cell p at) *ℤ rd (cell old j) -ℤ rd (cell a at) *ℤ rd h) → rd z ≡ v +ℤ mixed p a f old t i j
+      pub term-is : (z : ℤ) → z ≡ s +ℤ (rd x *ℤ rd (cell old j) -ℤ rd y *ℤ rd h) → rd z ≡ v +ℤ mixed p a f old t i j
       unfolding mixed
       term-is z ez =
           let w = plus es (minus (times p-is o-is) (times a-is h-is)) in
@@ -92,19 +101,17 @@ share-le f a = go (leZ (pos 0) f)
     go true = omega arith
     go false = omega arith
 
-module _ {a f : List ℤ} {n : ℕ} (q : Light a n) (s : Mild f n) (i j at : ℕ) (e : at ≡ place i j) (here : i < n) (l : j < n) where
-  module _ (sum z : ℕ) (eb : sum ≡ sumN j (λ k. share (cell f k) (entry a i k))) (ez : z ≡ share (rd32 (cell f j)) (rd (cell a at))) where
-    pub bound-is : sum + z ≡ sumN (j + 1) (λ k. share (cell f k) (entry a i k))
-    bound-is =
-        let x : rd32 (cell f j) ≡ cell f j = num32 (cell f j) (s .each j l) (lit< tt) .eq in
-        let y : rd (cell a at) ≡ entry a i j = ap (λ (k : ℕ). rd (cell a k)) e ∙ num (entry a i j) (light-entry q i j here l) (lit< tt) .eq in
-        (λ k. eb k + (ez ∙ (λ k. share (x k) (y k))) k) ∙ sym (sumN-more j (λ (k : ℕ). share (cell f k) (entry a i k)))
+pub share-none : (f : ℤ) → share f (pos 0) ≡ 0
+share-none f = omega (arith, share-le f (pos 0))
 
-    pub bound-fits : sum + z < 2 ^ 64
-    bound-fits =
-        omega (
-          arith,
-          bound-is,
-          light-part q i (j + 1) here (omega arith),
-          sumN-mono (j + 1) (λ (k : ℕ). share (cell f k) (entry a i k)) (λ (k : ℕ). natAbs (entry a i k)) (λ k _. share-le (cell f k) (entry a i k)),
-        )
+-- as the machine reads them
+pub share-read : (f a : ℤ) → natAbs f ≤ 2 ^ 25 → SFits w64 a → {z : ℕ} → z ≡ share (rd32 f) (rd a) → z ≡ share f a
+share-read f a h g e = e ∙ (λ d. share (num32 f h (lit< tt) .eq d) (toZ-ofZ g d))
+
+pub bound-fits : {a : List ℤ} {n : ℕ} → Light a n → (f : List ℤ) (i j : ℕ) → i < n → j < n → {s : ℕ} → s ≡ sumN (j + 1) (λ k. share (cell f k) (entry a i k)) → s < 2 ^ 64
+bound-fits {a} q f i j here l e =
+    omega (
+      arith,
+      light-part q i (j + 1) here (omega arith),
+      sumN-mono (j + 1) (λ (k : ℕ). share (cell f k) (entry a i k)) (λ (k : ℕ). natAbs (entry a i k)) (λ k _. share-le (cell f k) (entry a i k)),
+    )

@@ -1,4 +1,5 @@
--- What the residual pass asks: the bounds of refusals 10 and 11 and of a judged deck. What it sums, term by term.
+-- What the residual pass asks: the bounds of refusals 10 and 11 and of a judged deck. What it sums, term by term. P and A are packed
+-- triangles here, but where their row starts are named too.
 use mathlib.Core.Path.{_≡_}
 use mathlib.Core.Bool.{cond}
 use mathlib.Core.List.{List}
@@ -8,6 +9,7 @@ use lib.Signed.{leZ}
 use lib.ListN.{length}
 use Rattle.whole.specs.Packed.{cell, entry}
 use Rattle.paper.specs.Step.{Board, residuals, unsettled}
+use Rattle.starts.specs.Lent.{Starts, wide}
 use Rattle.lent.specs.Rows.{Light, Mild}
 
 abbrev pub board : ℕ → List ℤ → List ℤ → List ℤ → List ℤ → List ℤ → Board
@@ -45,11 +47,17 @@ pub record Lines (p a f old t : List ℤ) (n : ℕ) : Type 0 where
   pub old-mild : Mild old n
   pub t-mild : Mild t n
 
+-- P and A as they are lent, kept by the same row starts
+pub record Beside (st : List ℕ) (p a : List ℤ) : Type 0 where
+  pub lent : Starts st (length p)
+  pub same : length a ≡ length p
+
 -- row i is the next: above it r holds sums, and from it on loads
-pub record InRow (p a f old t r : List ℤ) (i n : ℕ) : Type 0 where
-  pub lines : Lines p a f old t n
-  pub here : i < n
-  pub long : length r ≡ n
+pub record InRow (st : List ℕ) (p a f old t r : List ℤ) (i : ℕ) : Type 0 where
+  pub beside : Beside st p a
+  pub lines : Lines (wide st p) (wide st a) f old t (length st)
+  pub here : i < length st
+  pub long : length r ≡ length st
   pub above : (j : ℕ) → j < i → natAbs (cell r j) ≤ 2 ^ 60
   pub own : natAbs (cell r i) ≤ 2 ^ 57
 
@@ -59,6 +67,12 @@ pub record Term (s p o a h : ℤ) : Type 0 where
   pub o-ok : natAbs o ≤ 2 ^ 25
   pub a-ok : natAbs a ≤ 2 ^ 33
   pub h-ok : natAbs h ≤ 2 ^ 25
+
+-- what bounds are summed from
+pub record Bounds (st : List ℕ) (a f : List ℤ) : Type 0 where
+  pub lent : Starts st (length a)
+  pub light : Light (wide st a) (length st)
+  pub mild : Mild f (length st)
 
 pub record Weighed (row : ℕ) (b : Board) (t r : List ℤ) : Type 0 where
   pub unsettled-is : row ≡ unsettled b (residuals b t)

@@ -1,4 +1,4 @@
-// The residuals of a step, by one pass over the triangles of P and A, and the test for settled.
+// The residuals of a step, by one pass over the kept rows of P and A, and the test for settled.
 ghost use mathlib.Core.Path.{_≡_};
 ghost use mathlib.Core.Bool.{not};
 ghost use Prim.Native.Nat.{_+_, _^_, _≤_, _<_};
@@ -9,8 +9,9 @@ ghost use Rattle.whole.specs.Sums.{sum, sumN, table, firstFrom};
 ghost use Rattle.whole.specs.Packed.{cell, entry};
 ghost use Rattle.whole.proofs.Sums.{filled};
 ghost use Rattle.paper.specs.Step.{rowBound};
-ghost use Rattle.lent.specs.Rows.{Light, Mild};
-ghost use Rattle.residual.specs.Asks.{board, Fair, heldOr, mixed, share, fixedOr, InRow, Term, Weighed};
+ghost use Rattle.starts.specs.Lent.{wide};
+ghost use Rattle.lent.specs.Rows.{Mild};
+ghost use Rattle.residual.specs.Asks.{board, Fair, heldOr, mixed, share, fixedOr, Beside, InRow, Term, Bounds, Weighed};
 
 // ---- each number of P and of A, in the rows of its two nodes
 
@@ -28,45 +29,46 @@ fn term(s: i64, p: i64, o: i64, a: i64, h: i64) -> i64
     s + (p * o - a * h)
 }
 
-// Row i of the triangle: each number left of the diagonal also serves its column's row. What row i itself comes to.
+// Row i from its first column on: each number left of the diagonal also serves its column's row. What row i itself comes to.
 fn row(
     p: &[i64],
     a: &[i64],
+    starts: &[u32],
     fixed: &[i32],
     old: &[i64],
     t: &[i32],
     r: &mut [i64],
     i: usize,
-    n: usize,
 ) -> i64
-    requires { ⌜ InRow (now p) (now a) (now fixed) (now old) (now t) (now r) i n ⌝ }
-    ensures { λ s. ⌜ s ≡ cell (now (r .entry)) i +ℤ sum (i + 1) (mixed (now (p .entry)) (now (a .entry)) (now (fixed .entry)) (now (old .entry)) (now (t .entry)) i) ⌝ }
-    ensures { λ _. ⌜ now (r .exit) ≡ filled (λ j. cell (now (r .entry)) j +ℤ mixed (now (p .entry)) (now (a .entry)) (now (fixed .entry)) (now (old .entry)) (now (t .entry)) j i) (now (r .entry)) i ⌝ }
+    requires { ⌜ InRow (now starts) (now p) (now a) (now fixed) (now old) (now t) (now r) i ⌝ }
+    ensures { λ s. ⌜ s ≡ cell (now (r .entry)) i +ℤ sum (i + 1) (mixed (wide (now (starts .entry)) (now (p .entry))) (wide (now (starts .entry)) (now (a .entry))) (now (fixed .entry)) (now (old .entry)) (now (t .entry)) i) ⌝ }
+    ensures { λ _. ⌜ now (r .exit) ≡ filled (λ j. cell (now (r .entry)) j +ℤ mixed (wide (now (starts .entry)) (now (p .entry))) (wide (now (starts .entry)) (now (a .entry))) (now (fixed .entry)) (now (old .entry)) (now (t .entry)) j i) (now (r .entry)) i ⌝ }
 {
-    let at = whole::start(i);
     let o = old[i];
     let h = held(fixed[i], t[i]);
     let mut sum = r[i];
-    let mut j = 0;
+    let mut at = starts::start(starts, i);
+    let mut j = starts::first(starts, i, p.len());
     while j < i {
-        let x = p[at + j];
-        let y = a[at + j];
+        let x = p[at];
+        let y = a[at];
         sum = term(sum, x, old[j], y, held(fixed[j], t[j]));
         let v = term(r[j], x, o, y, h);
         r[j] = v;
+        at += 1;
         j += 1;
     }
-    term(sum, p[at + i], o, a[at + i], h)
+    term(sum, p[at], o, a[at], h)
 }
 
 // To the loads in r: P times the old temperatures, less A times the T cards' temperatures and the new ones.
-fn sums(p: &[i64], a: &[i64], fixed: &[i32], old: &[i64], t: &[i32], r: &mut [i64], n: usize)
-    requires { ⌜ Fair (board n (now p) (now a) (now r) (now fixed) (now old)) × Mild (now t) n ⌝ }
-    ensures { λ _. ⌜ now (r .exit) ≡ table n (λ i. cell (now (r .entry)) i +ℤ sum n (mixed (now (p .entry)) (now (a .entry)) (now (fixed .entry)) (now (old .entry)) (now (t .entry)) i)) ⌝ }
+fn sums(p: &[i64], a: &[i64], starts: &[u32], fixed: &[i32], old: &[i64], t: &[i32], r: &mut [i64])
+    requires { ⌜ Beside (now starts) (now p) (now a) × Fair (board (length (now starts)) (wide (now starts) (now p)) (wide (now starts) (now a)) (now r) (now fixed) (now old)) × Mild (now t) (length (now starts)) ⌝ }
+    ensures { λ _. ⌜ now (r .exit) ≡ table (length (now (starts .entry))) (λ i. cell (now (r .entry)) i +ℤ sum (length (now (starts .entry))) (mixed (wide (now (starts .entry)) (now (p .entry))) (wide (now (starts .entry)) (now (a .entry))) (now (fixed .entry)) (now (old .entry)) (now (t .entry)) i)) ⌝ }
 {
     let mut i = 0;
-    while i < n {
-        let v = row(p, a, fixed, old, t, &mut r[..], i, n);
+    while i < starts.len() {
+        let v = row(p, a, starts, fixed, old, t, &mut r[..], i);
         r[i] = v;
         i += 1;
     }
@@ -107,45 +109,59 @@ fn share(f: i32, a: i64) -> u64
     if 0 <= f { 0 } else { whole::size(a) }
 }
 
-// The sum of |A'| along a free node's row.
-fn bound(a: &[i64], fixed: &[i32], i: usize, n: usize) -> u64
-    requires { ⌜ Light (now a) n × Mild (now fixed) n × (i < n) ⌝ }
-    ensures { λ r. ⌜ r ≡ sumN n (λ j. share (cell (now (fixed .entry)) j) (entry (now (a .entry)) i j)) ⌝ }
+// The sum of |A'| along a free node's row up to its diagonal.
+fn left(a: &[i64], starts: &[u32], fixed: &[i32], i: usize) -> u64
+    requires { ⌜ Bounds (now starts) (now a) (now fixed) × (i < length (now starts)) ⌝ }
+    ensures { λ r. ⌜ r ≡ sumN (i + 1) (λ j. share (cell (now (fixed .entry)) j) (entry (wide (now (starts .entry)) (now (a .entry))) i j)) ⌝ }
 {
     let mut sum: u64 = 0;
-    let mut at = whole::start(i);
-    let mut j = 0;
-    while j < n {
+    let mut at = starts::start(starts, i);
+    let mut j = starts::first(starts, i, a.len());
+    while j <= i {
         sum += share(fixed[j], a[at]);
-        at = whole::next(at, i, j);
+        at += 1;
+        j += 1;
+    }
+    sum
+}
+
+// And along the whole row, from that on: column i of the rows below.
+fn down(a: &[i64], starts: &[u32], fixed: &[i32], left: u64, i: usize) -> u64
+    requires { ⌜ Bounds (now starts) (now a) (now fixed) × (i < length (now starts)) × (left ≡ sumN (i + 1) (λ j. share (cell (now fixed) j) (entry (wide (now starts) (now a)) i j))) ⌝ }
+    ensures { λ r. ⌜ r ≡ sumN (length (now (starts .entry))) (λ j. share (cell (now (fixed .entry)) j) (entry (wide (now (starts .entry)) (now (a .entry))) i j)) ⌝ }
+{
+    let mut sum = left;
+    let mut j = i + 1;
+    while j < starts.len() {
+        sum += share(fixed[j], starts::number(a, starts, j, i));
         j += 1;
     }
     sum
 }
 
 // Whether a residual of row i is within the row's bound. The diagonal alone nearly always reaches it.
-fn settled(a: &[i64], fixed: &[i32], r: i64, i: usize, n: usize) -> bool
-    requires { ⌜ Light (now a) n × Mild (now fixed) n × (i < n) ⌝ }
-    ensures { λ s. ⌜ s ≡ leb (natAbs r) (rowBound (now (a .entry)) (now (fixed .entry)) n i) ⌝ }
+fn settled(a: &[i64], starts: &[u32], fixed: &[i32], r: i64, i: usize) -> bool
+    requires { ⌜ Bounds (now starts) (now a) (now fixed) × (i < length (now starts)) ⌝ }
+    ensures { λ s. ⌜ s ≡ leb (natAbs r) (rowBound (wide (now (starts .entry)) (now (a .entry))) (now (fixed .entry)) (length (now (starts .entry))) i) ⌝ }
 {
     let m = whole::size(r);
     if 0 <= fixed[i] {
         return m <= 1_048_576;
     }
-    if m <= whole::size(a[whole::start(i) + i]) {
+    if m <= whole::size(a[starts::end(starts, i, a.len()) - 1]) {
         return true;
     }
-    m <= bound(a, fixed, i, n)
+    m <= down(a, starts, fixed, left(a, starts, fixed, i), i)
 }
 
 // The lowest row that is not settled, from 1, or 0.
-fn unsettled(a: &[i64], fixed: &[i32], r: &[i64], n: usize) -> u32
-    requires { ⌜ Light (now a) n × Mild (now fixed) n × (length (now r) ≡ n) ⌝ }
-    ensures { λ row. ⌜ row ≡ firstFrom n 0 (λ i. not (leb (natAbs (cell (now (r .entry)) i)) (rowBound (now (a .entry)) (now (fixed .entry)) n i))) ⌝ }
+fn unsettled(a: &[i64], starts: &[u32], fixed: &[i32], r: &[i64]) -> u32
+    requires { ⌜ Bounds (now starts) (now a) (now fixed) × (length (now r) ≡ length (now starts)) ⌝ }
+    ensures { λ row. ⌜ row ≡ firstFrom (length (now (starts .entry))) 0 (λ i. not (leb (natAbs (cell (now (r .entry)) i)) (rowBound (wide (now (starts .entry)) (now (a .entry))) (now (fixed .entry)) (length (now (starts .entry))) i))) ⌝ }
 {
     let mut i = 0;
-    while i < n {
-        if !settled(a, fixed, r[i], i, n) {
+    while i < starts.len() {
+        if !settled(a, starts, fixed, r[i], i) {
             return (i + 1) as u32;
         }
         i += 1;
@@ -159,16 +175,17 @@ fn unsettled(a: &[i64], fixed: &[i32], r: &[i64], n: usize) -> u32
 pub fn residuals(
     p: &[i64],
     a: &[i64],
+    starts: &[u32],
     fixed: &[i32],
     old: &[i64],
     t: &[i32],
     r: &mut [i64],
-    n: usize,
 ) -> u32
-    requires { ⌜ Fair (board n (now p) (now a) (now r) (now fixed) (now old)) × Mild (now t) n ⌝ }
-    ensures { λ first. ⌜ Weighed first (board n (now (p .entry)) (now (a .entry)) (now (r .entry)) (now (fixed .entry)) (now (old .entry))) (now (t .entry)) (now (r .exit)) ⌝ }
+    requires { ⌜ Beside (now starts) (now p) (now a) × Fair (board (length (now starts)) (wide (now starts) (now p)) (wide (now starts) (now a)) (now r) (now fixed) (now old)) × Mild (now t) (length (now starts)) ⌝ }
+    ensures { λ first. ⌜ Weighed first (board (length (now (starts .entry))) (wide (now (starts .entry)) (now (p .entry))) (wide (now (starts .entry)) (now (a .entry))) (now (r .entry)) (now (fixed .entry)) (now (old .entry))) (now (t .entry)) (now (r .exit)) ⌝ }
 {
-    sums(p, a, fixed, old, t, &mut r[..], n);
+    let n = starts.len();
+    sums(p, a, starts, fixed, old, t, &mut r[..]);
     fix(fixed, t, &mut r[..], n);
-    unsettled(a, fixed, &r[..], n)
+    unsettled(a, starts, fixed, &r[..])
 }

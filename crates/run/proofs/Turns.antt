@@ -1,12 +1,10 @@
 -- A run: what is left of its steps from here is the whole.
 use mathlib.Core.Path.{_≡_, refl, sym, ap, _∙_}
-use mathlib.Core.List.{List, []}
 use Prim.Native.Nat.{ℕ, suc, _+_, _-_, _≤_, _<_}
 use native.Mathlib.Omega.{arith}
-use lib.IntN.{ℤ}
 use Rattle.paper.specs.Cards.{stepsOf}
 use Rattle.paper.specs.Judge.{judged}
-use Rattle.paper.specs.Calls.{Lent, Exit, StepExit, lent, left, leftStep, stepCall}
+use Rattle.paper.specs.Calls.{Lent, StepExit, left, leftStep, stepCall}
 use Rattle.paper.specs.Running.{runFrom, leftRun, runCall}
 use Rattle.paper.specs.declared.Answer.{Answer}
 use Rattle.paper.specs.declared.Answer.the-variants as answer
@@ -50,11 +48,7 @@ pub run-end : {z₀ z : Lent} {k count : ℕ} → RunInv z₀ z k count → k �
 unfolding runFrom
 run-end {z₀} {z} {k} {count} v h = let m : k - count ≡ 0 = omega arith in sym (v .rest ∙ ap (λ (m : ℕ). runFrom m z) m)
 
--- ---- the deck
-
-pub deck-refused : (z : Lent) (why : Refusal) → judged (z .table) ≡ answer.Refused why → leftRun (ran.Refused why) z ≡ runCall z
-unfolding runCall
-deck-refused z why e = rw e refl
+-- ---- all of them
 
 -- the steps of a judged deck leave z′ and this answer
 module _ (z : Lent) (d : judged (z .table) ≡ answer.Done) (k : ℕ) (ek : k ≡ stepsOf (z .table)) (v : Answer) (z′ : Lent) (ev : left v z′ ≡ runFrom k z) where

@@ -1,4 +1,4 @@
--- What the corrections ask, and what they leave.
+-- What the corrections ask, and what they leave. Matrices and factors are packed triangles here.
 use mathlib.Core.Path.{_≡_}
 use mathlib.Core.List.{List}
 use Prim.Native.Nat.{ℕ}

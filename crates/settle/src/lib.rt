@@ -10,8 +10,10 @@ ghost use lib.ListN.{length};
 ghost use Rattle.whole.specs.Sums.{table as list};
 ghost use Rattle.whole.specs.Packed.{cell};
 ghost use Rattle.paper.specs.Step.{boardOf, isFixed, residuals, attempts};
-ghost use Rattle.lent.specs.Rows.{Factored, Mild};
-ghost use Rattle.residual.specs.Asks.{Weighed};
+ghost use Rattle.starts.specs.Lent.{wide};
+ghost use Rattle.lent.specs.Rows.{Mild};
+ghost use Rattle.correction.specs.Asks.{Sound};
+ghost use Rattle.residual.specs.Asks.{Beside, Weighed};
 ghost use Rattle.settle.specs.Asks.{Trying, ended, ending, stepsTo};
 
 // ---- corrections
@@ -21,18 +23,18 @@ fn weigh(
     table: &[u32],
     p: &[i64],
     a: &[i64],
+    starts: &[u32],
     fixed: &[i32],
     old: &[i64],
     carried: &[i64],
     t: &[i32],
     r: &mut [i64],
-    n: usize,
 ) -> u32
-    requires { ⌜ Trying (now table) (now p) (now a) (now fixed) (now old) (now carried) (now t) (now r) n ⌝ }
-    ensures { λ row. ⌜ Weighed row (boardOf (now (table .entry)) (now (p .entry)) (now (a .entry)) (now (old .entry)) (now (carried .entry))) (now (t .entry)) (now (r .exit)) ⌝ }
+    requires { ⌜ Trying (now table) (wide (now starts) (now p)) (wide (now starts) (now a)) (now fixed) (now old) (now carried) (now t) (now r) (length (now starts)) × Beside (now starts) (now p) (now a) ⌝ }
+    ensures { λ row. ⌜ Weighed row (boardOf (now (table .entry)) (wide (now (starts .entry)) (now (p .entry))) (wide (now (starts .entry)) (now (a .entry))) (now (old .entry)) (now (carried .entry))) (now (t .entry)) (now (r .exit)) ⌝ }
 {
     loads::loads(table, carried, &mut r[..]);
-    residual::residuals(p, a, fixed, old, t, &mut r[..], n)
+    residual::residuals(p, a, starts, fixed, old, t, &mut r[..])
 }
 
 // Corrections of t, up to four, at least one. The residuals that test for settled are the next correction's, or stay in r.
@@ -41,24 +43,24 @@ fn attempts(
     p: &[i64],
     a: &[i64],
     l: &[i64],
+    starts: &[u32],
     fixed: &[i32],
     old: &[i64],
     carried: &[i64],
     t: &mut [i32],
     r: &mut [i64],
-    n: usize,
 ) -> Stepped
-    requires { ⌜ Trying (now table) (now p) (now a) (now fixed) (now old) (now carried) (now t) (now r) n × Factored (now l) n ⌝ }
-    ensures { λ e. ⌜ ended e (now (t .exit)) (now (r .exit)) ≡ attempts (boardOf (now (table .entry)) (now (p .entry)) (now (a .entry)) (now (old .entry)) (now (carried .entry))) (now (l .entry)) 3 1 (now (t .entry)) (residuals (boardOf (now (table .entry)) (now (p .entry)) (now (a .entry)) (now (old .entry)) (now (carried .entry))) (now (t .entry))) ⌝ }
+    requires { ⌜ Trying (now table) (wide (now starts) (now p)) (wide (now starts) (now a)) (now fixed) (now old) (now carried) (now t) (now r) (length (now starts)) × Beside (now starts) (now p) (now a) × Sound (now starts) (now l) ⌝ }
+    ensures { λ e. ⌜ ended e (now (t .exit)) (now (r .exit)) ≡ attempts (boardOf (now (table .entry)) (wide (now (starts .entry)) (now (p .entry))) (wide (now (starts .entry)) (now (a .entry))) (now (old .entry)) (now (carried .entry))) (wide (now (starts .entry)) (now (l .entry))) 3 1 (now (t .entry)) (residuals (boardOf (now (table .entry)) (wide (now (starts .entry)) (now (p .entry))) (wide (now (starts .entry)) (now (a .entry))) (now (old .entry)) (now (carried .entry))) (now (t .entry))) ⌝ }
 {
-    weigh(table, p, a, fixed, old, carried, &t[..], &mut r[..], n);
+    weigh(table, p, a, starts, fixed, old, carried, &t[..], &mut r[..]);
     let mut c: u32 = 1;
     loop {
-        let v = correction::correct(l, &mut t[..], &mut r[..], n);
+        let v = correction::correct(l, starts, &mut t[..], &mut r[..]);
         if let Answer::Refused(why) = v {
             return Stepped::Refused(why);
         }
-        let row = weigh(table, p, a, fixed, old, carried, &t[..], &mut r[..], n);
+        let row = weigh(table, p, a, starts, fixed, old, carried, &t[..], &mut r[..]);
         if row == 0 {
             return Stepped::Settled(c);
         }
@@ -132,15 +134,15 @@ pub fn finish(
     p: &[i64],
     a: &[i64],
     l: &[i64],
+    starts: &[u32],
     fixed: &[i32],
     old: &mut [i64],
     carried: &mut [i64],
     t: &mut [i32],
     r: &mut [i64],
-    n: usize,
 ) -> Stepped
-    requires { ⌜ Trying (now table) (now p) (now a) (now fixed) (now old) (now carried) (now old) (now r) n × Factored (now l) n × (length (now t) ≡ n) ⌝ }
-    ensures { λ e. ⌜ ending e (now (old .exit)) (now (carried .exit)) ≡ stepsTo (now (table .entry)) (now (p .entry)) (now (a .entry)) (now (l .entry)) (now (old .entry)) (now (carried .entry)) ⌝ }
+    requires { ⌜ Trying (now table) (wide (now starts) (now p)) (wide (now starts) (now a)) (now fixed) (now old) (now carried) (now old) (now r) (length (now starts)) × Beside (now starts) (now p) (now a) × Sound (now starts) (now l) × (length (now t) ≡ length (now starts)) ⌝ }
+    ensures { λ e. ⌜ ending e (now (old .exit)) (now (carried .exit)) ≡ stepsTo (now (table .entry)) (wide (now (starts .entry)) (now (p .entry))) (wide (now (starts .entry)) (now (a .entry))) (wide (now (starts .entry)) (now (l .entry))) (now (old .entry)) (now (carried .entry)) ⌝ }
 {
     narrow(&old[..], &mut t[..]);
     let e = attempts(
@@ -148,12 +150,12 @@ pub fn finish(
         p,
         a,
         l,
+        starts,
         fixed,
         &old[..],
         &carried[..],
         &mut t[..],
         &mut r[..],
-        n,
     );
     let Stepped::Settled(c) = e else {
         return e;

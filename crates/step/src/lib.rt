@@ -7,15 +7,17 @@ ghost use mathlib.Core.Bool.{_&&_};
 ghost use mathlib.Core.List.{[]};
 ghost use lib.Dec.{leb};
 ghost use lib.ListN.{length};
-ghost use Rattle.paper.specs.Refusals.{unlessAt};
-ghost use Rattle.paper.specs.Judge.{judged};
-ghost use Rattle.paper.specs.Step.{boardOf, stepped, offScale};
+ghost use Rattle.paper.specs.Refusals.{done, after};
+ghost use Rattle.paper.specs.Building.{slices};
+ghost use Rattle.paper.specs.Step.{boardOf};
 ghost use Rattle.paper.specs.Calls.{lent, leftStep, stepCall};
-ghost use Rattle.paper.specs.declared.Answer.the-variants.{Done};
-ghost use Rattle.paper.specs.declared.Refusal.the-variants.{OffScale};
-ghost use Rattle.lent.specs.Rows.{Factored};
+ghost use Rattle.paper.specs.KeptCalls.{kept, keptLong, nodesJudged, leftKeptStep, keptStep};
+ghost use Rattle.laws.proofs.KeptCalls.{wideOf};
+ghost use Rattle.starts.specs.Lent.{wide};
+ghost use Rattle.correction.specs.Asks.{Sound};
+ghost use Rattle.residual.specs.Asks.{Beside};
 ghost use Rattle.settle.specs.Asks.{Ready, ending, endsAs, stepsTo};
-ghost use Rattle.step.specs.Asks.{Own};
+ghost use Rattle.step.specs.Asks.{Own, pastNine, Past, opens};
 
 // ---- past the refusals
 
@@ -25,15 +27,15 @@ fn prepared(
     p: &[i64],
     a: &[i64],
     l: &[i64],
+    starts: &[u32],
     fixed: &mut [i32],
     old: &mut [i64],
     carried: &mut [i64],
     t: &mut [i32],
     r: &mut [i64],
-    n: usize,
 ) -> Stepped
-    requires { ⌜ Ready (now table) (now p) (now a) (now old) (now carried) n × Factored (now l) n × (length (now fixed) ≡ n) × (length (now t) ≡ n) × (length (now r) ≡ n) ⌝ }
-    ensures { λ e. ⌜ ending e (now (old .exit)) (now (carried .exit)) ≡ stepsTo (now (table .entry)) (now (p .entry)) (now (a .entry)) (now (l .entry)) (now (old .entry)) (now (carried .entry)) ⌝ }
+    requires { ⌜ Ready (now table) (wide (now starts) (now p)) (wide (now starts) (now a)) (now old) (now carried) (length (now starts)) × Beside (now starts) (now p) (now a) × Sound (now starts) (now l) × (length (now fixed) ≡ length (now starts)) × (length (now t) ≡ length (now starts)) × (length (now r) ≡ length (now starts)) ⌝ }
+    ensures { λ e. ⌜ ending e (now (old .exit)) (now (carried .exit)) ≡ stepsTo (now (table .entry)) (wide (now (starts .entry)) (now (p .entry))) (wide (now (starts .entry)) (now (a .entry))) (wide (now (starts .entry)) (now (l .entry))) (now (old .entry)) (now (carried .entry)) ⌝ }
 {
     loads::fixed(table, &mut fixed[..]);
     settle::finish(
@@ -41,12 +43,12 @@ fn prepared(
         p,
         a,
         l,
+        starts,
         &fixed[..],
         &mut old[..],
         &mut carried[..],
         &mut t[..],
         &mut r[..],
-        n,
     )
 }
 
@@ -56,54 +58,62 @@ fn work(
     p: &[i64],
     a: &[i64],
     l: &[i64],
+    starts: &[u32],
     old: &mut [i64],
     carried: &mut [i64],
-    n: usize,
 ) -> Stepped
-    requires { ⌜ Ready (now table) (now p) (now a) (now old) (now carried) n × Factored (now l) n ⌝ }
-    ensures { λ e. ⌜ ending e (now (old .exit)) (now (carried .exit)) ≡ stepsTo (now (table .entry)) (now (p .entry)) (now (a .entry)) (now (l .entry)) (now (old .entry)) (now (carried .entry)) ⌝ }
+    requires { ⌜ Ready (now table) (wide (now starts) (now p)) (wide (now starts) (now a)) (now old) (now carried) (length (now starts)) × Beside (now starts) (now p) (now a) × Sound (now starts) (now l) ⌝ }
+    ensures { λ e. ⌜ ending e (now (old .exit)) (now (carried .exit)) ≡ stepsTo (now (table .entry)) (wide (now (starts .entry)) (now (p .entry))) (wide (now (starts .entry)) (now (a .entry))) (wide (now (starts .entry)) (now (l .entry))) (now (old .entry)) (now (carried .entry)) ⌝ }
 {
     let mut fixed = [0i32; 96];
     let mut t = [0i32; 96];
     let mut r = [0i64; 96];
+    let n = starts.len();
     prepared(
         table,
         p,
         a,
         l,
+        starts,
         &mut fixed[0..n],
         &mut old[..],
         &mut carried[..],
         &mut t[0..n],
         &mut r[0..n],
-        n,
     )
 }
 
 // ---- refusals
 
-// Past 9 and 10, over what of the lent slices the deck covers: refusal 11, and then the step.
-fn covered(
+// Past 9 and 17, over what of the lent slices the deck covers, by any row starts: refusals 10 and 11, and then the step.
+pub fn covered(
     table: &[u32],
     p: &[i64],
     a: &[i64],
     l: &[i64],
+    starts: &[u32],
     old: &mut [i64],
     carried: &mut [i64],
-    n: usize,
 ) -> Stepped
-    requires { ⌜ Own (now table) (now p) (now a) (now l) (now old) (now carried) n ⌝ }
-    ensures { λ e. ⌜ ending e (now (old .exit)) (now (carried .exit)) ≡ endsAs (boardOf (now (table .entry)) (now (p .entry)) (now (a .entry)) (now (old .entry)) (now (carried .entry))) (now (carried .entry)) (unlessAt (offScale n (now (old .entry))) OffScale (stepped (boardOf (now (table .entry)) (now (p .entry)) (now (a .entry)) (now (old .entry)) (now (carried .entry))) (now (l .entry)))) ⌝ }
+    requires { ⌜ Own (now table) (now starts) (now p) (now a) (now l) (now old) (now carried) ⌝ }
+    ensures { λ e. ⌜ ending e (now (old .exit)) (now (carried .exit)) ≡ endsAs (boardOf (now (table .entry)) (wide (now (starts .entry)) (now (p .entry))) (wide (now (starts .entry)) (now (a .entry))) (now (old .entry)) (now (carried .entry))) (now (carried .entry)) (pastNine (length (now (starts .entry))) (now (table .entry)) (slices (wide (now (starts .entry)) (now (p .entry))) (wide (now (starts .entry)) (now (a .entry))) (wide (now (starts .entry)) (now (l .entry)))) (now (old .entry)) (now (carried .entry))) ⌝ }
 {
+    if lent::foreign(p, a, l, starts) {
+        return Stepped::Refused(Refusal::Foreign);
+    }
+    let n = starts.len();
+    if lent::laden(&carried[..], n) {
+        return Stepped::Refused(Refusal::Foreign);
+    }
     let node = lent::off_scale(&old[..], n);
     if node != 0 {
         return Stepped::Refused(Refusal::OffScale(node));
     }
-    work(table, p, a, l, &mut old[..], &mut carried[..], n)
+    work(table, p, a, l, starts, &mut old[..], &mut carried[..])
 }
 
 // Whether there is a temperature and a carried number for each node.
-fn room(temperatures: &[i64], carried: &[i64], n: usize) -> bool
+pub fn room(temperatures: &[i64], carried: &[i64], n: usize) -> bool
     ensures { λ r. ⌜ r ≡ (leb n (length (now (temperatures .entry))) && leb n (length (now (carried .entry)))) ⌝ }
 {
     if temperatures.len() < n {
@@ -112,36 +122,61 @@ fn room(temperatures: &[i64], carried: &[i64], n: usize) -> bool
     n <= carried.len()
 }
 
-// A step of a deck that was judged, for a run, which judges it once.
+// The matrix length of a deck, past 9 and 17, or a refusal.
+pub enum Judged {
+    Long(usize),
+    Refused(Refusal),
+}
+
+// The deck's refusals, then 9 and 17, of a step and of a run.
+pub fn judge(
+    table: &[u32],
+    p: &[i64],
+    a: &[i64],
+    factor: &[i64],
+    starts: &[u32],
+    temperatures: &[i64],
+    carried: &[i64],
+) -> Judged
+    ensures { λ r. ⌜ opens r ≡ after (nodesJudged (kept (now (table .entry)) (now (p .entry)) (now (a .entry)) (now (factor .entry)) [] (now (starts .entry)) (now (temperatures .entry)) (now (carried .entry)))) (done (keptLong (now (table .entry)))) ⌝ }
+{
+    let verdict = cards::judge(table);
+    if let Answer::Refused(why) = verdict {
+        return Judged::Refused(why);
+    }
+    let n = element::nodes(table);
+    let found = starts::find(table, starts, n);
+    let rest = room(temperatures, carried, n);
+    let answer = lent::judge(found, p, a, factor, starts, rest, n);
+    if let Answer::Refused(why) = answer {
+        return Judged::Refused(why);
+    }
+    Judged::Long(found.long)
+}
+
+// A step past those, as document 01 has it of packed triangles: for a run, which judges once.
 pub fn judged_step(
     table: &[u32],
     p: &[i64],
     a: &[i64],
     factor: &[i64],
+    starts: &[u32],
     temperatures: &mut [i64],
     carried: &mut [i64],
+    long: usize,
 ) -> Stepped
-    requires { ⌜ judged (now table) ≡ Done ⌝ }
-    ensures { λ e. ⌜ leftStep e (lent (now (table .entry)) (now (p .entry)) (now (a .entry)) (now (factor .entry)) [] (now (temperatures .exit)) (now (carried .exit))) ≡ stepCall (lent (now (table .entry)) (now (p .entry)) (now (a .entry)) (now (factor .entry)) [] (now (temperatures .entry)) (now (carried .entry))) ⌝ }
+    requires { ⌜ Past (now table) (now p) (now a) (now factor) (now starts) (now temperatures) (now carried) long ⌝ }
+    ensures { λ e. ⌜ leftStep e (lent (now (table .entry)) (wideOf (now (table .entry)) (now (p .entry))) (wideOf (now (table .entry)) (now (a .entry))) (wideOf (now (table .entry)) (now (factor .entry))) [] (now (temperatures .exit)) (now (carried .exit))) ≡ stepCall (lent (now (table .entry)) (wideOf (now (table .entry)) (now (p .entry))) (wideOf (now (table .entry)) (now (a .entry))) (wideOf (now (table .entry)) (now (factor .entry))) [] (now (temperatures .entry)) (now (carried .entry))) ⌝ }
 {
     let n = element::nodes(table);
-    let rest = room(&temperatures[..], &carried[..], n);
-    let answer = lent::judge(p, a, factor, rest, n);
-    if let Answer::Refused(why) = answer {
-        return Stepped::Refused(why);
-    }
-    if lent::laden(&carried[..], n) {
-        return Stepped::Refused(Refusal::Foreign);
-    }
-    let long = whole::matrix(n);
     covered(
         table,
         &p[0..long],
         &a[0..long],
         &factor[0..long],
+        &starts[0..n],
         &mut temperatures[0..n],
         &mut carried[0..n],
-        n,
     )
 }
 
@@ -151,14 +186,23 @@ pub fn step(
     p: &[i64],
     a: &[i64],
     factor: &[i64],
+    starts: &[u32],
     temperatures: &mut [i64],
     carried: &mut [i64],
 ) -> Stepped
-    ensures { λ e. ⌜ leftStep e (lent (now (table .entry)) (now (p .entry)) (now (a .entry)) (now (factor .entry)) [] (now (temperatures .exit)) (now (carried .exit))) ≡ stepCall (lent (now (table .entry)) (now (p .entry)) (now (a .entry)) (now (factor .entry)) [] (now (temperatures .entry)) (now (carried .entry))) ⌝ }
+    ensures { λ e. ⌜ leftKeptStep e (kept (now (table .entry)) (now (p .entry)) (now (a .entry)) (now (factor .entry)) [] (now (starts .entry)) (now (temperatures .exit)) (now (carried .exit))) ≡ keptStep (kept (now (table .entry)) (now (p .entry)) (now (a .entry)) (now (factor .entry)) [] (now (starts .entry)) (now (temperatures .entry)) (now (carried .entry))) ⌝ }
 {
-    let verdict = cards::judge(table);
-    if let Answer::Refused(why) = verdict {
-        return Stepped::Refused(why);
+    match judge(table, p, a, factor, starts, &temperatures[..], &carried[..]) {
+        Judged::Long(long) => judged_step(
+            table,
+            p,
+            a,
+            factor,
+            starts,
+            &mut temperatures[..],
+            &mut carried[..],
+            long,
+        ),
+        Judged::Refused(why) => Stepped::Refused(why),
     }
-    judged_step(table, p, a, factor, &mut temperatures[..], &mut carried[..])
 }

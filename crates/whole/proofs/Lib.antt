@@ -11,4 +11,6 @@ pub mod Largest
 pub mod Packed
 pub mod Squares
 pub mod Lists
+pub mod Kept
+pub mod RowStarts
 pub mod Areas

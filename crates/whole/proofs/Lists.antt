@@ -1,12 +1,14 @@
--- Lists written in order: one element, a part, a copy.
-use mathlib.Core.Path.{_≡_, sym, ap, _∙_}
+-- Lists written in order: one element, a part, a copy; and reads of what they are made of.
+use mathlib.Core.Path.{_≡_, refl, sym, ap, _∙_}
 use mathlib.Core.List.{List, [], _∷_, _++_, append-assoc, append-nil}
-use Prim.Native.Nat.{ℕ, suc, _+_, _-_, _≤_, _<_}
+use Prim.Native.Nat.{ℕ, zero, suc, _+_, _-_, _≤_, _<_}
 use native.Mathlib.Numerals.{add-one}
 use native.Mathlib.Omega.{arith}
 use borrow.Rule.Slice.PartMut.{putMid, postOf, same-len-mid, drop-put, mid-len}
-use lib.ListN.{length, getD, take, drop, set, length-append, length-drop, drop-of-length-le}
-use lib.Seq.{take-at, drop-at, length-take-le, set-split, take-suc-set, drop-cons, take-all, drop-drop}
+use lib.IntN.{ℤ, pos}
+use lib.ListN.{length, getD, take, drop, set, length-append, length-drop, drop-of-length-le, List·getD-append, List·getD-eq-default}
+use lib.Seq.{take-at, drop-at, length-take-le, set-split, take-suc-set, drop-cons, take-all, drop-drop, getD-take, getD-drop, getD-append-add}
+use Rattle.whole.specs.Packed.{cell}
 
 -- what stands from a place on after a write there
 pub drop-set : (s : List ℕ) (k d : ℕ) → k < length s → drop k (set s k d) ≡ d ∷ drop (suc k) s
@@ -47,13 +49,38 @@ copy-on card out k h l e =
     (ap (λ (s : List ℕ). s ++ drop (suc k) card) (take-suc-set out k (getD card k 0) l) ∙ append-assoc (take k out) (getD card k 0 ∷ []) (drop (suc k) card)
     ∙ ap (λ (s : List ℕ). take k out ++ s) (sym (drop-cons card k 0 h)) ∙ e)
 
-pub copy-end : (card out : List ℕ) (k : ℕ) → length card ≡ 6 → length out ≡ 6 → k ≡ 6 → take k out ++ drop k card ≡ card → out ≡ card
-copy-end card out k h l e i =
-    let a : length out ≤ 6 = omega arith in
-    let d : length card ≤ 6 = omega arith in
-    sym (append-nil out) ∙ ap (λ (s : List ℕ). s ++ []) (sym (take-all 6 out a)) ∙ ap (λ (s : List ℕ). take 6 out ++ s) (sym (drop-of-length-le card {i = 6} d))
+pub copy-end : (n : ℕ) (card out : List ℕ) (k : ℕ) → length card ≡ n → length out ≡ n → k ≡ n → take k out ++ drop k card ≡ card → out ≡ card
+copy-end n card out k h l e i =
+    let a : length out ≤ n = omega arith in
+    let d : length card ≤ n = omega arith in
+    sym (append-nil out) ∙ ap (λ (s : List ℕ). s ++ []) (sym (take-all n out a)) ∙ ap (λ (s : List ℕ). take n out ++ s) (sym (drop-of-length-le card {i = n} d))
     ∙ ap (λ (j : ℕ). take j out ++ drop j card) (sym e) ∙ i
 
 -- what `&l[at..]` is
 pub tail-is : {X : Type 0} (at : ℕ) (l : List X) → take (length l - at) (drop at l) ≡ drop at l
 tail-is at l = take-all (length l - at) (drop at l) (omega (arith, length-drop at l))
+
+-- ---- the front of one list, and what follows of another
+
+pub join-length : (xs ys : List ℤ) (p : ℕ) → p ≤ length xs → length ys ≡ length xs → length (take p xs ++ drop p ys) ≡ length xs
+join-length xs ys p h e = length-append (take p xs) (drop p ys) ∙ omega (arith, length-take-le p xs h, length-drop p ys)
+
+pub join-front : (xs ys : List ℤ) (p k : ℕ) → p ≤ length xs → k < p → cell (take p xs ++ drop p ys) k ≡ cell xs k
+join-front xs ys p k h l = List·getD-append (take p xs) (drop p ys) (pos 0) k (omega (arith, length-take-le p xs h)) ∙ getD-take p xs k (pos 0) l
+
+pub join-back : (xs ys : List ℤ) (p k : ℕ) → p ≤ length xs → p ≤ k → cell (take p xs ++ drop p ys) k ≡ cell ys k
+join-back xs ys p k h l =
+    let e : k ≡ length (take p xs) + (k - p) = omega (arith, length-take-le p xs h) in
+    let f : p + (k - p) ≡ k = omega arith in
+    ap (cell (take p xs ++ drop p ys)) e ∙ getD-append-add (take p xs) (drop p ys) (k - p) (pos 0) ∙ getD-drop p ys (k - p) (pos 0) ∙ ap (cell ys) f
+
+-- ---- reads with a default
+
+-- within a list the default is not read
+pub getD-any : (l : List ℕ) (k d e : ℕ) → k < length l → getD l k d ≡ getD l k e
+getD-any [] k d e h = absurd (omega arith)
+getD-any (x ∷ l) zero d e h = refl
+getD-any (x ∷ l) (suc k) d e h = getD-any l k d e (omega arith)
+
+pub getD-past : (l : List ℕ) (k d : ℕ) → length l ≤ k → getD l k d ≡ d
+getD-past l k d h = List·getD-eq-default l d {n = k} h

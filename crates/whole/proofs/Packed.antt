@@ -76,21 +76,9 @@ pub place-swap : (i j : ℕ) → place i j ≡ place j i
 place-swap i j =
     ⊎-elim (λ l. place-low i j l ∙ sym (place-high j i l)) (λ l. place-high i j l ∙ sym (place-low j i l)) (sides i j)
 
-pub place-first : (i : ℕ) → place i 0 ≡ tri i
-place-first i = omega (arith, place-low i 0 (omega arith))
-
-pub next-low : (i j : ℕ) → j < i → place i (j + 1) ≡ place i j + 1
-next-low i j h = omega (arith, place-low i j (omega arith), place-low i (j + 1) (omega arith))
-
-pub next-high : (i j : ℕ) → i ≤ j → place i (j + 1) ≡ place i j + j + 1
-next-high i j h = omega (arith, place-high i j h, place-high i (j + 1) (omega arith), tri-next j)
-
 pub place-in : (i j n : ℕ) → i < n → j < n → place i j < tri n
 place-in i j n h k =
     ⊎-elim (λ l. omega (arith, place-low i j l, tri-below i n h)) (λ l. omega (arith, place-high i j l, tri-below j n k)) (sides i j)
-
-pub place-small : (i j : ℕ) → i < 96 → j < 96 → place i j < 4656
-place-small i j h k = omega (arith, place-in i j 96 h k, tri-96 96 (omega arith))
 
 -- a place is of one row and column, but for their order
 low-one : (i j i′ j′ : ℕ) → j ≤ i → j′ ≤ i′ → tri i + j ≡ tri i′ + j′ → (i ≡ i′) × (j ≡ j′)

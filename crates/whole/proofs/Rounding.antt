@@ -2,9 +2,9 @@
 use mathlib.Core.Path.{_≡_, refl, sym, ap, subst, _∙_}
 use Prim.Native.Nat.{ℕ, zero, suc, _+_, _*_, _-_, _/_, _%_, _^_, _≤_, _<_}
 use native.Mathlib.Nat.{le-refl, mul-le-mul, mul-left-comm, div-add-mod, mul-add, zero-mul, le-mul-of-pos-right, div-lt-iff-lt-mul, suc-mul, le-of-suc-le-suc, le-of-mul-le-mul-right, le-div-iff-mul-le, add-mul, mul-assoc, mul-comm, mod-lt, div-zero}
-use native.Mathlib.Decide.{decLt}
+use native.Mathlib.Decide.{decLt, ℕ-discrete}
 use native.Mathlib.Omega.{arith}
-use lib.IntN.{ℤ, pos, negsuc, negℤ, natAbs, _+ℤ_, _-ℤ_, _*ℤ_, negℤ-negℤ}
+use lib.IntN.{ℤ, pos, negsuc, negℤ, natAbs, _+ℤ_, _-ℤ_, _*ℤ_, negℤ-negℤ, zero-*ℤ, *ℤ-zero}
 use lib.Signed.{_<ℤ_, ltZ, shrZ}
 use lib.Dec.{T, ltb→lt}
 use mathlib.Core.Bool.{true, false}
@@ -51,6 +51,22 @@ nearest-zero a b h e = omega (arith, nearestN-le a b h)
 pub nearest-none : (a : ℤ) (q : ℕ) → q ≡ 0 → natAbs (nearest a q) ≡ 0
 unfolding nearestN
 nearest-none a q e = nearest-size a q ∙ ap (λ (m : ℕ). (2 * natAbs a + m) / (2 * m)) e ∙ div-zero (2 * natAbs a + 0)
+
+-- 0 / q is 0, whatever q
+zero-by : (q : ℕ) → Dec (q ≡ 0) → nearestN 0 q ≡ 0
+unfolding nearestN
+zero-by q (yes e) = ap (λ (m : ℕ). (2 * 0 + m) / (2 * m)) e ∙ div-zero (2 * 0 + 0)
+zero-by q (no n) = let n′ : q ≡ 0 → ⊥ = n in nearest-zero 0 q (omega arith) refl
+
+pub of-zero : (q : ℕ) → nearest (pos 0) q ≡ pos 0
+unfolding nearest
+of-zero q = ap pos (zero-by q (ℕ-discrete q 0))
+
+pub left-none : (z : ℤ) (q : ℕ) → nearest (pos 0 *ℤ z) q ≡ pos 0
+left-none z q = ap (λ (x : ℤ). nearest x q) (zero-*ℤ z) ∙ of-zero q
+
+pub right-none : (z : ℤ) (q : ℕ) → nearest (z *ℤ pos 0) q ≡ pos 0
+right-none z q = ap (λ (x : ℤ). nearest x q) (*ℤ-zero z) ∙ of-zero q
 
 -- y's sign put on signed l n
 abbrev pub flipBy : ℤ → ℤ → ℤ

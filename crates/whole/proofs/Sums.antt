@@ -5,10 +5,10 @@ use mathlib.Core.Logic.{⊎-elim}
 use mathlib.Core.List.{List, [], _∷_, _++_, append-assoc, append-nil}
 use Prim.Native.Nat.{ℕ, zero, suc, _+_, _-_, _*_, _≤_, _<_, min}
 use native.Mathlib.Nat.{eq-or-lt-of-le, le-of-suc-le-suc, add-zero, add-mul, suc-mul}
-use native.Mathlib.Decide.{ℕ-discrete}
+use native.Mathlib.Decide.{ℕ-discrete, decLt}
 use native.Mathlib.Numerals.{add-one}
 use native.Mathlib.Omega.{arith}
-use lib.IntN.{ℤ, pos, natAbs, _+ℤ_, _-ℤ_, _*ℤ_, zero-*ℤ, +ℤ-idl, +ℤ-idr}
+use lib.IntN.{ℤ, pos, natAbs, _+ℤ_, _-ℤ_, _*ℤ_, zero-*ℤ, +ℤ-idl, +ℤ-idr, +ℤ-assoc}
 use lib.ListN.{length, set, drop, replicate, length-set, length-append, length-replicate, length-drop, getD-replicate, List·getD-append, drop-of-length-le}
 use lib.Seq.{getD-drop, getD-append-add, getD-at, getD-set-same, getD-set-other, set-at, drop-cons, ext-getD}
 use Rattle.whole.specs.Sums.{sum, sumN, any, firstFrom, table}
@@ -56,6 +56,23 @@ sum-none (suc n) f h = λ i. sum-none n f (λ k l. h k (omega arith)) i +ℤ h n
 
 pub sum-zero : (n : ℕ) → sum n (λ k. pos 0) ≡ pos 0
 sum-zero n = sum-none n (λ k. pos 0) (λ k l. refl)
+
+-- a sum whose first c terms are 0
+skip : (c d : ℕ) (f : ℕ → ℤ) → ((k : ℕ) → k < c → f k ≡ pos 0) → sum (c + d) f ≡ sum d (λ k. f (c + k))
+unfolding sum
+skip c zero f z = let e : c + 0 ≡ c = omega arith in ap (λ (n : ℕ). sum n f) e ∙ sum-none c f z
+skip c (suc d) f z =
+    let e : c + suc d ≡ suc (c + d) = omega arith in
+    ap (λ (n : ℕ). sum n f) e ∙ ap (λ (x : ℤ). x +ℤ f (c + d)) (skip c d f z)
+
+pub sum-skip : (c n : ℕ) (f : ℕ → ℤ) → c ≤ n → ((k : ℕ) → k < c → f k ≡ pos 0) → sum n f ≡ sum (n - c) (λ k. f (c + k))
+sum-skip c n f h z = let e : n ≡ c + (n - c) = omega arith in ap (λ (k : ℕ). sum k f) e ∙ skip c (n - c) f z
+
+-- a sum by its first term
+pub sum-first : (n : ℕ) (f : ℕ → ℤ) → sum (suc n) f ≡ f 0 +ℤ sum n (λ k. f (suc k))
+unfolding sum
+sum-first zero f = +ℤ-idl (f 0) ∙ sym (+ℤ-idr (f 0))
+sum-first (suc n) f = ap (λ (z : ℤ). z +ℤ f (suc n)) (sum-first n f) ∙ +ℤ-assoc (f 0) (sum n (λ k. f (suc k))) (f (suc n))
 
 -- all terms but one are 0
 pub sum-single : (n i : ℕ) (f : ℕ → ℤ) → i < n → ((k : ℕ) → k < n → (k ≡ i → ⊥) → f k ≡ pos 0) → sum n f ≡ f i
@@ -222,6 +239,17 @@ any-more n f = ap (λ (k : ℕ). any k f) (add-one n)
 pub any-next : (n : ℕ) (f : ℕ → Bool) → any n f ≡ false → f n ≡ false → any (n + 1) f ≡ false
 any-next n f e h = any-more n f ∙ (λ i. e i || h i)
 
+-- a test that none of the first c passes
+any-past : (c d : ℕ) (f : ℕ → Bool) → ((k : ℕ) → k < c → f k ≡ false) → any (c + d) f ≡ any d (λ k. f (c + k))
+unfolding any
+any-past c zero f z = let e : c + 0 ≡ c = omega arith in ap (λ (n : ℕ). any n f) e ∙ any-none c f z
+any-past c (suc d) f z =
+    let e : c + suc d ≡ suc (c + d) = omega arith in
+    ap (λ (n : ℕ). any n f) e ∙ ap (λ (b : Bool). b || f (c + d)) (any-past c d f z)
+
+pub any-skip : (c n : ℕ) (f : ℕ → Bool) → c ≤ n → ((k : ℕ) → k < c → f k ≡ false) → any n f ≡ any (n - c) (λ k. f (c + k))
+any-skip c n f h z = let e : n ≡ c + (n - c) = omega arith in ap (λ (k : ℕ). any k f) e ∙ any-past c (n - c) f z
+
 -- ---- the first of which a test holds
 
 -- the place that was found, or else this one
@@ -342,6 +370,14 @@ filled-past f s i k h =
 
 pub filled-length : (f : ℕ → ℤ) (s : List ℤ) (i : ℕ) → i ≤ length s → length (filled f s i) ≡ length s
 filled-length f s i h = omega (arith, length-append (table i f) (drop i s), table-length i f, length-drop i s)
+
+-- with what was there
+pub filled-same : (f : ℕ → ℤ) (s : List ℤ) (i : ℕ) → i ≤ length s → ((k : ℕ) → k < i → f k ≡ cell s k) → s ≡ filled f s i
+filled-same f s i h e = ext-getD (pos 0) s (filled f s i) (sym (filled-length f s i h)) (λ k l. go k (decLt k i))
+  where
+    go : (k : ℕ) → Dec (k < i) → cell s k ≡ cell (filled f s i) k
+    go k (yes l) = sym (filled-at f s i k l ∙ e k l)
+    go k (no n) = let n′ : k < i → ⊥ = n in sym (filled-past f s i k (omega arith))
 
 pub filled-end : (f : ℕ → ℤ) (s : List ℤ) (n : ℕ) → length s ≡ n → filled f s n ≡ table n f
 filled-end f s n e = ap (λ (d : List ℤ). table n f ++ d) (drop-of-length-le s {i = n} (omega arith)) ∙ append-nil (table n f)

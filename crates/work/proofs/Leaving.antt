@@ -1,13 +1,11 @@
 -- What a call leaves, at each of its ends, and how its refusals follow one another.
 use mathlib.Core.Path.{_≡_, refl, sym, ap, _∙_}
-use mathlib.Core.Bool.{Bool, true, false, cond, _&&_}
+use mathlib.Core.Bool.{Bool, true, false, _&&_}
 use mathlib.Core.List.{List, [], _++_}
 use Prim.Native.Nat.{ℕ, _-_, _≤_}
 use native.Mathlib.Omega.{arith}
 use lib.IntN.{ℤ, pos}
-use lib.ListN.{length, take, drop, replicate, length-replicate, take-append-drop}
-use lib.Seq.{length-take-le}
-use Rattle.whole.specs.Packed.{matrix}
+use lib.ListN.{length, drop, replicate}
 use Rattle.paper.specs.Refusals.{Outcome, refused, done, andThen, after}
 use Rattle.paper.specs.Cards.{nodes}
 use Rattle.paper.specs.Building.{Slices, slices}
@@ -16,22 +14,13 @@ use Rattle.paper.specs.Calls.{Lent, Exit, lent, left, over, long, closed, worke
 use Rattle.paper.specs.declared.Answer.{Answer}
 use Rattle.paper.specs.declared.Answer.the-variants.{Done, Refused}
 use Rattle.paper.specs.declared.Refusal.{Refusal}
-use Rattle.laws.proofs.Refused.{Plain}
+use Rattle.laws.proofs.Narrowed.{over-back}
 
 -- ---- lists
 
 -- what is written over the first k numbers
-pub over-cut : (n k : ℕ) (xs ys : List ℤ) → length xs ≡ n → k ≡ n → xs ++ drop (k - 0) ys ≡ over xs ys
-over-cut n k xs ys e q = let z : k - 0 ≡ length xs = omega arith in ap (λ (m : ℕ). xs ++ drop m ys) z
-
-pub whole-again : (k : ℕ) (xs : List ℤ) → take (k - 0) xs ++ drop (k - 0) xs ≡ xs
-whole-again k xs = take-append-drop (k - 0) xs
-
-over-again : (n : ℕ) (xs : List ℤ) → n ≤ length xs → over (take n xs) xs ≡ xs
-over-again n xs h = ap (λ (k : ℕ). take n xs ++ drop k xs) (length-take-le n xs h) ∙ take-append-drop n xs
-
-pub zeros-over : (n k : ℕ) (ws : List ℤ) → k ≡ n → replicate n (pos 0) ++ drop (k - 0) ws ≡ over (replicate n (pos 0)) ws
-zeros-over n k ws e = over-cut n k (replicate n (pos 0)) ws (length-replicate n (pos 0)) e
+pub over-cut : {X : Type 0} (n k : ℕ) (xs ys : List X) → length xs ≡ n → k ≡ n → xs ++ drop (k - 0) ys ≡ over xs ys
+over-cut {X} n k xs ys e q = let z : k - 0 ≡ length xs = omega arith in ap (λ (m : ℕ). xs ++ drop m ys) z
 
 -- ---- ends
 
@@ -64,17 +53,9 @@ module _ (t : List ℕ) (p a f w : List ℤ) where
 
   pub alone : (new : List ℕ) → long t ≤ length p → long t ≤ length a → long t ≤ length f → left Done (lent new p a f w [] []) ≡ leaves new false z (done (opened (nodes t) (slices p a f)))
   unfolding leaves closed opened
-  alone new lp la lf = λ i. left Done (lent new (sym (over-again (long t) p lp) i) (sym (over-again (long t) a la) i) (sym (over-again (long t) f lf) i) w [] [])
+  alone new lp la lf = λ i. left Done (lent new (sym (over-back (long t) p lp) i) (sym (over-back (long t) a la) i) (sym (over-back (long t) f lf) i) w [] [])
 
 -- ---- answers in turn
-
-pub plain-and : (a b : Answer) → Plain a → Plain b → Plain (andThen a b)
-plain-and Done b p q = q
-plain-and (Refused r) b p q = p
-
-pub plain-cond : (b : Bool) (x y : Answer) → Plain x → Plain y → Plain (cond b x y)
-plain-cond true x y p q = p
-plain-cond false x y p q = q
 
 pub after-and : {X : Type 0} (a b : Answer) (o : Outcome X) → after (andThen a b) o ≡ after a (after b o)
 after-and Done b o = refl

@@ -6,15 +6,18 @@ use Prim.Native.Nat.{ℕ, _^_, _≤_}
 use native.Mathlib.Omega.{arith}
 use lib.Dec.{eqb}
 use lib.IntN.{ℤ, pos, natAbs}
-use lib.ListN.{replicate}
+use lib.ListN.{length, replicate, length-replicate}
 use Rattle.whole.specs.Packed.{entry, lower}
 use Rattle.whole.proofs.Packed.{lower-ext, lower-at}
 use Rattle.whole.proofs.Tests.{cond-same}
-use Rattle.paper.specs.Refusals.{Outcome, refused, done, after}
+use Rattle.paper.specs.Refusals.{Outcome, done, after}
 use Rattle.paper.specs.Matrices.{cleared}
+use Rattle.paper.specs.Factor.{rowsFrom}
 use Rattle.paper.specs.declared.Answer.{Answer}
 use Rattle.paper.specs.declared.Answer.the-variants.{Done, Refused}
 use Rattle.paper.specs.declared.Refusal.{Refusal}
+use Rattle.starts.specs.Lent.{wide, Turned}
+use Rattle.packed.proofs.Spots.{wide-zeros}
 use Rattle.work.specs.Asks.{Factored}
 
 -- A' of a matrix that is a slice's
@@ -34,8 +37,18 @@ cleared-size b fix f l h i j = go (fix i || fix j) (eqb i j)
 
 -- ---- the factor's end
 
-pub factored-refused : (o : Outcome (List ℤ)) {a : Answer} (r : Refusal) (n : ℕ) (ys w : List ℤ) → a ≡ Refused r → after a (done ys) ≡ o → w ≡ replicate n (pos 0) → Factored (Refused r) o n w
-factored-refused o r n ys w q e z = subst (λ (o : Outcome (List ℤ)). Factored (Refused r) o n w) (ap (λ (a : Answer). after a (done ys)) (sym q) ∙ e) (record { answer = refl; left = z })
+module _ (o : Outcome (List ℤ)) (st : List ℕ) (ks mid : List ℤ) (long : length mid ≡ length ks) {a : Answer} (e : after a (done (wide st mid)) ≡ o) where
+  pub factored-refused : (r : Refusal) (ls : List ℤ) → a ≡ Refused r → ls ≡ replicate (length mid) (pos 0) → Factored (Refused r) o st ks ls
+  factored-refused r ls q z = subst (λ (o : Outcome (List ℤ)). Factored (Refused r) o st ks ls) (ap (λ (a : Answer). after a (done (wide st mid))) (sym q) ∙ e) (record {
+    answer = refl;
+    left = record { long = ap length z ∙ length-replicate (length mid) (pos 0) ∙ long; is = ap (wide st) z ∙ wide-zeros st (length mid) };
+  })
 
-pub factored-done : (o : Outcome (List ℤ)) {a : Answer} (n : ℕ) (ys : List ℤ) → a ≡ Done → after a (done ys) ≡ o → Factored Done o n ys
-factored-done o n ys q e = subst (λ (o : Outcome (List ℤ)). Factored Done o n ys) (ap (λ (a : Answer). after a (done ys)) (sym q) ∙ e) (record { answer = refl; left = refl })
+  pub factored-done : a ≡ Done → Factored Done o st ks mid
+  factored-done q = subst (λ (o : Outcome (List ℤ)). Factored Done o st ks mid) (ap (λ (a : Answer). after a (done (wide st mid))) (sym q) ∙ e) (record { answer = refl; left = record { long = long; is = refl } })
+
+-- of rows that were laid before
+pub factored-after : {r : Answer} {st : List ℕ} {ks ls ms xs : List ℤ} (k m : ℕ) → Turned st ks ls xs → Factored r (rowsFrom k m (wide st ls)) st ls ms → Factored r (rowsFrom k m xs) st ks ms
+factored-after {r} {st} {ks} {ls} {ms} {xs} k m t f =
+    let g : Factored r (rowsFrom k m xs) st ls ms = subst (λ (z : List ℤ). Factored r (rowsFrom k m z) st ls ms) (t .is) f in
+    record { answer = g .answer; left = record { long = g .left .long ∙ t .long; is = g .left .is } }

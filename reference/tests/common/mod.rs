@@ -1,9 +1,11 @@
 //! Decks, buffers and chance for the tests.
 #![allow(dead_code, unused_imports)]
 
+mod kept;
 mod records;
 mod refusing;
 
+pub use kept::*;
 pub use records::*;
 use reference::{Answer, Card, Ran, Refusal, Stepped};
 pub use refusing::*;
@@ -22,8 +24,8 @@ pub const TOP: u32 = 33_554_432;
 /// The greatest magnitude of a carried residual.
 pub const MOST_CARRIED: i64 = 1 << 33;
 
-/// Acceptance, 0, and each refusal of the model's own calls.
-pub const NUMBERS: usize = 15;
+/// Acceptance, 0, and each refusal; 15 and 16 are of records alone.
+pub const NUMBERS: usize = 18;
 
 /// Xorshift, 64 bits.
 pub struct Chance(u64);
@@ -918,6 +920,9 @@ pub struct Scales {
 }
 
 impl Scales {
+    /// An edge of a g of 0 and no load: with it the fourth row has all its columns.
+    const TIE: [u32; 5] = [1, 4, 1, 0, 1];
+
     /// As warm as this before the step.
     pub const WARM: i64 = 1 << 24;
 
@@ -928,6 +933,7 @@ impl Scales {
         groups.nodes.push([100, 100]);
         groups.elements[0][..3].copy_from_slice(&corners);
         groups.heats.push([1, microwatts]);
+        groups.edges.push(Scales::TIE);
         groups.fixed.push([4, 1]);
         let wanted = loads.map(|load| 16 * Scales::WARM + 8 - load);
         let [d1, d2, d3] = wanted.map(|right| right.div_euclid(Scales::WARM));
@@ -948,6 +954,7 @@ impl Scales {
         let mut groups = Groups::corner();
         groups.solids = vec![[i, j, k, l, 1]];
         groups.heats.push([1, microwatts]);
+        groups.edges.push(Scales::TIE);
         groups.fixed.push([4, 1]);
         Scales {
             table: groups.table(),

@@ -12,7 +12,8 @@ impl Case {
     }
 
     pub fn differs(&self) -> bool {
-        self.by_reference() != self.by_archive()
+        let ours = self.by_archive();
+        self.by_reference() != ours || self.packed_apart(&ours).is_some()
     }
 }
 
@@ -21,6 +22,7 @@ pub fn call(call: Call, lent: &mut Lent) -> u64 {
     let mut table = Fenced::new(&lent.table, 0xA5A5_A5A5);
     let mut temperatures = Fenced::new(&lent.temperatures, MARK);
     let mut carried = Fenced::new(&lent.carried, MARK);
+    let mut starts = Fenced::new(&lent.starts, 0xA5A5_A5A5);
     let [mut p, mut a, mut factor, mut work] = lent
         .matrices
         .each_ref()
@@ -55,6 +57,8 @@ pub fn call(call: Call, lent: &mut Lent) -> u64 {
                 factor.length(),
                 work.pointer(),
                 work.length(),
+                starts.pointer(),
+                starts.length(),
             ),
             Call::Replace {
                 card,
@@ -70,6 +74,8 @@ pub fn call(call: Call, lent: &mut Lent) -> u64 {
                 factor.length(),
                 work.pointer(),
                 work.length(),
+                starts.pointer(),
+                starts.length(),
                 card,
                 letter,
                 f1,
@@ -87,6 +93,8 @@ pub fn call(call: Call, lent: &mut Lent) -> u64 {
                 a.length(),
                 factor.pointer(),
                 factor.length(),
+                starts.pointer(),
+                starts.length(),
                 temperatures.pointer(),
                 temperatures.length(),
                 carried.pointer(),
@@ -99,6 +107,7 @@ pub fn call(call: Call, lent: &mut Lent) -> u64 {
     table.open("table", &mut lent.table);
     temperatures.open("temperatures", &mut lent.temperatures);
     carried.open("carried", &mut lent.carried);
+    starts.open("starts", &mut lent.starts);
     let fenced = [p, a, factor, work].into_iter();
     for ((matrix, slice), name) in fenced.zip(&mut lent.matrices).zip(crate::case::MATRICES) {
         matrix.open(name, slice);

@@ -1,7 +1,9 @@
 //! Cases of the carried residuals that chance seldom draws, and residuals for all other steps. `tests/kernel` takes this file too.
 
 use crate::case::{Call, Lent};
-use crate::decks::{nodes_of, triangle, Chance, Groups, Scales, H, MOST_CARRIED, T, TOP};
+use crate::decks::{
+    expanded, firsts, nodes_of, triangle, Chance, Groups, Scales, H, MOST_CARRIED, T, TOP,
+};
 use crate::heats::weigh;
 use crate::limits::built;
 use crate::trial::Trial;
@@ -164,7 +166,8 @@ pub fn books(trial: &mut Trial) {
 /// The sum of P·T, and of what is carried.
 fn in_the_board(lent: &Lent) -> i128 {
     let n = nodes_of(&lent.table);
-    let number = |i: usize, j: usize| lent.matrices[0][triangle(i.max(j)) + i.min(j)];
+    let p = expanded(&firsts(&lent.table), &lent.matrices[0], || 0);
+    let number = |i: usize, j: usize| p[triangle(i.max(j)) + i.min(j)];
     let all = (0..n).flat_map(|i| (0..n).map(move |j| (i, j)));
     let stored = all.map(|(i, j)| i128::from(number(i, j)) * i128::from(lent.temperatures[j]));
     let carried = lent.carried[..n].iter().map(|&c| i128::from(c));

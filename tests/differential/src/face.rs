@@ -26,6 +26,8 @@ extern "C" {
         factor_length: usize,
         work: *mut i64,
         work_length: usize,
+        starts: *mut u32,
+        starts_length: usize,
     ) -> u64;
     pub fn gormulast_replace(
         table: *mut u32,
@@ -38,6 +40,8 @@ extern "C" {
         factor_length: usize,
         work: *mut i64,
         work_length: usize,
+        starts: *const u32,
+        starts_length: usize,
         card: u32,
         letter: u32,
         f1: u32,
@@ -55,6 +59,8 @@ extern "C" {
         a_length: usize,
         factor: *const i64,
         factor_length: usize,
+        starts: *const u32,
+        starts_length: usize,
         temperatures: *mut i64,
         temperatures_length: usize,
         carried: *mut i64,

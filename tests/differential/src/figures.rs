@@ -1,9 +1,12 @@
-//! The checked numbers, P1 to P12, those of the edge film, of the tetrahedron, of what a step carries and of thin triangles, out of the
-//! archive alone.
+//! The checked numbers, P1 to P12, those of the edge film, of the tetrahedron, of what a step carries and of thin triangles, out of an
+//! archive alone: that of the kept form and that of the packed one. And those of starts.
 
 use crate::archive;
 use crate::case::{Call, Lent};
-use crate::decks::{triangle, turned, Groups, E, F, G, V};
+use crate::decks::{kept_of, triangle, turned, Groups, E, F, G, V};
+
+/// A call of an archive.
+type Archive = fn(Call, &mut Lent) -> u64;
 
 const START: i64 = 19_660_800;
 
@@ -21,6 +24,7 @@ fn lend(groups: &Groups) -> Lent {
     Lent {
         table: groups.table(),
         matrices: [0; 4].map(|_| vec![PAST; triangle(nodes) + 1]),
+        starts: vec![PAST as u32; nodes + 1],
         temperatures: numbers(START),
         carried: numbers(0),
         ..Lent::default()
@@ -28,11 +32,11 @@ fn lend(groups: &Groups) -> Lent {
 }
 
 /// The base of the paper with something else in it, built: the packed answer, P, A and factor.
-fn built(change: fn(&mut Groups)) -> (u64, [Vec<i64>; 3]) {
+fn built(ask: Archive, change: fn(&mut Groups)) -> (u64, [Vec<i64>; 3]) {
     let mut groups = Groups::base();
     change(&mut groups);
     let mut lent = lend(&groups);
-    let answer = archive::call(Call::Build, &mut lent);
+    let answer = ask(Call::Build, &mut lent);
     let [p, a, factor, work] = lent.matrices;
     let worked = answer == 0 || [7, 8].contains(&(answer & 255));
     assert_eq!(work[..6], [if worked { 0 } else { PAST }; 6]);
@@ -46,12 +50,12 @@ fn refused(number: u64, place: u64) -> (u64, [Vec<i64>; 3]) {
 }
 
 /// The base built and stepped once: the packed answer, the temperatures and what is carried.
-fn stepped(change: fn(&mut Groups)) -> (u64, Vec<i64>, Vec<i64>) {
+fn stepped(ask: Archive, change: fn(&mut Groups)) -> (u64, Vec<i64>, Vec<i64>) {
     let mut groups = Groups::base();
     change(&mut groups);
     let mut lent = lend(&groups);
-    archive::call(Call::Build, &mut lent);
-    let answer = archive::call(Call::Step, &mut lent);
+    ask(Call::Build, &mut lent);
+    let answer = ask(Call::Step, &mut lent);
     (answer, lent.temperatures, lent.carried)
 }
 
@@ -68,18 +72,18 @@ fn thick(groups: &mut Groups, capacity: u32) {
     (groups.d[0], groups.elements[0][4], groups.materials[0][2]) = (1, 4_000, capacity);
 }
 
-fn matrices() {
-    let (answer, [p, a, factor]) = built(|_| {});
+fn matrices(ask: Archive) {
+    let (answer, [p, a, factor]) = built(ask, |_| {});
     assert_eq!(answer, 0);
     let conductance: Vec<i64> = a.iter().zip(&p).map(|(a, p)| a - p).collect();
     assert_eq!(conductance, [1_000, -500, 500, -500, 0, 500], "P1");
     assert_eq!(p, [5_000, 2_500, 5_000, 2_500, 2_500, 5_000], "P2");
-    assert_eq!(built(|groups| film(groups, 479)).1[1], a, "P3");
-    let filmed = built(|groups| film(groups, 480)).1[1].clone();
+    assert_eq!(built(ask, |groups| film(groups, 479)).1[1], a, "P3");
+    let filmed = built(ask, |groups| film(groups, 480)).1[1].clone();
     let more: Vec<i64> = filmed.iter().zip(&a).map(|(now, a)| now - a).collect();
     assert_eq!(more, [2, 1, 2, 1, 1, 2], "P3");
     assert_eq!(
-        built(|groups| groups.elements[0] = [1, 3, 2, 1, 1_000]).1[1],
+        built(ask, |groups| groups.elements[0] = [1, 3, 2, 1, 1_000]).1[1],
         a,
         "P4"
     );
@@ -90,23 +94,23 @@ fn matrices() {
     );
 }
 
-fn steps() {
+fn steps(ask: Archive) {
     assert_eq!(
-        stepped(|groups| groups.heats.push([1, 3])),
+        stepped(ask, |groups| groups.heats.push([1, 3])),
         (256, alike(START + 7), alike(-4_464)),
         "P6"
     );
-    assert_eq!(stepped(|_| {}), (256, alike(START), alike(0)), "P7");
+    assert_eq!(stepped(ask, |_| {}), (256, alike(START), alike(0)), "P7");
 }
 
 /// P6 goes on: 65,536 at each node and step, 10,000 to the tick.
-fn carried() {
+fn carried(ask: Archive) {
     let mut groups = Groups::base();
     groups.heats.push([1, 3]);
     let mut lent = lend(&groups);
-    archive::call(Call::Build, &mut lent);
+    ask(Call::Build, &mut lent);
     for (ticks, residual) in [(7, -4_464), (13, 1_072), (20, -3_392), (26, 2_144)] {
-        assert_eq!(archive::call(Call::Step, &mut lent), 256, "P6 carried");
+        assert_eq!(ask(Call::Step, &mut lent), 256, "P6 carried");
         assert_eq!(lent.temperatures, alike(START + ticks), "P6 carried");
         assert_eq!(lent.carried, alike(residual), "P6 carried");
     }
@@ -115,50 +119,51 @@ fn carried() {
     for residual in [most, -most] {
         let mut large = lent.clone();
         large.carried[1] = residual;
-        let answer = archive::call(Call::Step, &mut large);
+        let answer = ask(Call::Step, &mut large);
         assert_eq!(answer & 255, 0, "carried {residual}");
     }
     for residual in [most + 1, -most - 1, i64::MIN, i64::MAX] {
         let mut wrong = lent.clone();
         wrong.carried[1] = residual;
         let before = wrong.clone();
-        let answer = archive::call(Call::Step, &mut wrong);
+        let answer = ask(Call::Step, &mut wrong);
         assert!(answer == 10 && wrong == before, "carried {residual}");
     }
     let mut short = lent.clone();
     short.carried.truncate(2);
-    assert_eq!(archive::call(Call::Step, &mut short), 9, "carried short");
+    assert_eq!(ask(Call::Step, &mut short), 9, "carried short");
 }
 
-fn refusals() {
+fn refusals(ask: Archive) {
     let slow = |groups: &mut Groups| (groups.materials[0][2], groups.d[0]) = (1, 60_000);
-    assert_eq!(built(slow), refused(7, 3), "P8");
+    assert_eq!(built(ask, slow), refused(7, 3), "P8");
     let thin = |groups: &mut Groups| {
         groups.nodes[2] = [101, 1];
         groups.materials[0] = [10_000, 10_000, 1];
     };
-    assert_eq!(built(thin), refused(14, 1), "P9");
+    assert_eq!(built(ask, thin), refused(14, 1), "P9");
     let leaning = |groups: &mut Groups| *groups = Groups::leaning();
-    assert_eq!(built(leaning), refused(8, 2), "P9's point, not thin");
-    let (answer, [p, ..]) = built(|groups| thick(groups, 960));
+    assert_eq!(built(ask, leaning), refused(8, 2), "P9's point, not thin");
+    let (answer, [p, ..]) = built(ask, |groups| thick(groups, 960));
     assert_eq!((answer, &p[..2]), (0, &[8_000_000, 4_000_000][..]), "P10");
-    assert_eq!(built(|groups| thick(groups, 961)), refused(6, 1), "P10");
     assert_eq!(
-        built(|groups| groups.nodes = vec![[0, 0], [50, 50], [100, 100]]),
+        built(ask, |groups| thick(groups, 961)),
+        refused(6, 1),
+        "P10"
+    );
+    assert_eq!(
+        built(ask, |groups| groups.nodes =
+            vec![[0, 0], [50, 50], [100, 100]]),
         refused(5, 1),
         "P11"
     );
 }
 
-fn replacement() {
+fn replacement(ask: Archive) {
     let mut lent = lend(&Groups::base());
-    archive::call(Call::Build, &mut lent);
+    ask(Call::Build, &mut lent);
     let new = [E, 1, 2, 3, 1, 2_000];
-    assert_eq!(
-        archive::call(Call::Replace { card: 6, new }, &mut lent),
-        0,
-        "P12"
-    );
+    assert_eq!(ask(Call::Replace { card: 6, new }, &mut lent), 0, "P12");
     assert_eq!(lent.table[30..36], new, "P12");
     assert_eq!(
         lent.matrices[1],
@@ -168,10 +173,10 @@ fn replacement() {
 }
 
 /// What one G card adds to P and A, by each of their places.
-fn edge_adds(fields: [u32; 5]) -> [Vec<i64>; 2] {
+fn edge_adds(ask: Archive, fields: [u32; 5]) -> [Vec<i64>; 2] {
     let build = |groups: &Groups| {
         let mut lent = lend(groups);
-        assert_eq!(archive::call(Call::Build, &mut lent), 0, "G");
+        assert_eq!(ask(Call::Build, &mut lent), 0, "G");
         let [p, a, ..] = lent.matrices;
         [p, a]
     };
@@ -185,25 +190,27 @@ fn edge_adds(fields: [u32; 5]) -> [Vec<i64>; 2] {
     })
 }
 
-fn edges() {
+fn edges(ask: Archive) {
     for (film, g) in [(599, 0), (600, 1), (1_799, 1), (1_800, 2)] {
-        let [p, a] = edge_adds([1, 2, film, 0, 1_000]);
+        let [p, a] = edge_adds(ask, [1, 2, film, 0, 1_000]);
         assert_eq!(a, [2 * g, g, 2 * g, 0, 0, 0], "G of film {film}");
         assert_eq!(p, [0; 6], "G of film {film}");
     }
-    let [p, a] = edge_adds([2, 3, 100_000, 0, 4_000]);
+    let [p, a] = edge_adds(ask, [2, 3, 100_000, 0, 4_000]);
     assert_eq!(a, [0, 0, 942, 0, 471, 942], "G aslant");
     assert_eq!(p, [0; 6], "G aslant");
     // As warm as the frame, the plate stays as it is: each end's load is 3g·ambient.
-    let still = stepped(|groups| groups.edges.push([2, 3, 100_000, START as u32, 4_000]));
+    let still = stepped(ask, |groups| {
+        groups.edges.push([2, 3, 100_000, START as u32, 4_000])
+    });
     assert_eq!(still, (256, alike(START), alike(0)), "G's load");
     // A replacement of it leaves what the new card would have given.
     let mut groups = Groups::base();
     groups.edges.push([2, 3, 1, 0, 1]);
     let mut lent = lend(&groups);
-    archive::call(Call::Build, &mut lent);
+    ask(Call::Build, &mut lent);
     let new = [G, 2, 3, 100_000, 0, 4_000];
-    let answer = archive::call(Call::Replace { card: 7, new }, &mut lent);
+    let answer = ask(Call::Replace { card: 7, new }, &mut lent);
     assert_eq!((answer, &lent.table[36..42]), (0, &new[..]), "G replaced");
     let base = [6_000, 2_000, 5_500, 2_000, 2_500, 5_500];
     let more: Vec<i64> = lent.matrices[1]
@@ -215,51 +222,51 @@ fn edges() {
 }
 
 /// The corner of a cube of 100 built: the packed answer, P and A without it.
-fn cornered(change: fn(&mut Groups)) -> (u64, [Vec<i64>; 2]) {
+fn cornered(ask: Archive, change: fn(&mut Groups)) -> (u64, [Vec<i64>; 2]) {
     let mut groups = Groups::corner();
     change(&mut groups);
     let mut lent = lend(&groups);
-    let answer = archive::call(Call::Build, &mut lent);
+    let answer = ask(Call::Build, &mut lent);
     let [p, a, ..] = lent.matrices;
     let conductance = a[..10].iter().zip(&p).map(|(a, p)| a - p).collect();
     (answer, [p[..10].to_vec(), conductance])
 }
 
-fn tetrahedra() {
+fn tetrahedra(ask: Archive) {
     let u = 2_500;
     let stored = vec![2 * u, u, 2 * u, u, u, 2 * u, u, u, u, 2 * u];
     let conducted = vec![2_499, -833, 833, -833, 0, 833, -833, 0, 0, 833];
     let right = (0, [stored.clone(), conducted.clone()]);
-    assert_eq!(cornered(|_| {}), right, "V");
+    assert_eq!(cornered(ask, |_| {}), right, "V");
     // Turned the other way round, S is the same.
-    let turned = cornered(|groups| groups.solids[0] = [2, 1, 3, 4, 1]);
+    let turned = cornered(ask, |groups| groups.solids[0] = [2, 1, 3, 4, 1]);
     assert_eq!(turned, right, "V turned");
     // Only kz is large: only the pair along z is.
-    let (_, [_, along_z]) = cornered(|groups| groups.upward[0] = 12_000);
+    let (_, [_, along_z]) = cornered(ask, |groups| groups.upward[0] = 12_000);
     assert_eq!(
         [1, 3, 6].map(|at| along_z[at]),
         [-833, -833, -10_000],
         "V's kz"
     );
     let flat = |groups: &mut Groups| groups.levels[3] = 0;
-    assert_eq!(cornered(flat).0, 5 + 65_536, "V of no volume");
+    assert_eq!(cornered(ask, flat).0, 5 + 65_536, "V of no volume");
     // S is 4,000,000, and u 960·S/960 at a step of 1 ms.
     let thick = |groups: &mut Groups| {
         groups.nodes = vec![[0, 0], [200, 0], [0, 200], [0, 0]];
         (groups.d[0], groups.materials[0][2]) = (1, 960);
     };
-    assert_eq!(cornered(thick).1[0][1], 4_000_000, "V's u");
+    assert_eq!(cornered(ask, thick).1[0][1], 4_000_000, "V's u");
     let thicker = |groups: &mut Groups| {
         groups.nodes = vec![[0, 0], [200, 0], [0, 200], [0, 0]];
         (groups.d[0], groups.materials[0][2]) = (1, 961);
     };
-    assert_eq!(cornered(thicker).0, 6 + 65_536, "V's u");
+    assert_eq!(cornered(ask, thicker).0, 6 + 65_536, "V's u");
     // 40 µW in quarters, 655,360 each, over 5u = 12,500 at each corner.
     let mut groups = Groups::corner();
     groups.heats.push([1, 40]);
     let mut lent = lend(&groups);
-    archive::call(Call::Build, &mut lent);
-    let answer = archive::call(Call::Step, &mut lent);
+    ask(Call::Build, &mut lent);
+    let answer = ask(Call::Step, &mut lent);
     let warmer = START + 52;
     let after = vec![warmer, warmer, warmer, warmer, PAST];
     assert_eq!((answer, lent.temperatures), (256, after), "V's heat");
@@ -269,9 +276,9 @@ fn tetrahedra() {
     groups.materials.insert(0, [9, 9, 9]);
     groups.upward.insert(0, 9);
     let mut lent = lend(&groups);
-    archive::call(Call::Build, &mut lent);
+    ask(Call::Build, &mut lent);
     let new = [V, 1, 2, 3, 4, 2];
-    let answer = archive::call(Call::Replace { card: 8, new }, &mut lent);
+    let answer = ask(Call::Replace { card: 8, new }, &mut lent);
     assert_eq!((answer, &lent.table[42..48]), (0, &new[..]), "V replaced");
     let both = stored.iter().zip(&conducted).map(|(p, k)| p + k);
     assert_eq!(lent.matrices[0][..10], stored, "V replaced");
@@ -284,7 +291,7 @@ fn tetrahedra() {
 
 /// Triangles whose 64·S is the square of the longest side, one less, and three more, the nearest that there is: 2,048 and 4,096;
 /// 65; 61. In every order of the corners, in a build and over the buffers of another deck by the E and the F put in their places.
-fn thin() {
+fn thin(ask: Archive) {
     for (points, number) in [
         ([[0, 0], [32, 32], [16, 17]], 0),
         ([[0, 0], [64, 0], [32, 1]], 0),
@@ -295,30 +302,91 @@ fn thin() {
             let answer = number + 65_536 * u64::from(number != 0);
             let groups = Groups::narrow(points);
             let mut lent = lend(&groups);
-            assert_eq!(archive::call(Call::Build, &mut lent), answer, "{points:?}");
+            assert_eq!(ask(Call::Build, &mut lent), answer, "{points:?}");
             let mut lent = lend(&Groups::base());
-            archive::call(Call::Build, &mut lent);
+            ask(Call::Build, &mut lent);
             lent.table = groups.table();
             for (card, new) in [
                 (7, [E, 1, 2, 3, 1, 4_000]),
                 (9, [F, 1, 480, 19_660_800, 0, 0]),
             ] {
                 let call = Call::Replace { card, new };
-                assert_eq!(archive::call(call, &mut lent), answer, "{points:?}");
+                assert_eq!(ask(call, &mut lent), answer, "{points:?}");
             }
             // A step judges no element.
-            assert_eq!(archive::call(Call::Step, &mut lent) & 255, 0, "{points:?}");
+            assert_eq!(ask(Call::Step, &mut lent) & 255, 0, "{points:?}");
         }
     }
 }
 
-pub fn all() {
-    thin();
-    tetrahedra();
-    matrices();
-    steps();
-    carried();
-    refusals();
-    replacement();
-    edges();
+/// By either archive.
+pub fn all(ask: Archive) {
+    thin(ask);
+    tetrahedra(ask);
+    matrices(ask);
+    steps(ask);
+    carried(ask);
+    refusals(ask);
+    replacement(ask);
+    edges(ask);
+}
+
+/// Nodes 2, 3 and 4 of a triangle, of which 2 is held; 4 and 6 of an edge; 1 and 5 alone, and held. By hand, rows of 1, 1, 2, 3, 1 and
+/// 3 numbers.
+pub fn rows() {
+    let mut groups = Groups::lone(6, [4, 2, 3], false);
+    groups.edges.push([4, 6, 60_000, START as u32, 1_000]);
+    groups.fixed.insert(1, [2, START as u32]);
+    groups.fixed.retain(|card| card[0] != 6);
+    let mut lent = lend(&groups);
+    assert_eq!(kept_of(&lent.table), 11, "rows");
+    lent.matrices
+        .iter_mut()
+        .for_each(|matrix| matrix.truncate(12));
+    let before = lent.clone();
+    assert_eq!(archive::call(Call::Build, &mut lent), 0, "rows");
+    assert_eq!(lent.starts, [0, 1, 2, 4, 7, 8, PAST as u32], "starts");
+    let u = 2_500;
+    let p = [0, 2 * u, u, 2 * u, u, u, 2 * u, 0, 0, 0, 0, PAST];
+    assert_eq!(lent.matrices[0], p, "P by rows");
+    // The edge goes from (0, 0) to (5, 300): L is 300.04, half of it 150.02.
+    let conducted: Vec<i64> = lent.matrices[1].iter().zip(p).map(|(a, p)| a - p).collect();
+    let (k, g) = (500, 150);
+    let a = [0, k, 0, k, -k, -k, 2 * k + 2 * g, 0, g, 0, 2 * g, 0];
+    assert_eq!(conducted, a, "A by rows");
+    assert_eq!(lent.matrices[3], [0, 0, 0, 0, 0, 0, 0, 0, 0, 0, 0, PAST]);
+    // 9 of each slice, and 17 of each start, before the 10 of a pivot of 15.
+    for which in 0..4 {
+        let mut short = before.clone();
+        short.matrices[which].truncate(10);
+        assert_eq!(archive::call(Call::Build, &mut short), 9, "rows short");
+    }
+    let mut short = before.clone();
+    short.starts.truncate(5);
+    assert_eq!(archive::call(Call::Build, &mut short), 9, "starts short");
+    for row in 0..6 {
+        let mut stray = lent.clone();
+        stray.matrices[2][0] = 15;
+        assert_eq!(archive::call(Call::Step, &mut stray), 10, "own starts");
+        stray.starts[row] += 1;
+        stray.starts[5] += 1;
+        let answer = 17 + 65_536 * (row as u64 + 1);
+        assert_eq!(archive::call(Call::Step, &mut stray), answer, "starts");
+        for card in 8..15 {
+            let at = 6 * (card as usize - 1);
+            let new = lent.table[at..at + 6].try_into().unwrap();
+            let call = Call::Replace { card, new };
+            let may = [E, G, b'H'.into(), b'T'.into()].contains(&lent.table[at]);
+            let right = if may {
+                answer
+            } else {
+                13 + 65_536 * u64::from(card)
+            };
+            assert_eq!(
+                archive::call(call, &mut stray),
+                right,
+                "starts, card {card}"
+            );
+        }
+    }
 }

@@ -1,7 +1,7 @@
 //! The heat of an element, weighed at each of its corners to a unit. `tests/kernel` takes this file too.
 
 use crate::case::{Call, Lent};
-use crate::decks::Scales;
+use crate::decks::{firsts, shrunk, starts_of, Scales};
 use crate::trial::Trial;
 
 /// Heats of every remainder, corners in every order and some of them the same: each node against its load, and against one
@@ -36,10 +36,13 @@ pub fn quarters(trial: &mut Trial) {
 }
 
 pub fn weigh(trial: &mut Trial, it: Scales) {
+    let firsts = firsts(&it.table);
     let work = vec![7; it.p.len()];
+    let matrices = [it.p, it.a, it.factor, work].map(|packed| shrunk(&firsts, &packed));
     let mut lent = Lent {
+        starts: starts_of(&it.table),
         table: it.table,
-        matrices: [it.p, it.a, it.factor, work],
+        matrices,
         temperatures: it.temperatures,
         carried: it.carried,
         ..Lent::default()

@@ -1,7 +1,7 @@
 //! Cases just at a limit and just past it, which chance seldom draws. `tests/kernel` takes this file too.
 
 use crate::case::{Call, Lent};
-use crate::decks::{nodes_of, text_of, triangle, Groups};
+use crate::decks::{text_of, triangle, Groups};
 use crate::trial::Trial;
 
 const P: usize = 0;
@@ -10,15 +10,11 @@ const FACTOR: usize = 2;
 
 /// A deck built, with all that the calls take exactly as long as they ask.
 pub fn built(trial: &mut Trial, table: Vec<u32>) -> Lent {
-    let (bytes, nodes) = (7 * table.len(), nodes_of(&table));
     let mut lent = Lent {
-        bytes: vec![b'?'; bytes],
-        matrices: [0; 4].map(|_| vec![7; triangle(nodes)]),
-        temperatures: vec![i64::from(table[2]); nodes],
-        carried: vec![0; nodes],
-        table,
-        ..Lent::default()
+        bytes: vec![b'?'; 7 * table.len()],
+        ..Lent::of(table)
     };
+    lent.starts.fill(0xBAD);
     assert_eq!(trial.call(&mut lent, Call::Build), 0);
     lent
 }
@@ -35,10 +31,13 @@ pub fn short_buffers(trial: &mut Trial) {
     for groups in [Groups::one_of_each(), Groups::one_of_each_solid()] {
         let whole = built(trial, groups.table());
         let replacements = replaceable(&whole.table);
-        for which in 0..4 {
+        for which in 0..5 {
             for &call in replacements.iter().chain(&[Call::Build, Call::Step]) {
                 let mut lent = whole.clone();
-                lent.matrices[which].pop();
+                match which {
+                    4 => drop(lent.starts.pop()),
+                    _ => drop(lent.matrices[which].pop()),
+                }
                 trial.call(&mut lent, call);
             }
         }
@@ -59,7 +58,7 @@ pub fn short_buffers(trial: &mut Trial) {
 }
 
 /// Each card from the first element on, put in its own place.
-fn replaceable(table: &[u32]) -> Vec<Call> {
+pub fn replaceable(table: &[u32]) -> Vec<Call> {
     let trailer = table.len() / 6 - 1;
     let first = 1 + (table[6 * trailer + 2] + table[6 * trailer + 3]) as usize;
     (first..trailer).map(|row| same(table, row)).collect()
@@ -148,18 +147,9 @@ fn first_row(trial: &mut Trial, d: i64, w: i64) {
 
 /// Every call with a table that is a deck or not; where it replaces, the card before Z in its own place.
 pub fn each_call(trial: &mut Trial, table: &[u32]) {
-    let nodes = if table.len() < 12 {
-        3
-    } else {
-        nodes_of(table).clamp(3, 96)
-    };
     let whole = Lent {
         bytes: vec![b'?'; 7 * table.len()],
-        table: table.to_vec(),
-        matrices: [0; 4].map(|_| vec![7; triangle(nodes)]),
-        temperatures: vec![19_660_800; nodes],
-        carried: vec![0; nodes],
-        ..Lent::default()
+        ..Lent::of(table.to_vec())
     };
     let mut lent = whole.clone();
     trial.call(&mut lent, Call::Write);

@@ -1,4 +1,5 @@
-//! The archive against reference/: the same cases to both, and every number compared.
+//! The archive against reference/: the same cases to both, and every number compared; and the packed form of each case, of the archive
+//! that is for tests and of reference/.
 //!
 //!     differential [SEED]
 //!
@@ -18,9 +19,13 @@ mod heats;
 mod limits;
 mod met;
 mod met_carried;
+mod met_rows;
 mod met_solids;
 mod met_thin;
+mod packed;
+mod packed_face;
 mod plan;
+mod rows;
 mod show;
 mod shrink;
 mod solids;
@@ -42,8 +47,11 @@ fn main() -> ExitCode {
             return ExitCode::from(2);
         }
     };
-    figures::all();
-    println!("P1 to P12, the figures of the edge film, the tetrahedron, the residuals and thin triangles out of the archive: as the papers have them");
+    // In decks of one element no row leaves a number out: the two forms are the same slices.
+    figures::all(archive::call);
+    figures::all(packed::call);
+    figures::rows();
+    println!("P1 to P12, the figures of the edge film, the tetrahedron, the residuals, thin triangles and starts out of the archive: as the papers have them");
     println!("seed {seed}");
     let mut trial = trial::Trial::new(seed, MOST);
     for (name, part) in plan::LENT.into_iter().chain(plan::DAMAGED) {

@@ -1,9 +1,11 @@
-//! What was met of G cards, of heats, of carried residuals, of solid decks and of thin triangles: counts that must not stay at zero.
+//! What was met of G cards, of heats, of carried residuals, of solid decks, of thin triangles and of starts: counts that must not stay
+//! at zero.
 //! `tests/kernel` takes this file too.
 
 use crate::case::{Call, Lent};
 use crate::decks::{E, G, H, N};
 use crate::met_carried::{Carried, Stepped};
+use crate::met_rows::{Rows, Told};
 use crate::met_solids::{Seen, Solids};
 use crate::met_thin::Thin;
 
@@ -51,6 +53,7 @@ pub struct Met {
     carried: Carried,
     solids: Solids,
     thin: Thin,
+    rows: Rows,
 }
 
 impl Met {
@@ -84,6 +87,14 @@ impl Met {
         };
         self.solids.see(&seen);
         self.thin.see(&seen);
+        if call.index() >= 2 {
+            self.rows.see(&Told {
+                call,
+                before,
+                after,
+                answer,
+            });
+        }
         let card = |number: usize| table.chunks_exact(6).nth(number.wrapping_sub(1));
         let letter = |number: usize| card(number).map_or(0, |card| card[0]);
         let concerned = match (call, number) {
@@ -191,6 +202,7 @@ impl Met {
         lines.extend(self.carried.lines());
         lines.extend(self.solids.lines());
         lines.extend(self.thin.lines());
+        lines.extend(self.rows.lines());
         lines
     }
 
@@ -218,6 +230,7 @@ impl Met {
         unmet.extend(self.carried.unmet());
         unmet.extend(self.solids.unmet());
         unmet.extend(self.thin.unmet());
+        unmet.extend(self.rows.unmet());
         unmet
     }
 }

@@ -163,7 +163,9 @@ impl Stepped<'_> {
         let mut temperatures = self.before.temperatures.clone();
         let mut carried = vec![0; self.nodes()];
         let table = &self.before.table;
-        let answer = reference::step(table, p, a, factor, &mut temperatures, &mut carried);
+        let starts = &self.before.starts;
+        let answer =
+            reference::kept::step(table, p, a, factor, starts, &mut temperatures, &mut carried);
         answer.packed() & 255
     }
 }

@@ -2,16 +2,17 @@
 
 use crate::case::{Call, Lent};
 use crate::decks::{
-    bytes_of, nodes_of, triangle, Chance, Groups, D, E, F, G, H, M, N, T, TOP, V, Z,
+    bytes_of, firsts, kept_of, nodes_of, starts_of, Chance, Groups, D, E, F, G, H, M, N, T, TOP, V,
+    Z,
 };
 use crate::trial::Trial;
-use crate::{carried, edges, heats, limits, solids, thin};
+use crate::{carried, edges, heats, limits, rows, solids, thin};
 use reference::Card;
 
 pub type Part = (&'static str, fn(&mut Trial));
 
 /// Decks, own buffers and foreign ones.
-pub const LENT: [Part; 34] = [
+pub const LENT: [Part; 40] = [
     ("decks read and written back", valid_decks),
     ("builds over slices short, exact and long", builds),
     ("the paper's checked decks", checked_decks),
@@ -61,6 +62,18 @@ pub const LENT: [Part; 34] = [
     ),
     ("flat, thin and stiff elements in turn", thin::in_turn),
     ("thin triangles of solid decks", thin::of_solids),
+    ("boards numbered well, ill and by chance", rows::numberings),
+    ("decks whose rows are all full", rows::full),
+    (
+        "decks whose rows are a diagonal but for one element",
+        rows::lone,
+    ),
+    (
+        "what couples: held nodes, edges, elements of no area",
+        rows::couplings,
+    ),
+    ("starts damaged in each row", rows::damaged),
+    ("starts from none to more than enough", rows::lengths),
 ];
 
 /// Damages come last, so that a fault in the plain work is met as such.
@@ -74,35 +87,36 @@ pub const DAMAGED: [Part; 5] = [
 
 // ---- decks and buffers
 
-/// A deck of any kind: most of them build.
-fn deck(chance: &mut Chance) -> Vec<u32> {
-    match chance.within(0, 13) {
-        0 => Groups::slivers(chance).table(),
-        1..=3 => Groups::wild(chance).table(),
-        4 => Groups::base().table(),
-        5 => sheet(chance, 12, 8),
-        6 => Groups::needles(chance).table(),
+/// A deck of any kind: most of them build. One in three numbered by chance.
+pub fn deck(chance: &mut Chance) -> Vec<u32> {
+    let groups = match chance.within(0, 13) {
+        0 => Groups::slivers(chance),
+        1..=3 => Groups::wild(chance),
+        4 => Groups::base(),
+        5 => Groups::sheet(chance, 12, 8),
+        6 => Groups::needles(chance),
         7 => match chance.one_in(4) {
-            true => Groups::block(chance, 16, 3, 2).table(),
-            false => Groups::one_of_each_solid().table(),
+            true => Groups::block(chance, 16, 3, 2),
+            false => Groups::one_of_each_solid(),
         },
-        8 | 9 => block(chance),
+        8 | 9 => {
+            let [columns, rows, floors] = [0; 3].map(|_| chance.within(2, 3));
+            Groups::block(chance, columns, rows, floors)
+        }
         _ => {
             let (columns, rows) = (chance.within(2, 8), chance.within(2, 6));
-            sheet(chance, columns, rows)
+            Groups::sheet(chance, columns, rows)
         }
+    };
+    match chance.one_in(3) {
+        true => groups.shuffled(chance).table(),
+        false => groups.table(),
     }
 }
 
 /// A sheet of nodes as on a board, with its nodes numbered along the rows.
 fn sheet(chance: &mut Chance, columns: u32, rows: u32) -> Vec<u32> {
     Groups::sheet(chance, columns, rows).table()
-}
-
-/// A small block of tetrahedra.
-fn block(chance: &mut Chance) -> Vec<u32> {
-    let [columns, rows, floors] = [0; 3].map(|_| chance.within(2, 3));
-    Groups::block(chance, columns, rows, floors).table()
 }
 
 /// The paper's P6.
@@ -122,13 +136,18 @@ fn roomy(chance: &mut Chance, length: usize) -> usize {
     length + chance.pick(&[0, 0, 1, 5])
 }
 
-/// All that build, replace and step take, long enough and full of anything.
-fn lend(chance: &mut Chance, table: Vec<u32>) -> Lent {
-    let n = nodes_of(&table);
+/// All that build, replace and step take, long enough and full of anything; the starts, one time in two, the deck's own.
+pub fn lend(chance: &mut Chance, table: Vec<u32>) -> Lent {
+    let (n, length) = (nodes_of(&table), kept_of(&table));
     let matrices = [0; 4].map(|_| {
-        let length = roomy(chance, triangle(n));
+        let length = roomy(chance, length);
         numbers(chance, length)
     });
+    let length = roomy(chance, n);
+    let mut starts: Vec<u32> = (0..length).map(|_| chance.unsigned()).collect();
+    if chance.one_in(2) {
+        starts[..n].copy_from_slice(&starts_of(&table));
+    }
     let length = roomy(chance, n);
     let mut temperatures = numbers(chance, length);
     temperatures[..n].fill(i64::from(table[2]));
@@ -138,6 +157,7 @@ fn lend(chance: &mut Chance, table: Vec<u32>) -> Lent {
     Lent {
         table,
         matrices,
+        starts,
         temperatures,
         carried,
         ..Lent::default()
@@ -356,11 +376,12 @@ fn builds(trial: &mut Trial) {
     for _ in trial.times(8_000) {
         let chance = &mut trial.chance;
         let table = deck(chance);
-        let length = triangle(nodes_of(&table));
+        let (n, length) = (nodes_of(&table), kept_of(&table));
         let mut lent = lend(chance, table);
         for matrix in &mut lent.matrices {
             shorten(chance, matrix, length);
         }
+        shorten(chance, &mut lent.starts, n);
         trial.call(&mut lent, Call::Build);
     }
 }
@@ -368,7 +389,7 @@ fn builds(trial: &mut Trial) {
 // ---- replacements
 
 /// A card to ask for, and what to put there: most often one that may be changed so.
-fn replacement(chance: &mut Chance, table: &[u32]) -> Call {
+pub fn replacement(chance: &mut Chance, table: &[u32]) -> Call {
     let rows = table.len() / 6;
     let changeable: Vec<usize> = (0..rows)
         .filter(|&index| [E, V, H, F, G, T].contains(&table[6 * index]))
@@ -422,7 +443,7 @@ fn replacements(trial: &mut Trial) {
     for _ in trial.times(220) {
         let chance = &mut trial.chance;
         let table = deck(chance);
-        let length = triangle(nodes_of(&table));
+        let length = kept_of(&table);
         let mut lent = lend(chance, table);
         trial.call(&mut lent, Call::Build);
         let mut replaced = [0; 2];
@@ -453,24 +474,26 @@ fn replacements(trial: &mut Trial) {
     }
 }
 
-/// Buffers that are none of the deck's, yet may pass refusal 10.
-fn foreign(chance: &mut Chance, n: usize, lent: &mut Lent) {
+/// Buffers that are none of the deck's, yet may pass refusal 10; with its starts.
+pub fn foreign(chance: &mut Chance, n: usize, lent: &mut Lent) {
+    lent.starts[..n].copy_from_slice(&starts_of(&lent.table));
     let [p, a, factor, _] = &mut lent.matrices;
     // A row sum of at most 2^33, most times: up to 2^26 each at 96 nodes.
     let most = ((1_u64 << 33) / n as u64) as i64;
     let size = chance.within(0, 40);
     for matrix in [p, a] {
-        for number in matrix.iter_mut().take(triangle(n)) {
+        for number in matrix.iter_mut().take(kept_of(&lent.table)) {
             *number = (chance.bits() as i64 >> 20) % ((most >> size.min(33)) + 1);
         }
     }
     let (size, pivots) = (chance.within(0, 30), chance.within(4, 38));
-    for i in 0..n {
-        let row = &mut factor[triangle(i)..=triangle(i) + i];
-        for l in &mut row[..i] {
+    let mut at = 0;
+    for (i, first) in firsts(&lent.table).into_iter().enumerate() {
+        for l in &mut factor[at..at + i - first] {
             *l = (chance.bits() as i64 >> 20) % ((1 << 24 >> size.min(24)) + 1);
         }
-        row[i] = 16 + (chance.bits() >> 20) as i64 % ((1 << pivots) - 15);
+        at += i - first + 1;
+        factor[at - 1] = 16 + (chance.bits() >> 20) as i64 % ((1 << pivots) - 15);
     }
 }
 
@@ -487,7 +510,7 @@ fn spoil(chance: &mut Chance, slice: &mut [i64]) {
     }
 }
 
-/// The buffers of another deck of as many nodes or more.
+/// The buffers of another deck of as many nodes or more, as long as this one asks; one time in two its starts too.
 fn borrowed(trial: &mut Trial, lent: &mut Lent) {
     let n = nodes_of(&lent.table);
     let table = sheet(&mut trial.chance, 8, n.div_ceil(8).max(2) as u32);
@@ -496,7 +519,12 @@ fn borrowed(trial: &mut Trial, lent: &mut Lent) {
         for which in 0..3 {
             if trial.chance.one_in(2) {
                 lent.matrices[which] = other.matrices[which].clone();
+                let length = lent.matrices[which].len().max(kept_of(&lent.table));
+                lent.matrices[which].resize(length, 16);
             }
+        }
+        if trial.chance.one_in(2) {
+            lent.starts = other.starts;
         }
     }
 }
@@ -504,7 +532,7 @@ fn borrowed(trial: &mut Trial, lent: &mut Lent) {
 /// A deck with buffers that are not, or not wholly, its own.
 fn strange(trial: &mut Trial) -> Lent {
     let table = deck(&mut trial.chance);
-    let n = nodes_of(&table);
+    let (n, length) = (nodes_of(&table), kept_of(&table));
     let mut lent = lend(&mut trial.chance, table);
     trial.call(&mut lent, Call::Build);
     match trial.chance.within(0, 5) {
@@ -515,11 +543,11 @@ fn strange(trial: &mut Trial) -> Lent {
         4 => {
             foreign(&mut trial.chance, n, &mut lent);
             let which = trial.chance.index(3);
-            spoil(&mut trial.chance, &mut lent.matrices[which][..triangle(n)]);
+            spoil(&mut trial.chance, &mut lent.matrices[which][..length]);
         }
         _ => {
             let which = trial.chance.index(3);
-            spoil(&mut trial.chance, &mut lent.matrices[which][..triangle(n)]);
+            spoil(&mut trial.chance, &mut lent.matrices[which][..length]);
         }
     }
     lent
@@ -567,7 +595,8 @@ fn foreign_steps(trial: &mut Trial) {
         shorten(chance, &mut lent.temperatures, n);
         shorten(chance, &mut lent.carried, n);
         let which = chance.index(3);
-        shorten(chance, &mut lent.matrices[which], triangle(n));
+        let length = kept_of(&lent.table);
+        shorten(chance, &mut lent.matrices[which], length);
         trial.call(&mut lent, Call::Step);
     }
 }

@@ -27,11 +27,26 @@ pub fn disagreement(case: &Case) {
         }
         numbers("temperatures", &lent.temperatures);
         numbers("carried", &lent.carried);
+        println!("starts ({}): {:?}", lent.starts.len(), lent.starts);
     }
     let (right, ours) = (case.by_reference(), case.by_archive());
+    if right == ours {
+        packed(case, &ours);
+        return;
+    }
     println!("reference answers {}", answer(&right));
     println!("archive   answers {}", answer(&ours));
     differences(&right, &ours);
+}
+
+/// Where only the packed form is apart: from reference/'s, or from the kept one.
+fn packed(case: &Case, kept: &Outcome) {
+    if let Some(apart) = case.packed_apart(kept) {
+        println!("apart: {}", apart.words);
+        println!("it must answer {}", answer(&apart.right));
+        println!("and it answers {}", answer(&apart.ours));
+        differences(&apart.right, &apart.ours);
+    }
 }
 
 fn call(case: &Case) -> String {
@@ -80,6 +95,7 @@ fn differences(right: &Outcome, ours: &Outcome) {
     }
     slice("temperatures", &right.temperatures, &ours.temperatures);
     slice("carried", &right.carried, &ours.carried);
+    slice("starts", &right.starts, &ours.starts);
     slice("bounds of the part", &right.part, &ours.part);
 }
 

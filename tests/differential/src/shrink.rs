@@ -1,7 +1,7 @@
 //! Makes a case that disagrees small, by edits after which it still does.
 
 use crate::case::{Call, Case};
-use crate::decks::{triangle, E, F, G, H, M, N, T, V};
+use crate::decks::{expanded, firsts, shrunk, starts_of, triangle, E, F, G, H, M, N, T, V};
 use std::time::{Duration, Instant};
 
 const MOST: Duration = Duration::from_secs(20);
@@ -58,6 +58,7 @@ impl Small {
             }
             if index < 2 {
                 case.lent.matrices.iter_mut().for_each(Vec::clear);
+                case.lent.starts.clear();
             }
             Some(())
         });
@@ -104,6 +105,7 @@ impl Small {
         for which in 0..6 {
             while self.attempt(|case| slice(case, which).pop().map(drop)) {}
         }
+        while self.attempt(|case| case.lent.starts.pop().map(drop)) {}
     }
 
     /// Fields of the cards and of the new one, to smaller numbers.
@@ -250,8 +252,11 @@ fn ordinal(table: &[u32], row: usize) -> u32 {
     cards.filter(|card| alike(card[0])).count() as u32
 }
 
-/// Takes out one card. None where another card names what it describes.
+/// Takes out one card. None where another card names what it describes. What is lent lies as the rest of the deck has it, by its own
+/// starts where they were its own.
 fn without(case: &mut Case, row: usize) -> Option<()> {
+    let before = firsts(&case.lent.table);
+    let own = case.lent.starts.starts_with(&starts_of(&case.lent.table));
     let table = &mut case.lent.table;
     let letter = table[6 * row];
     let trailer = table.len() - 6;
@@ -279,16 +284,35 @@ fn without(case: &mut Case, row: usize) -> Option<()> {
         }
         renumber(new, letter, key)?;
     }
-    if letter == N {
-        let node = key as usize - 1;
-        for matrix in &mut case.lent.matrices {
-            without_node(matrix, nodes, node);
-        }
+    let node = (letter == N).then_some(key as usize - 1);
+    if let Some(node) = node {
         for numbers in [&mut case.lent.temperatures, &mut case.lent.carried] {
             if node < numbers.len() {
                 numbers.remove(node);
             }
         }
+        if node < case.lent.starts.len() {
+            case.lent.starts.remove(node);
+        }
+    }
+    let now = firsts(&case.lent.table);
+    for matrix in &mut case.lent.matrices {
+        let mut packed = expanded(&before, matrix, || 0);
+        let short = triangle(nodes).saturating_sub(packed.len());
+        packed.resize(packed.len() + short, 0);
+        if let Some(node) = node {
+            without_node(&mut packed, nodes, node);
+        }
+        if packed.len() < triangle(now.len()) {
+            return None;
+        }
+        *matrix = shrunk(&now, &packed);
+        matrix.truncate(matrix.len().saturating_sub(short));
+    }
+    if own {
+        let starts = starts_of(&case.lent.table);
+        let length = starts.len().min(case.lent.starts.len());
+        case.lent.starts[..length].copy_from_slice(&starts[..length]);
     }
     Some(())
 }

@@ -206,11 +206,10 @@ pub fn fields(trial: &mut Trial) {
 fn lend(table: &[u32]) -> Lent {
     Lent {
         bytes: vec![b'?'; 7 * table.len()],
-        table: table.to_vec(),
         matrices: [0; 4].map(|_| vec![7; 10]),
         temperatures: vec![i64::from(FRAME); 4],
         carried: vec![0; 4],
-        ..Lent::default()
+        ..Lent::of(table.to_vec())
     }
 }
 
@@ -301,7 +300,9 @@ fn refused_replacements(trial: &mut Trial) {
         }
     }
     for which in 0..4 {
-        ask(11, right, &|lent| lent.matrices[which].truncate(14));
+        ask(11, right, &|lent| {
+            lent.matrices[which].pop();
+        });
     }
     ask(11, right, &|lent| lent.matrices[1][0] = 1 << 34);
     ask(11, right, &|lent| lent.matrices[2][2] = 15);

@@ -1,8 +1,9 @@
 //! Triangles about the limit of thinness, refusal 14, which chance seldom draws. `tests/kernel` takes this file too.
 
 use crate::case::{Call, Lent};
-use crate::decks::{about_thin, triangle, turned, Chance, Groups, E, F, G, H, SIDES, V};
+use crate::decks::{about_thin, turned, Chance, Groups, E, F, G, H, SIDES, V};
 use crate::limits::{built, each_call, same};
+use crate::rows;
 use crate::trial::Trial;
 
 /// Rows of `narrow`: E, H, F, G.
@@ -80,13 +81,7 @@ fn narrow(chance: &mut Chance) -> [[u32; 2]; 3] {
 }
 
 fn lend(groups: &Groups) -> Lent {
-    let nodes = groups.nodes.len();
-    Lent {
-        table: groups.table(),
-        matrices: [0; 4].map(|_| vec![7; triangle(nodes)]),
-        temperatures: vec![19_660_800; nodes],
-        ..Lent::default()
-    }
+    Lent::of(groups.table())
 }
 
 /// Two elements, each flat, thin, stiff, thin and stiff, or none of it; and one of them replaced, beside the other.
@@ -124,10 +119,7 @@ pub fn in_turn(trial: &mut Trial) {
             trial.call(&mut lend(&groups), Call::Build);
             // 1 D, 2-8 N, 9-10 M, 11-12 E, 13-14 F, 15 G.
             for row in 10..15 {
-                let mut lent = Lent {
-                    table: groups.table(),
-                    ..own.clone()
-                };
+                let mut lent = rows::borrowed(&own, groups.table());
                 let call = same(&lent.table, row);
                 trial.call(&mut lent, call);
                 trial.call(&mut lent, Call::Step);

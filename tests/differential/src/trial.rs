@@ -1,11 +1,11 @@
 //! Runs cases on both programs, counts them, and stops at the first that disagrees.
 
-use crate::carried;
 use crate::case::{Call, Case, Lent, MATRICES};
-use crate::decks::{nodes_of, triangle, Chance, NUMBERS};
+use crate::decks::{kept_of, nodes_of, Chance, NUMBERS};
 use crate::met::Met;
 use crate::show;
 use crate::shrink::shrink;
+use crate::{carried, rows};
 use std::process::exit;
 use std::time::{Duration, Instant};
 
@@ -41,12 +41,22 @@ impl Trial {
         (0..EFFORT * count).take_while(move |_| began.elapsed() < most)
     }
 
-    /// Runs one case on both; a step, where its deck is one, also with residuals of any number and size in the place of its own.
+    /// Runs one case on both. Where its deck is one, a step also with residuals of any number and size in the place of its own; and
+    /// in some cases each call that takes starts with others.
     pub fn call(&mut self, lent: &mut Lent, call: Call) -> u64 {
-        let mut other = lent.clone();
+        let other = lent.clone();
         let answer = self.once(lent, call);
-        if call == Call::Step && !(1..=4).contains(&(answer & 255)) {
+        if call.index() < 2 || (1..=4).contains(&(answer & 255)) {
+            return answer;
+        }
+        if call == Call::Step {
+            let mut other = other.clone();
             other.carried = carried::any(&mut self.chance, &other);
+            self.once(&mut other, call);
+        }
+        if self.chance.one_in(4) {
+            let mut other = other;
+            other.starts = rows::any(&mut self.chance, &other);
             self.once(&mut other, call);
         }
         answer
@@ -60,7 +70,7 @@ impl Trial {
             lent: std::mem::take(lent),
         };
         let (right, ours) = (case.by_reference(), case.by_archive());
-        if right != ours {
+        if right != ours || case.packed_apart(&ours).is_some() {
             println!(
                 "a {} disagrees; the case made small:",
                 Call::NAMES[call.index()]
@@ -74,24 +84,30 @@ impl Trial {
         ours.answer
     }
 
-    /// Where the deck builds, P, A and the factor are what the archive makes of it afresh, or the program ends here. So many
+    /// Where the deck builds, P, A, the factor and the starts are what the archive makes of it afresh, or the program ends here. So many
     /// replacements of G cards and of V cards came before.
     pub fn as_built(&mut self, lent: &Lent, replaced: [u32; 2]) {
         let mut anew = lent.clone();
         anew.matrices[..3]
             .iter_mut()
             .for_each(|matrix| matrix.fill(0));
+        anew.starts.fill(u32::MAX);
         if self.call(&mut anew, Call::Build) != 0 {
             return;
         }
-        let n = nodes_of(&lent.table);
-        let apart = |which: usize| {
-            lent.matrices[which][..triangle(n)] != anew.matrices[which][..triangle(n)]
-        };
+        let (n, length) = (nodes_of(&lent.table), kept_of(&lent.table));
+        let apart = |which: usize| lent.matrices[which][..length] != anew.matrices[which][..length];
         if let Some(which) = (0..3).find(|&which| apart(which)) {
             println!(
                 "after replacements {} is not a fresh build's, of the table {:?}",
                 MATRICES[which], lent.table
+            );
+            exit(1);
+        }
+        if lent.starts[..n] != anew.starts[..n] {
+            println!(
+                "after replacements the starts are not a fresh build's, of the table {:?}",
+                lent.table
             );
             exit(1);
         }
@@ -116,7 +132,7 @@ impl Trial {
         self.met.iter().flatten().sum()
     }
 
-    /// Prints what was met. Was every refusal, and all of G, of heats, of residuals, of V and of thin triangles?
+    /// Prints what was met. Was every refusal, and all of G, of heats, of residuals, of V, of thin triangles and of starts?
     pub fn report(&self) -> bool {
         print!("{:8} {:>8} {:>8}", "call", "cases", "done");
         (1..NUMBERS).for_each(|number| print!(" {number:>6}"));
@@ -126,7 +142,9 @@ impl Trial {
             met[1..].iter().for_each(|count| print!(" {count:>6}"));
             println!();
         }
-        let unmet: Vec<usize> = (1..NUMBERS)
+        // 15 and 16 are of records.
+        let unmet: Vec<usize> = (1..15)
+            .chain([17])
             .filter(|&number| self.met.iter().all(|met| met[number] == 0))
             .collect();
         if !unmet.is_empty() {

@@ -15,13 +15,13 @@
 #define ROOM (8 << 20)
 
 enum { CALL_READ, CALL_WRITE, CALL_BUILD, CALL_REPLACE, CALL_STEP };
-enum { P, A, FACTOR, WORK, TEMPERATURES, CARRIED, TABLE, BYTES, BUFFERS };
+enum { P, A, FACTOR, WORK, TEMPERATURES, CARRIED, TABLE, STARTS, BYTES, BUFFERS };
 
 /* Then the buffers in their order, the last one filled up to a multiple of 8 bytes. */
 struct lent {
 	uint64_t answer, start, end;
 	uint32_t call, card, new[GORMULAST_CARD_NUMBERS];
-	uint32_t lengths[BUFFERS];
+	uint32_t lengths[BUFFERS], unused; /* so that it has a multiple of 8 bytes */
 };
 
 static uint8_t *bytes;
@@ -29,7 +29,7 @@ static size_t length;
 
 static size_t size_of(int buffer)
 {
-	return buffer < TABLE ? 8 : buffer == TABLE ? 4 : 1;
+	return buffer < TABLE ? 8 : buffer < BYTES ? 4 : 1;
 }
 
 static uint64_t answer_of(struct lent *lent, void **at)
@@ -42,12 +42,13 @@ static uint64_t answer_of(struct lent *lent, void **at)
 	case CALL_WRITE:
 		return gormulast_write(at[TABLE], n[TABLE], at[BYTES], n[BYTES]);
 	case CALL_BUILD:
-		return gormulast_build(at[TABLE], n[TABLE], at[P], n[P], at[A], n[A], at[FACTOR], n[FACTOR], at[WORK], n[WORK]);
+		return gormulast_build(at[TABLE], n[TABLE], at[P], n[P], at[A], n[A], at[FACTOR], n[FACTOR], at[WORK], n[WORK],
+				       at[STARTS], n[STARTS]);
 	case CALL_REPLACE:
 		return gormulast_replace(at[TABLE], n[TABLE], at[P], n[P], at[A], n[A], at[FACTOR], n[FACTOR], at[WORK], n[WORK],
-					 lent->card, new[0], new[1], new[2], new[3], new[4], new[5]);
+					 at[STARTS], n[STARTS], lent->card, new[0], new[1], new[2], new[3], new[4], new[5]);
 	case CALL_STEP:
-		return gormulast_step(at[TABLE], n[TABLE], at[P], n[P], at[A], n[A], at[FACTOR], n[FACTOR],
+		return gormulast_step(at[TABLE], n[TABLE], at[P], n[P], at[A], n[A], at[FACTOR], n[FACTOR], at[STARTS], n[STARTS],
 				      at[TEMPERATURES], n[TEMPERATURES], at[CARRIED], n[CARRIED]);
 	}
 	return U64_MAX;

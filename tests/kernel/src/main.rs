@@ -2,17 +2,14 @@
 //!
 //!     kernel SEED DIR
 //!
-//! Writes DIR/plan/commands, DIR/plan/ with the decks and cases that they name, and DIR/expected. With the same seed, always the
-//! same.
+//! Writes DIR/plan/commands, DIR/plan/few with those for a module that has few numbers, DIR/plan/ with the decks and cases that they
+//! name, and DIR/expected. With the same seed, always the same.
 
 #[path = "../../differential/src/carried.rs"]
 mod carried;
 #[path = "../../differential/src/case.rs"]
 #[allow(dead_code)]
 mod case;
-#[path = "../../differential/src/plan.rs"]
-#[allow(dead_code)]
-mod cases;
 #[path = "../../../reference/tests/common/mod.rs"]
 mod decks;
 #[path = "../../differential/src/edges.rs"]
@@ -27,19 +24,27 @@ mod met;
 #[path = "../../differential/src/met_carried.rs"]
 #[allow(dead_code)]
 mod met_carried;
+#[path = "../../differential/src/met_rows.rs"]
+#[allow(dead_code)]
+mod met_rows;
 #[path = "../../differential/src/met_solids.rs"]
 #[allow(dead_code)]
 mod met_solids;
 #[path = "../../differential/src/met_thin.rs"]
 #[allow(dead_code)]
 mod met_thin;
+#[path = "../../differential/src/plan.rs"]
+#[allow(dead_code)]
+mod plan;
+#[path = "../../differential/src/rows.rs"]
+mod rows;
 #[path = "../../differential/src/solids.rs"]
 mod solids;
 #[path = "../../differential/src/thin.rs"]
 mod thin;
 
+mod commands;
 mod model;
-mod plan;
 mod record;
 mod trial;
 mod words;
@@ -60,10 +65,12 @@ fn main() -> ExitCode {
         return ExitCode::from(2);
     };
     let mut record = Record::new(seed);
-    plan::all(&mut record);
+    commands::all(&mut record);
+    let mut few = Record::with_room(seed, commands::FEW);
+    commands::few(&mut few);
     let mut trial = Trial::new(seed);
-    plan::lent(&mut trial);
-    match record.write(trial, Path::new(folder)) {
+    commands::lent(&mut trial);
+    match record.write(few, trial, Path::new(folder)) {
         Ok(told) => println!("seed {seed}: {told}"),
         Err(error) => {
             eprintln!("kernel: {error}");

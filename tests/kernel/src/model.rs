@@ -1,7 +1,8 @@
 //! A board's model as the module keeps it, over the calls of reference/.
 
-use crate::decks::{nodes_of, triangle};
-use reference::{build, read, replace, step, write, Answer, Card, Stepped, MAX_NODES, MAX_ROWS};
+use crate::decks::nodes_of;
+use reference::kept::{build, replace, step};
+use reference::{read, write, Answer, Card, Stepped, MAX_NODES, MAX_ROWS};
 
 pub struct Model {
     pub table: Vec<u32>,
@@ -9,19 +10,22 @@ pub struct Model {
     a: Vec<i64>,
     factor: Vec<i64>,
     work: Vec<i64>,
+    starts: Vec<u32>,
     pub temperatures: Vec<i64>,
     pub carried: Vec<i64>,
 }
 
 impl Model {
-    pub fn new() -> Model {
-        let matrix = vec![0; triangle(MAX_NODES)];
+    /// With room for so many numbers in each matrix.
+    pub fn new(numbers: usize) -> Model {
+        let matrix = vec![0; numbers];
         Model {
             table: vec![],
             p: matrix.clone(),
             a: matrix.clone(),
             factor: matrix.clone(),
             work: matrix,
+            starts: vec![0; MAX_NODES],
             temperatures: vec![],
             carried: vec![],
         }
@@ -36,9 +40,14 @@ impl Model {
         }
         table.truncate((end - start) / 7);
         let Model {
-            p, a, factor, work, ..
+            p,
+            a,
+            factor,
+            work,
+            starts,
+            ..
         } = self;
-        let answer = build(&table, p, a, factor, work);
+        let answer = build(&table, p, a, factor, work, starts);
         if answer == Answer::Done {
             self.temperatures = vec![i64::from(table[2]); nodes_of(&table)];
             self.carried = vec![0; nodes_of(&table)];
@@ -54,9 +63,10 @@ impl Model {
             a,
             factor,
             work,
+            starts,
             ..
         } = self;
-        replace(table, p, a, factor, work, card, new)
+        replace(table, p, a, factor, work, starts, card, new)
     }
 
     /// The last answer, and how many steps were done before a refusal.
@@ -68,11 +78,12 @@ impl Model {
                 p,
                 a,
                 factor,
+                starts,
                 temperatures,
                 carried,
                 ..
             } = self;
-            let answer = step(table, p, a, factor, temperatures, carried);
+            let answer = step(table, p, a, factor, starts, temperatures, carried);
             if let Stepped::Refused(_) = answer {
                 return (answer, done);
             }

@@ -1,15 +1,16 @@
 //! The commands, one a line, and what the guest shows of each.
 
-use crate::decks::{Chance, G, NUMBERS, V};
+use crate::decks::{triangle, Chance, G, NUMBERS, V};
 use crate::model::Model;
 use crate::trial::Trial;
 use crate::words;
-use reference::{Answer, Card, Stepped};
+use reference::{Answer, Card, Stepped, MAX_NODES};
 use std::path::Path;
 use std::{fs, io};
 
 pub struct Record {
     pub chance: Chance,
+    numbers: usize,
     pub model: Model,
     /// The words of the last answer.
     answer: String,
@@ -31,10 +32,17 @@ fn number_of(answer: Answer) -> usize {
 }
 
 impl Record {
+    /// For a module with room for any deck.
     pub fn new(seed: u64) -> Record {
+        Record::with_room(seed, triangle(MAX_NODES))
+    }
+
+    /// For one whose matrices have room for so many numbers.
+    pub fn with_room(seed: u64, numbers: usize) -> Record {
         Record {
             chance: Chance::seeded(seed),
-            model: Model::new(),
+            numbers,
+            model: Model::new(numbers),
             answer: "no answer".to_string(),
             commands: vec![],
             decks: vec![],
@@ -62,7 +70,7 @@ impl Record {
     }
 
     pub fn deck(&mut self, bytes: &[u8]) {
-        self.command(format!("deck {}", self.decks.len()));
+        self.command(format!("deck {}-{}", self.numbers, self.decks.len()));
         self.decks.push(bytes.to_vec());
         let answer = self.model.deck(bytes);
         self.met[0][number_of(answer)] += 1;
@@ -108,17 +116,25 @@ impl Record {
             .extend(text.lines().map(|line| format!("{line}$")));
     }
 
-    /// Writes it all, and says how much it is.
-    pub fn write(mut self, trial: Trial, folder: &Path) -> io::Result<String> {
+    /// The commands, one a line, and the decks that they name.
+    fn lay(&self, plan: &Path, name: &str) -> io::Result<()> {
+        for (number, bytes) in self.decks.iter().enumerate() {
+            fs::write(plan.join(format!("{}-{number}", self.numbers)), bytes)?;
+        }
+        fs::write(plan.join(name), self.commands.join("\n") + "\n")
+    }
+
+    /// Writes it all, and says how much it is. The few are for a module with room for so many numbers as DIR/plan/numbers says.
+    pub fn write(mut self, few: Record, trial: Trial, folder: &Path) -> io::Result<String> {
         let plan = folder.join("plan");
         fs::create_dir_all(&plan)?;
-        for (number, bytes) in self.decks.iter().enumerate() {
-            fs::write(plan.join(number.to_string()), bytes)?;
-        }
+        self.lay(&plan, "commands")?;
+        few.lay(&plan, "few")?;
+        fs::write(plan.join("numbers"), format!("{}\n", few.numbers))?;
+        self.shown.extend(few.shown);
         for (name, deck) in ["flat", "solid"].iter().zip(&self.traced) {
             fs::write(plan.join(name), deck)?;
         }
-        fs::write(plan.join("commands"), self.commands.join("\n") + "\n")?;
         let files = trial.write(&plan)?;
         self.shown
             .extend((1..=files).map(|number| format!("lent {number}: as it should be")));

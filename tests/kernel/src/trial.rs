@@ -1,9 +1,9 @@
 //! Cases of the differential test as bytes for the module tests/kernel/lent, and the bytes that it must leave.
 
-use crate::carried;
 use crate::case::{Call, Case, Lent};
 use crate::decks::{Chance, NUMBERS};
 use crate::met::Met;
+use crate::{carried, rows};
 use std::path::Path;
 use std::{fs, io};
 
@@ -41,13 +41,22 @@ impl Trial {
         0..count.div_ceil(SHARE)
     }
 
-    /// A step in four, where its deck is one, also with residuals of any number and size in the place of its own.
+    /// A step in four, where its deck is one, also with residuals of any number and size in the place of its own; and a call in eight
+    /// that takes starts with others.
     pub fn call(&mut self, lent: &mut Lent, call: Call) -> u64 {
-        let mut other = lent.clone();
+        let other = lent.clone();
         let answer = self.once(lent, call);
-        let judged = call == Call::Step && !(1..=4).contains(&(answer & 255));
-        if judged && self.chance.one_in(4) {
+        if call.index() < 2 || (1..=4).contains(&(answer & 255)) {
+            return answer;
+        }
+        if call == Call::Step && self.chance.one_in(4) {
+            let mut other = other.clone();
             other.carried = carried::any(&mut self.chance, &other);
+            self.once(&mut other, call);
+        }
+        if self.chance.one_in(8) {
+            let mut other = other;
+            other.starts = rows::any(&mut self.chance, &other);
             self.once(&mut other, call);
         }
         answer
@@ -78,6 +87,7 @@ impl Trial {
         anew.matrices[..3]
             .iter_mut()
             .for_each(|matrix| matrix.fill(0));
+        anew.starts.fill(u32::MAX);
         if self.call(&mut anew, Call::Build) == 0 {
             self.things.as_built(replaced);
         }
@@ -117,11 +127,14 @@ fn write(to: &mut Vec<u8>, call: Call, lent: &Lent, answer: u64) {
     words(to, &[call.index() as u32, card]);
     words(to, &new);
     words(to, &numbers.map(|buffer| buffer.len() as u32));
-    words(to, &[lent.table.len() as u32, lent.bytes.len() as u32]);
+    // The last fills it up to a multiple of 8 bytes.
+    let [table, starts, bytes] = [lent.table.len(), lent.starts.len(), lent.bytes.len()];
+    words(to, &[table as u32, starts as u32, bytes as u32, 0]);
     for number in numbers.into_iter().flatten() {
         to.extend(number.to_le_bytes());
     }
     words(to, &lent.table);
+    words(to, &lent.starts);
     to.extend(&lent.bytes);
     to.resize(to.len().next_multiple_of(8), 0);
 }

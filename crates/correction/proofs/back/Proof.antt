@@ -1,77 +1,31 @@
--- The invariant: what is left of the substitution below row i is the whole.
+-- z of every row, then the rows from the last.
+use borrow.Author.Needs.{needs}
 use Rattle.correction.proofs.back.Statement.{statement}
 use Rattle.correction.proofs.back.Tie as tie
-use mathlib.Core.Path.{refl}
-use Prim.Native.Nat.{_-_}
-use native.Mathlib.Omega.{arith}
-use borrow.Author.Needs.{needs, sfits-of}
-use Rattle.correction.proofs.Substitution.{BackInv, back-state, back-no, back-yes, back-end}
+use Prim.Native.Nat.{ℕ}
+use mathlib.Core.Path.{_≡_}
+use mathlib.Core.List.{List}
+use lib.IntN.{ℤ}
+use lib.ListN.{length}
+use Rattle.correction.specs.Rows.{zsOf}
+use Rattle.starts.specs.Lent.{by}
+use Rattle.correction.specs.Asks.{Sound, Back, Loose}
+use Rattle.correction.proofs.FromLast.{zs-loose, backed}
 
-abbrev Inv-loop : tie.InvT-loop
-Inv-loop l x₀ n i₀ x i = BackInv l n x₀ x i
+asks : {st : List ℕ} {l ys xs : List ℤ} → Sound st l × Back ys (length st) (length st) → xs ≡ zsOf (by st l) l (length st) ys → Sound st l × Loose xs (length st) (length st)
+asks p e = (p .0, rw e (zs-loose (p .0) (p .1)))
 
-abbrev μ-loop : tie.MeasureT-loop
-μ-loop l x₀ n i₀ x i = i
+zs-requires : tie.Need-zs-requires
+zs-requires c κs = search needs
 
-loop-holds : tie.Need-loop-holds Inv-loop μ-loop
-loop-holds c = record { state = c .pre .1; rest = refl }
+sweep-requires : tie.Need-sweep-requires
+sweep-requires c κs = asks (c .before .before .before .before .before .pre) (c .before .before .zs .ensures)
 
-sub-i : tie.Need-sub-i Inv-loop μ-loop
-sub-i c = search needs
+same-length : tie.Need-same-length
+same-length c = search needs
 
-x-at-requires : tie.Need-x-at-requires Inv-loop μ-loop
-x-at-requires c κs = let v = c .before .before .loop in (omega (arith, v .inv .state .upto), c .before .before .before .pre .0, back-state (v .inv) (v .i - 1) (omega arith))
-
-size-requires : tie.Need-size-requires Inv-loop μ-loop
-size-requires c κs = search needs
-
-add-result : tie.Need-add-result Inv-loop μ-loop
-add-result c = omega (arith, c .before .before .before .before .before .loop .inv .state .upto, c .before .before .before .before .before .before .pre .0 .rows .few)
-
-cast-result : tie.Need-cast-result Inv-loop μ-loop
-cast-result c = omega (arith, c .before .before .before .before .before .loop .inv .state .upto, c .before .before .before .before .before .before .pre .0 .rows .few)
-
-same-length : tie.Need-same-length Inv-loop μ-loop
-same-length c = omega (arith, c .before .before .before .before .before .loop .inv .state .long, c .before .before .before .before .before .before .pre .1 .long)
-
-returns : tie.Need-returns Inv-loop μ-loop
-returns c = let v = c .before .before .before .before .before .loop in back-no (v .inv) (v .i - 1) (omega arith) (c .before .before .x-at .result) (sfits-of (c .before .before .x-at .ok)) (c .before .before .x-at .ensures) (c .before .size .result) (c .before .size .ensures) (c .if1 .taken)
-
-mul-v : tie.Need-mul-v Inv-loop μ-loop
-mul-v c = omega (arith, c .before .before .before .before .before .loop .inv .state .upto, c .before .before .before .before .before .loop .inv .state .long)
-
-slice-set-from-v : tie.Need-slice-set-from-v Inv-loop μ-loop
-slice-set-from-v c = omega (arith, c .before .before .before .before .before .loop .inv .state .upto, c .before .before .before .before .before .loop .inv .state .long)
-
-loop-less : tie.Need-loop-less Inv-loop μ-loop
-loop-less c = search needs
-
-loop-again : tie.Need-loop-again Inv-loop μ-loop
-loop-again c = let v = c .before .before .before .before .before .loop in back-yes (v .inv) (v .i - 1) (omega arith) (c .before .before .x-at .result) (sfits-of (c .before .before .x-at .ok)) (c .before .before .x-at .ensures) (c .before .size .result) (c .before .size .ensures) (c .if1 .left)
-
-same-length-2 : tie.Need-same-length-2 Inv-loop μ-loop
-same-length-2 c = omega (arith, c .before .loop .inv .state .long, c .before .before .pre .1 .long)
-
-returns-2 : tie.Need-returns-2 Inv-loop μ-loop
-returns-2 c = back-end (c .before .loop .inv) (omega arith)
+returns : tie.Need-returns
+returns c = backed (c .before .before .before .before .before .before .before .pre .0) (c .before .before .before .before .before .before .before .pre .1) (c .before .before .before .before .zs .ensures) (c .before .sweep .ensures)
 
 pub back-spec : {M : Type 1} → statement M
-back-spec =
-    tie.close
-    (tie.spec
-    Inv-loop
-    μ-loop
-    loop-holds
-    sub-i
-    x-at-requires
-    size-requires
-    add-result
-    cast-result
-    same-length
-    returns
-    mul-v
-    slice-set-from-v
-    loop-less
-    loop-again
-    same-length-2
-    returns-2)
+back-spec = tie.close (tie.spec zs-requires sweep-requires same-length returns)

@@ -11,7 +11,7 @@ use mir.Syntax.{w64}
 use mir.Val.{toZ}
 use Rattle.whole.proofs.Calc.{fits, again}
 use Rattle.correction.specs.Asks.{leftTerm}
-use Rattle.correction.proofs.Substitution.{low-asks, left-more}
+use Rattle.correction.proofs.AlongRows.{low-asks, left-more}
 
 abbrev Inv-loop : tie.InvT-loop
 Inv-loop l at y n sum₀ k₀ sum k = (k ≤ n) × (toZ w64 sum ≡ total k (leftTerm l at y))

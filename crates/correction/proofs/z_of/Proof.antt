@@ -3,7 +3,7 @@ use Rattle.correction.proofs.z_of.Statement.{statement}
 use Rattle.correction.proofs.z_of.Tie as tie
 use lib.Dec.{lit<}
 use Rattle.whole.proofs.Calc.{fits}
-use Rattle.correction.proofs.Substitution.{scale-is, z-asks, quotient-is}
+use Rattle.correction.proofs.FromLast.{scale-is, z-asks, quotient-is}
 
 mul-nearest : tie.Need-mul-nearest
 mul-nearest c = fits (scale-is (c .args .y) (c .fits .y) (c .pre .0)) (lit< tt)

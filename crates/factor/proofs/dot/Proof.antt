@@ -1,9 +1,12 @@
 -- The sum so far is the sum of the terms so far: at most 96 terms of at most 2^42.
+use Rattle.factor.proofs.dot.Statement.{statement}
+use Rattle.factor.proofs.dot.Tie as tie
 use mathlib.Core.Path.{_≡_, refl, sym, _∙_, ap}
 use Prim.Native.Nat.{ℕ, _+_, _*_, _-_, _^_, _≤_, _<_}
 use native.Mathlib.Omega.{arith}
 use lib.Dec.{lit<}
 use lib.IntN.{ℤ, natAbs, _+ℤ_, _*ℤ_}
+use lib.Signed.{mag}
 use lib.ListN.{length}
 use mathlib.Core.List.{List}
 use mir.Syntax.{w64}
@@ -15,8 +18,6 @@ use Rattle.whole.proofs.Rounding.{scaled-size}
 use Rattle.whole.proofs.Calc.{Is, rd, num, res, of, is, plus, times, fits, again, size-of}
 use Rattle.paper.specs.Factor.{R}
 use Rattle.factor.specs.Asks.{Terms}
-use Rattle.factor.proofs.dot.Statement.{statement}
-use Rattle.factor.proofs.dot.Tie as tie
 
 abbrev term : List ℤ → List ℤ → ℕ → ℤ
 term ls ws k = R (cell ls k *ℤ cell ws k)
@@ -41,6 +42,14 @@ module _ {ls ws : List ℤ} (ask : Terms ls ws) (k : ℕ) (h : k < length ls) wh
 sum-size : {ls ws : List ℤ} → Terms ls ws → (k : ℕ) → k ≤ length ls → natAbs (sums.sum k (term ls ws)) ≤ 96 * 2 ^ 42
 sum-size {ls} {ws} ask k h = omega (arith, sum-size-each k (term ls ws) (2 ^ 42) (λ i l. term-size ask i (omega arith)), ask .few)
 
+-- the sum and one term more
+module _ {ls ws : List ℤ} (ask : Terms ls ws) (sum : ℕ) {k : ℕ} (e : toZ w64 sum ≡ sums.sum k (term ls ws)) (h : k < length ls) {z : ℤ} (oz : mag z < 2 ^ 63) (ez : z ≡ R (rd (cell ls k) *ℤ rd (cell ws k))) where
+  next : Is (toZ w64 sum +ℤ rd z) (sums.sum k (term ls ws) +ℤ term ls ws k) (96 * 2 ^ 42 + 2 ^ 42)
+  next = plus (is e (sum-size ask k (omega arith))) (res oz (ez ∙ ap R (times (l-is ask k h) (w-is ask k h) .eq)) (of (term-size ask k h)))
+
+  more : rd (toZ w64 sum +ℤ rd z) ≡ sums.sum (k + 1) (term ls ws)
+  more = again next (lit< tt) .eq ∙ sym (sum-more k (term ls ws))
+
 loop-holds : tie.Need-loop-holds Inv-loop μ-loop
 unfolding sums.sum
 loop-holds c = (omega arith, refl)
@@ -58,28 +67,10 @@ shared-slice-copy-out-scaled-product-2 : tie.Need-shared-slice-copy-out-scaled-p
 shared-slice-copy-out-scaled-product-2 c = omega arith
 
 scaled-product-requires : tie.Need-scaled-product-requires Inv-loop μ-loop
-scaled-product-requires c κs =
-    let e = c .before .before .before .before in
-    let k = c .before .before .before .loop .k in
-    (size-of (l-is (e .pre) k (omega arith)), size-of (w-is (e .pre) k (omega arith)))
-
--- the sum and one term more
-next : (c : tie.After-scaled-product Inv-loop μ-loop)
-    → let e = c .before .before .before .before .before in
-    let v = c .before .before .before .before .loop in
-    Is (toZ w64 (v .sum) +ℤ rd (c .scaled-product .result)) (sums.sum (v .k) (term (e .args .ls .now) (e .args .ws .now)) +ℤ term (e .args .ls .now) (e .args .ws .now) (v .k)) (96 * 2 ^ 42 + 2 ^ 42)
-next c =
-    let e = c .before .before .before .before .before in
-    let v = c .before .before .before .before .loop in
-    let ls = e .args .ls .now in
-    let ws = e .args .ws .now in
-    let h : v .k < length ls = omega arith in
-    let p = times (l-is (e .pre) (v .k) h) (w-is (e .pre) (v .k) h) in
-    plus (is (v .inv .1) (sum-size (e .pre) (v .k) (v .inv .0)))
-    (res (c .scaled-product .ok) (c .scaled-product .ensures ∙ ap R (p .eq)) (of (term-size (e .pre) (v .k) h)))
+scaled-product-requires c κs = (size-of (l-is (c .before .before .before .before .pre) (c .before .before .before .loop .k) (omega arith)), size-of (w-is (c .before .before .before .before .pre) (c .before .before .before .loop .k) (omega arith)))
 
 add-sum : tie.Need-add-sum Inv-loop μ-loop
-add-sum c = fits (next c) (lit< tt)
+add-sum c = fits (next (c .before .before .before .before .before .pre) (c .before .before .before .before .loop .sum) (c .before .before .before .before .loop .inv .1) (omega arith) (c .scaled-product .ok) (c .scaled-product .ensures)) (lit< tt)
 
 add-k : tie.Need-add-k Inv-loop μ-loop
 add-k c = omega arith
@@ -88,9 +79,7 @@ loop-less : tie.Need-loop-less Inv-loop μ-loop
 loop-less c = omega arith
 
 loop-again : tie.Need-loop-again Inv-loop μ-loop
-loop-again c =
-    let e = c .before .before .before .before .before in
-    (omega arith, again (next c) (lit< tt) .eq ∙ sym (sum-more (c .before .before .before .before .loop .k) (term (e .args .ls .now) (e .args .ws .now))))
+loop-again c = (omega arith, more (c .before .before .before .before .before .pre) (c .before .before .before .before .loop .sum) (c .before .before .before .before .loop .inv .1) (omega arith) (c .scaled-product .ok) (c .scaled-product .ensures))
 
 returns : tie.Need-returns Inv-loop μ-loop
 returns c =

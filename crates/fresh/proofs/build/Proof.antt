@@ -1,16 +1,44 @@
 use borrow.Author.Needs.{needs}
 use Rattle.fresh.proofs.build.Statement.{statement}
 use Rattle.fresh.proofs.build.Tie as tie
-use mathlib.Core.Path.{_≡_, sym, ap, _∙_}
+use mathlib.Core.Path.{refl, sym, ap, _∙_}
+use mathlib.Core.List.{[]}
 use native.Mathlib.Omega.{arith}
-use Rattle.whole.specs.Packed.{matrix}
-use Rattle.fresh.proofs.Built.{fit, lengths, build-refused, build-ended}
+use Rattle.paper.specs.Refusals.{andThen}
+use Rattle.paper.specs.KeptCalls.{kept, keptRoomy, lengthsJudged}
+use Rattle.paper.specs.declared.Answer.{Answer}
+use Rattle.laws.proofs.Judged.{deck}
+use Rattle.laws.proofs.KeptCalls.{build-refused}
+use Rattle.fresh.proofs.Own.{array-part}
 
-ready-requires : tie.Need-ready-requires
-ready-requires c κs = search needs
+judge-requires : tie.Need-judge-requires
+judge-requires c κs = search needs
 
 enum-known-r : tie.Need-enum-known-r
 enum-known-r c = search needs
+
+returns : tie.Need-returns
+returns c =
+    let z = kept (c .before .before .before .before .before .before .args .table .now) (c .before .before .before .before .before .before .args .p .now) (c .before .before .before .before .before .before .args .a .now) (c .before .before .before .before .before .before .args .factor .now) (c .before .before .before .before .before .before .args .work .now) (c .before .before .before .before .before .before .args .starts .now) [] [] in
+    build-refused z (c .before .r .given .0 .0) (ap (λ (x : Answer). andThen x (lengthsJudged z (keptRoomy (c .before .before .before .before .before .before .args .table .now) (c .before .before .before .before .before .before .args .work .now)))) (sym (c .before .before .before .judge .ensures) ∙ c .before .r .given .1))
+
+enum-told : tie.Need-enum-told
+enum-told c = search needs
+
+nodes-requires : tie.Need-nodes-requires
+nodes-requires c κs = deck (c .before .before .before .before .before .args .table .now) (sym (c .before .before .judge .ensures) ∙ c .enum-told .given .1)
+
+sub-by-own : tie.Need-sub-by-own
+sub-by-own c = search needs
+
+part-own-start : tie.Need-part-own-start
+part-own-start c = search needs
+
+part-own-end : tie.Need-part-own-end
+part-own-end c = omega (arith, c .before .before .before .before .before .nodes .ensures, deck (c .before .before .before .before .before .before .before .before .before .before .before .args .table .now) (sym (c .before .before .before .before .before .before .before .before .judge .ensures) ∙ c .before .before .before .before .before .before .enum-told .given .1) .someN)
+
+by-own-requires : tie.Need-by-own-requires
+by-own-requires c κs = (sym (c .before .before .before .before .before .before .before .before .before .judge .ensures) ∙ c .before .before .before .before .before .before .before .enum-told .given .1, array-part _ refl (c .before .before .before .before .before .before .nodes .ensures) (deck (c .before .before .before .before .before .before .before .before .before .before .before .before .args .table .now) (sym (c .before .before .before .before .before .before .before .before .before .judge .ensures) ∙ c .before .before .before .before .before .before .before .enum-told .given .1) .someN .1))
 
 same-length : tie.Need-same-length
 same-length c = search needs
@@ -24,103 +52,28 @@ same-length-3 c = search needs
 same-length-4 : tie.Need-same-length-4
 same-length-4 c = search needs
 
-returns : tie.Need-returns
-returns c = build-refused (c .before .before .before .before .before .before .before .before .before .args .table .now) (c .before .before .before .before .before .before .before .before .before .args .p .now) (c .before .before .before .before .before .before .before .before .before .args .a .now) (c .before .before .before .before .before .before .before .before .before .args .factor .now) (c .before .before .before .before .before .before .before .before .before .args .work .now) (c .before .r .given .0 .0) (c .before .r .given .1) (c .before .before .before .ready .ensures)
-
-enum-told : tie.Need-enum-told
-enum-told c = search needs
-
-nodes-requires : tie.Need-nodes-requires
-nodes-requires c κs = fit (c .before .before .before .before .before .before .before .before .args .table .now) (c .before .before .before .before .before .before .before .before .args .p .now) (c .before .before .before .before .before .before .before .before .args .a .now) (c .before .before .before .before .before .before .before .before .args .factor .now) (c .before .before .before .before .before .before .before .before .args .work .now) (sym (c .before .before .ready .ensures) ∙ c .enum-told .given .1) .sound .deck
-
-matrix-requires : tie.Need-matrix-requires
-matrix-requires c κs = omega (arith, c .nodes .ensures, fit (c .before .before .before .before .before .before .before .before .before .args .table .now) (c .before .before .before .before .before .before .before .before .before .args .p .now) (c .before .before .before .before .before .before .before .before .before .args .a .now) (c .before .before .before .before .before .before .before .before .before .args .factor .now) (c .before .before .before .before .before .before .before .before .before .args .work .now) (sym (c .before .before .before .ready .ensures) ∙ c .before .enum-told .given .1) .sound .deck .someN)
-
-sub-made : tie.Need-sub-made
-sub-made c = search needs
-
-part-made-start : tie.Need-part-made-start
-part-made-start c = search needs
-
-part-made-end : tie.Need-part-made-end
-part-made-end c = omega (arith, c .matrix .ensures, ap matrix (c .before .nodes .ensures), fit (c .before .before .before .before .before .before .before .before .before .before .args .table .now) (c .before .before .before .before .before .before .before .before .before .before .args .p .now) (c .before .before .before .before .before .before .before .before .before .before .args .a .now) (c .before .before .before .before .before .before .before .before .before .before .args .factor .now) (c .before .before .before .before .before .before .before .before .before .before .args .work .now) (sym (c .before .before .before .before .ready .ensures) ∙ c .before .before .enum-told .given .1) .for-p)
-
-sub-made-2 : tie.Need-sub-made-2
-sub-made-2 c = search needs
-
-part-made-start-2 : tie.Need-part-made-start-2
-part-made-start-2 c = search needs
-
-part-made-end-2 : tie.Need-part-made-end-2
-part-made-end-2 c = omega (arith, c .before .matrix .ensures, ap matrix (c .before .before .nodes .ensures), fit (c .before .before .before .before .before .before .before .before .before .before .before .args .table .now) (c .before .before .before .before .before .before .before .before .before .before .before .args .p .now) (c .before .before .before .before .before .before .before .before .before .before .before .args .a .now) (c .before .before .before .before .before .before .before .before .before .before .before .args .factor .now) (c .before .before .before .before .before .before .before .before .before .before .before .args .work .now) (sym (c .before .before .before .before .before .ready .ensures) ∙ c .before .before .before .enum-told .given .1) .for-a)
-
-sub-made-3 : tie.Need-sub-made-3
-sub-made-3 c = search needs
-
-part-made-start-3 : tie.Need-part-made-start-3
-part-made-start-3 c = search needs
-
-part-made-end-3 : tie.Need-part-made-end-3
-part-made-end-3 c = omega (arith, c .before .before .matrix .ensures, ap matrix (c .before .before .before .nodes .ensures), fit (c .before .before .before .before .before .before .before .before .before .before .before .before .args .table .now) (c .before .before .before .before .before .before .before .before .before .before .before .before .args .p .now) (c .before .before .before .before .before .before .before .before .before .before .before .before .args .a .now) (c .before .before .before .before .before .before .before .before .before .before .before .before .args .factor .now) (c .before .before .before .before .before .before .before .before .before .before .before .before .args .work .now) (sym (c .before .before .before .before .before .before .ready .ensures) ∙ c .before .before .before .before .enum-told .given .1) .for-f)
-
-sub-made-4 : tie.Need-sub-made-4
-sub-made-4 c = search needs
-
-part-made-start-4 : tie.Need-part-made-start-4
-part-made-start-4 c = search needs
-
-part-made-end-4 : tie.Need-part-made-end-4
-part-made-end-4 c = omega (arith, c .before .before .before .matrix .ensures, ap matrix (c .before .before .before .before .nodes .ensures), fit (c .before .before .before .before .before .before .before .before .before .before .before .before .before .args .table .now) (c .before .before .before .before .before .before .before .before .before .before .before .before .before .args .p .now) (c .before .before .before .before .before .before .before .before .before .before .before .before .before .args .a .now) (c .before .before .before .before .before .before .before .before .before .before .before .before .before .args .factor .now) (c .before .before .before .before .before .before .before .before .before .before .before .before .before .args .work .now) (sym (c .before .before .before .before .before .before .before .ready .ensures) ∙ c .before .before .before .before .before .enum-told .given .1) .for-w)
-
-made-requires : tie.Need-made-requires
-made-requires c κs =
-    let h = fit (c .before .before .before .before .before .before .before .before .before .before .before .before .before .before .args .table .now) (c .before .before .before .before .before .before .before .before .before .before .before .before .before .before .args .p .now) (c .before .before .before .before .before .before .before .before .before .before .before .before .before .before .args .a .now) (c .before .before .before .before .before .before .before .before .before .before .before .before .before .before .args .factor .now) (c .before .before .before .before .before .before .before .before .before .before .before .before .before .before .args .work .now) (sym (c .before .before .before .before .before .before .before .before .ready .ensures) ∙ c .before .before .before .before .before .before .enum-told .given .1) in
-    (h .sound, lengths (c .before .before .before .before .matrix .result) h (c .before .before .before .before .matrix .ensures ∙ ap matrix (c .before .before .before .before .before .nodes .ensures)))
-
 same-length-5 : tie.Need-same-length-5
 same-length-5 c = search needs
 
-same-length-6 : tie.Need-same-length-6
-same-length-6 c = search needs
-
-same-length-7 : tie.Need-same-length-7
-same-length-7 c = search needs
-
-same-length-8 : tie.Need-same-length-8
-same-length-8 c = search needs
-
 returns-2 : tie.Need-returns-2
-returns-2 c = build-ended (c .before .before .before .before .before .before .before .before .before .before .before .before .before .before .before .before .before .before .before .args .table .now) (c .before .before .before .before .before .before .before .before .before .before .before .before .before .before .before .before .before .before .before .args .p .now) (c .before .before .before .before .before .before .before .before .before .before .before .before .before .before .before .before .before .before .before .args .a .now) (c .before .before .before .before .before .before .before .before .before .before .before .before .before .before .before .before .before .before .before .args .factor .now) (c .before .before .before .before .before .before .before .before .before .before .before .before .before .before .before .before .before .before .before .args .work .now) (c .before .before .before .before .before .before .before .before .before .matrix .result) (sym (c .before .before .before .before .before .before .before .before .before .before .before .before .before .ready .ensures) ∙ c .before .before .before .before .before .before .before .before .before .before .before .enum-told .given .1) (c .before .before .before .before .before .before .before .before .before .matrix .ensures ∙ ap matrix (c .before .before .before .before .before .before .before .before .before .before .nodes .ensures)) (c .before .before .before .before .made .ensures)
+returns-2 c = c .before .before .before .before .before .before .before .by-own .ensures
 
 pub build-spec : {M : Type 1} → statement M
 build-spec =
     tie.close
     (tie.spec
-    ready-requires
+    judge-requires
     enum-known-r
+    returns
+    enum-told
+    nodes-requires
+    sub-by-own
+    part-own-start
+    part-own-end
+    by-own-requires
     same-length
     same-length-2
     same-length-3
     same-length-4
-    returns
-    enum-told
-    nodes-requires
-    matrix-requires
-    sub-made
-    part-made-start
-    part-made-end
-    sub-made-2
-    part-made-start-2
-    part-made-end-2
-    sub-made-3
-    part-made-start-3
-    part-made-end-3
-    sub-made-4
-    part-made-start-4
-    part-made-end-4
-    made-requires
     same-length-5
-    same-length-6
-    same-length-7
-    same-length-8
     returns-2)

@@ -3,7 +3,8 @@ use Rattle.gormulast.proofs.gormulast_replace.Statement.{statement}
 use Rattle.gormulast.proofs.gormulast_replace.Tie as tie
 use mathlib.Core.Path.{ap, _∙_}
 use Rattle.paper.specs.Refusals.{told, packed}
-use Rattle.paper.specs.Calls.{Exit, gave}
+use Rattle.paper.specs.Calls.{gave}
+use Rattle.paper.specs.KeptCalls.{KeptExit}
 
 replace-requires : tie.Need-replace-requires
 replace-requires c κs = search needs
@@ -29,8 +30,8 @@ same-length-5 c = search needs
 returns : tie.Need-returns
 returns c =
     let e = c .before .before .before .before .before .before .before .replace .ensures in
-    let answer = c .packed-answer .ensures ∙ ap (λ (x : Exit). packed (told (x .answer))) e in
-    let rest = ap (λ (x : Exit). x .lent) e in
+    let answer = c .packed-answer .ensures ∙ ap (λ (x : KeptExit). packed (told (x .answer))) e in
+    let rest = ap (λ (x : KeptExit). x .kept) e in
     λ i. gave (answer i) (rest i)
 
 pub gormulast-replace-spec : {M : Type 1} → statement M

@@ -3,7 +3,8 @@ use Rattle.gormulast.proofs.gormulast_step.Statement.{statement}
 use Rattle.gormulast.proofs.gormulast_step.Tie as tie
 use mathlib.Core.Path.{ap, _∙_}
 use Rattle.paper.specs.Refusals.{toldStep, packed}
-use Rattle.paper.specs.Calls.{StepExit, gave}
+use Rattle.paper.specs.Calls.{gave}
+use Rattle.paper.specs.KeptCalls.{KeptStepExit}
 
 step-requires : tie.Need-step-requires
 step-requires c κs = search needs
@@ -20,8 +21,8 @@ same-length-2 c = search needs
 returns : tie.Need-returns
 returns c =
     let e = c .before .before .before .step .ensures in
-    let answer = c .packed-step .ensures ∙ ap (λ (x : StepExit). packed (toldStep (x .answer))) e in
-    let rest = ap (λ (x : StepExit). x .lent) e in
+    let answer = c .packed-step .ensures ∙ ap (λ (x : KeptStepExit). packed (toldStep (x .answer))) e in
+    let rest = ap (λ (x : KeptStepExit). x .kept) e in
     λ i. gave (answer i) (rest i)
 
 pub gormulast-step-spec : {M : Type 1} → statement M

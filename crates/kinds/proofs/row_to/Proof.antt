@@ -46,7 +46,7 @@ same-length c = search needs
 returns : tie.Need-returns Inv-loop μ-loop
 returns c =
     let l = c .before .loop in
-    copy-end (c .before .before .args .t1) (l .out) (l .k) (search needs) (l .inv .1) (omega arith) (l .inv .2)
+    copy-end 6 (c .before .before .args .t1) (l .out) (l .k) (search needs) (l .inv .1) (omega arith) (l .inv .2)
 
 pub row-to-spec : {M : Type 1} → statement M
 row-to-spec =

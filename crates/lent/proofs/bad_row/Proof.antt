@@ -1,65 +1,65 @@
 use borrow.Author.Needs.{needs}
 use Rattle.lent.proofs.bad_row.Statement.{statement}
 use Rattle.lent.proofs.bad_row.Tie as tie
-use mathlib.Core.Path.{refl}
-use Prim.Native.Nat.{_+_, _-_}
+use mathlib.Core.Path.{_≡_, refl, ap, _∙_}
+use Prim.Native.Nat.{ℕ, _-_}
 use native.Mathlib.Omega.{arith}
 use lib.ListN.{take, drop, length}
 use borrow.Author.Needs.{needs, sfits-of}
-use Rattle.whole.proofs.Packed.{tri-below, tri-96}
-use Rattle.lent.proofs.Turns.{row-large, row-end}
+use Rattle.starts.proofs.Lent.{some}
+use Rattle.lent.proofs.Turns.{row-in, row-large, row-end}
 
 start-requires : tie.Need-start-requires
-start-requires c κs = search needs
+start-requires c κs = c .before .pre .here
 
-add-largest : tie.Need-add-largest
-add-largest c = let s = c .before .args in omega (arith, c .start .ensures, tri-below (s .i) (s .n) (c .before .pre .here), c .before .pre .rows .room)
+end-requires : tie.Need-end-requires
+end-requires c κs = c .before .before .pre .here
+
+sub-d : tie.Need-sub-d
+sub-d c = omega (arith, c .end .ensures, some (c .before .before .before .pre .lent) (c .before .before .before .args .i) (c .before .before .before .pre .here))
 
 mul-largest : tie.Need-mul-largest
-mul-largest c = let s = c .before .args in omega (arith, c .start .ensures, tri-below (s .i) (s .n) (c .before .pre .here), c .before .pre .rows .room, tri-96 (s .n) (c .before .pre .rows .few))
+mul-largest c = let s = c .before .before .before .args in let (h, k) = row-in (s .starts .now) (s .l .now) (s .i) (c .before .before .before .pre) (c .before .start .result) (c .end .result - 1) (c .before .start .ensures) (ap (λ (k : ℕ). k - 1) (c .end .ensures)) in omega arith
 
 sub-largest : tie.Need-sub-largest
-sub-largest c = let s = c .before .args in omega (arith, c .start .ensures, tri-below (s .i) (s .n) (c .before .pre .here), c .before .pre .rows .room)
+sub-largest c = let s = c .before .before .before .args in row-in (s .starts .now) (s .l .now) (s .i) (c .before .before .before .pre) (c .before .start .result) (c .end .result - 1) (c .before .start .ensures) (ap (λ (k : ℕ). k - 1) (c .end .ensures)) .0
 
 part-largest-start : tie.Need-part-largest-start
-part-largest-start c = let s = c .before .args in omega (arith, c .start .ensures, tri-below (s .i) (s .n) (c .before .pre .here), c .before .pre .rows .room)
+part-largest-start c = let s = c .before .before .before .args in row-in (s .starts .now) (s .l .now) (s .i) (c .before .before .before .pre) (c .before .start .result) (c .end .result - 1) (c .before .start .ensures) (ap (λ (k : ℕ). k - 1) (c .end .ensures)) .0
 
 part-largest-end : tie.Need-part-largest-end
-part-largest-end c = let s = c .before .args in omega (arith, c .start .ensures, tri-below (s .i) (s .n) (c .before .pre .here), c .before .pre .rows .room)
+part-largest-end c = let s = c .before .before .before .args in let (h, k) = row-in (s .starts .now) (s .l .now) (s .i) (c .before .before .before .pre) (c .before .start .result) (c .end .result - 1) (c .before .start .ensures) (ap (λ (k : ℕ). k - 1) (c .end .ensures)) in omega arith
 
 largest-requires : tie.Need-largest-requires
 largest-requires c κs = search needs
 
-add-pivot : tie.Need-add-pivot
-add-pivot c = let s = c .before .before .before .before .args in omega (arith, c .before .before .before .start .ensures, tri-below (s .i) (s .n) (c .before .before .before .before .pre .here), c .before .before .before .before .pre .rows .room)
-
 mul-pivot : tie.Need-mul-pivot
-mul-pivot c = let s = c .before .before .before .before .args in omega (arith, c .before .before .before .start .ensures, tri-below (s .i) (s .n) (c .before .before .before .before .pre .here), c .before .before .before .before .pre .rows .room)
+mul-pivot c = let s = c .before .before .before .before .before .before .args in let (h, k) = row-in (s .starts .now) (s .l .now) (s .i) (c .before .before .before .before .before .before .pre) (c .before .before .before .before .start .result) (c .before .before .before .end .result - 1) (c .before .before .before .before .start .ensures) (ap (λ (k : ℕ). k - 1) (c .before .before .before .end .ensures)) in omega arith
 
 shared-slice-copy-out-pivot : tie.Need-shared-slice-copy-out-pivot
-shared-slice-copy-out-pivot c = let s = c .before .before .before .before .args in omega (arith, c .before .before .before .start .ensures, tri-below (s .i) (s .n) (c .before .before .before .before .pre .here), c .before .before .before .before .pre .rows .room)
+shared-slice-copy-out-pivot c = let s = c .before .before .before .before .before .before .args in row-in (s .starts .now) (s .l .now) (s .i) (c .before .before .before .before .before .before .pre) (c .before .before .before .before .start .result) (c .before .before .before .end .result - 1) (c .before .before .before .before .start .ensures) (ap (λ (k : ℕ). k - 1) (c .before .before .before .end .ensures)) .1
 
 pivot-requires : tie.Need-pivot-requires
 pivot-requires c κs = search needs
 
 returns : tie.Need-returns
-returns c = let s = c .before .before .before .before .args in let at = c .before .before .before .start .result in row-large (s .l .now) (s .i) at (c .before .before .before .start .ensures) (omega (arith, c .before .before .before .start .ensures, tri-below (s .i) (s .n) (c .before .before .before .before .pre .here), c .before .before .before .before .pre .rows .room)) (take (at + s .i - at) (drop at (s .l .now))) refl (c .before .largest .result) (c .before .largest .ensures) (c .if1 .taken)
+returns c = let s = c .before .before .before .before .before .before .args in row-large (s .starts .now) (s .l .now) (s .i) (c .before .before .before .before .before .before .pre) (c .before .before .before .before .start .result) (c .before .before .before .end .result - 1) (c .before .before .before .before .start .ensures) (ap (λ (k : ℕ). k - 1) (c .before .before .before .end .ensures)) (take (c .before .before .before .end .result - 1 - c .before .before .before .before .start .result) (drop (c .before .before .before .before .start .result) (s .l .now))) refl (c .before .largest .result) (c .before .largest .ensures) (c .if1 .taken)
 
 returns-2 : tie.Need-returns-2
-returns-2 c = let s = c .before .before .before .before .before .before .args in let at = c .before .before .before .before .before .start .result in row-end (s .l .now) (s .i) at (c .before .before .before .before .before .start .ensures) (omega (arith, c .before .before .before .before .before .start .ensures, tri-below (s .i) (s .n) (c .before .before .before .before .before .before .pre .here), c .before .before .before .before .before .before .pre .rows .room)) (take (at + s .i - at) (drop at (s .l .now))) refl (c .before .before .before .largest .result) (c .before .before .before .largest .ensures) (c .before .before .if1 .left) (sfits-of (c .before .pivot-arg .given)) (c .pivot .result) (c .pivot .ensures)
+returns-2 c = let s = c .before .before .before .before .before .before .before .before .args in row-end (s .starts .now) (s .l .now) (s .i) (c .before .before .before .before .before .before .before .before .pre) (c .before .before .before .before .before .before .start .result) (c .before .before .before .before .before .end .result - 1) (c .before .before .before .before .before .before .start .ensures) (ap (λ (k : ℕ). k - 1) (c .before .before .before .before .before .end .ensures)) (take (c .before .before .before .before .before .end .result - 1 - c .before .before .before .before .before .before .start .result) (drop (c .before .before .before .before .before .before .start .result) (s .l .now))) refl (c .before .before .before .largest .result) (c .before .before .before .largest .ensures) (c .before .before .if1 .left) (sfits-of (c .before .pivot-arg .given)) (c .pivot .result) (c .pivot .ensures)
 
 pub bad-row-spec : {M : Type 1} → statement M
 bad-row-spec =
     tie.close
     (tie.spec
     start-requires
-    add-largest
+    end-requires
+    sub-d
     mul-largest
     sub-largest
     part-largest-start
     part-largest-end
     largest-requires
-    add-pivot
     mul-pivot
     shared-slice-copy-out-pivot
     pivot-requires

@@ -8,7 +8,7 @@ largest-requires : tie.Need-largest-requires
 largest-requires c κs = search needs
 
 returns : tie.Need-returns
-returns c = light-all (c .before .before .args .m .now) (c .before .before .args .n) (c .before .largest .result) (c .before .before .pre .few) (c .before .before .pre .room) (c .before .largest .ensures) (omega (arith, c .if1 .taken))
+returns c = light-all (c .before .before .before .args .starts .now) (c .before .before .before .args .m .now) (c .before .largest .result) (c .before .before .before .pre .few) (c .before .largest .ensures) (omega (arith, c .if1 .taken))
 
 heavy-rows-requires : tie.Need-heavy-rows-requires
 heavy-rows-requires c κs = search needs

@@ -13,37 +13,37 @@ adds-requires : tie.Need-adds-requires
 adds-requires c κs = search needs
 
 returns : tie.Need-returns
-returns c = stays (c .before .before .before .before .args .all) (c .before .before .before .before .args .table .now) (c .before .before .before .before .args .row) (c .before .before .field .ensures) (c .before .adds .ensures) (c .if1 .taken) (c .before .before .before .before .args .xs .now) (c .before .before .before .before .pre)
+returns c = stays (c .before .before .before .before .before .args .all) (c .before .before .before .before .before .args .table .now) (c .before .before .before .before .before .args .row) (c .before .before .field .ensures) (c .before .adds .ensures) (c .if1 .taken) (c .before .before .before .before .before .args .starts .now) (c .before .before .before .before .before .args .xs .now) (c .before .before .before .before .before .pre)
 
 card-at-requires : tie.Need-card-at-requires
 card-at-requires c κs = search needs
 
 corners-of-requires : tie.Need-corners-of-requires
-corners-of-requires c κs = turn-card (c .before .before .before .before .before .args .all) (c .before .before .before .before .before .args .table .now) (c .before .before .before .before .before .args .row) (c .before .before .before .field .ensures) (c .before .before .adds .ensures) (c .before .if1 .left) (c .before .before .before .before .before .args .xs .now) (c .before .before .before .before .before .pre) (c .card-at .ensures)
+corners-of-requires c κs = turn-card (c .before .before .before .before .before .before .args .all) (c .before .before .before .before .before .before .args .table .now) (c .before .before .before .before .before .before .args .row) (c .before .before .before .field .ensures) (c .before .before .adds .ensures) (c .before .if1 .left) (c .before .before .before .before .before .before .args .starts .now) (c .before .before .before .before .before .before .args .xs .now) (c .before .before .before .before .before .before .pre) (c .card-at .ensures)
 
 square-a-requires : tie.Need-square-a-requires
-square-a-requires c κs = turn-solid (c .before .before .before .before .before .before .before .before .args .all) (c .before .before .before .before .before .before .before .before .args .table .now) (c .before .before .before .before .before .before .before .before .args .row) (c .before .before .before .before .before .before .field .ensures) (c .before .before .before .before .before .adds .ensures) (c .before .before .before .before .if1 .left) (c .before .before .before .before .before .before .before .before .args .xs .now) (c .before .before .before .before .before .before .before .before .pre) (c .before .before .before .card-at .ensures)
+square-a-requires c κs = turn-solid (c .before .before .before .before .before .before .before .before .before .args .all) (c .before .before .before .before .before .before .before .before .before .args .table .now) (c .before .before .before .before .before .before .before .before .before .args .row) (c .before .before .before .before .before .before .field .ensures) (c .before .before .before .before .before .adds .ensures) (c .before .before .before .before .if1 .left) (c .before .before .before .before .before .before .before .before .before .args .starts .now) (c .before .before .before .before .before .before .before .before .before .args .xs .now) (c .before .before .before .before .before .before .before .before .before .pre) (c .before .before .before .card-at .ensures)
 
 add-square-requires : tie.Need-add-square-requires
-add-square-requires c κs = turn-takes (c .before .before .before .before .before .before .before .before .before .args .all) (c .before .before .before .before .before .before .before .before .before .args .table .now) (c .before .before .before .before .before .before .before .before .before .args .row) (c .before .before .before .before .before .before .before .field .ensures) (c .before .before .before .before .before .before .adds .ensures) (c .before .before .before .before .before .if1 .left) (c .before .before .before .before .before .before .before .before .before .args .xs .now) (c .before .before .before .before .before .before .before .before .before .pre) (c .before .before .before .before .card-at .ensures) (c .before .before .before .corners-of .result) (c .before .before .before .corners-of .ensures .0) (c .before .before .before .corners-of .ensures .1) squareA (c .square-a .ensures) (omega arith)
+add-square-requires c κs = turn-takes (c .before .before .before .before .before .before .before .before .before .before .args .all) (c .before .before .before .before .before .before .before .before .before .before .args .table .now) (c .before .before .before .before .before .before .before .before .before .before .args .row) (c .before .before .before .before .before .before .before .field .ensures) (c .before .before .before .before .before .before .adds .ensures) (c .before .before .before .before .before .if1 .left) (c .before .before .before .before .before .before .before .before .before .before .args .starts .now) (c .before .before .before .before .before .before .before .before .before .before .args .xs .now) (c .before .before .before .before .before .before .before .before .before .before .pre) (c .before .before .before .before .card-at .ensures) (c .before .before .before .corners-of .result) (c .before .before .before .corners-of .ensures .0) (c .before .before .before .corners-of .ensures .1) squareA (c .square-a .ensures) (omega arith)
 
 same-length : tie.Need-same-length
 same-length c = search needs
 
 returns-2 : tie.Need-returns-2
-returns-2 c = turn-a-gives (c .before .before .before .before .before .before .before .before .before .before .before .args .all) (c .before .before .before .before .before .before .before .before .before .before .before .args .table .now) (c .before .before .before .before .before .before .before .before .before .before .before .args .row) (c .before .before .before .before .before .before .before .before .before .field .ensures) (c .before .before .before .before .before .before .before .before .adds .ensures) (c .before .before .before .before .before .before .before .if1 .left) (c .before .before .before .before .before .before .before .before .before .before .before .args .xs .now) (c .before .before .before .before .before .before .before .before .before .before .before .pre) (c .before .before .before .before .before .before .card-at .ensures) (c .before .before .before .before .before .corners-of .result) (c .before .before .before .before .before .corners-of .ensures .0) (c .before .before .before .before .before .corners-of .ensures .1) (c .before .before .before .before .if2 .taken) (c .before .before .square-a .ensures) (c .before .add-square .ensures)
+returns-2 c = turn-a-gives (c .before .before .before .before .before .before .before .before .before .before .before .before .args .all) (c .before .before .before .before .before .before .before .before .before .before .before .before .args .table .now) (c .before .before .before .before .before .before .before .before .before .before .before .before .args .row) (c .before .before .before .before .before .before .before .before .before .field .ensures) (c .before .before .before .before .before .before .before .before .adds .ensures) (c .before .before .before .before .before .before .before .if1 .left) (c .before .before .before .before .before .before .before .before .before .before .before .before .args .starts .now) (c .before .before .before .before .before .before .before .before .before .before .before .before .args .xs .now) (c .before .before .before .before .before .before .before .before .before .before .before .before .pre) (c .before .before .before .before .before .before .card-at .ensures) (c .before .before .before .before .before .corners-of .result) (c .before .before .before .before .before .corners-of .ensures .0) (c .before .before .before .before .before .corners-of .ensures .1) (c .before .before .before .before .if2 .taken) (c .before .before .square-a .ensures) (c .before .add-square .ensures)
 
 square-p-requires : tie.Need-square-p-requires
-square-p-requires c κs = turn-card (c .before .before .before .before .before .before .before .before .args .all) (c .before .before .before .before .before .before .before .before .args .table .now) (c .before .before .before .before .before .before .before .before .args .row) (c .before .before .before .before .before .before .field .ensures) (c .before .before .before .before .before .adds .ensures) (c .before .before .before .before .if1 .left) (c .before .before .before .before .before .before .before .before .args .xs .now) (c .before .before .before .before .before .before .before .before .pre) (c .before .before .before .card-at .ensures)
+square-p-requires c κs = turn-card (c .before .before .before .before .before .before .before .before .before .args .all) (c .before .before .before .before .before .before .before .before .before .args .table .now) (c .before .before .before .before .before .before .before .before .before .args .row) (c .before .before .before .before .before .before .field .ensures) (c .before .before .before .before .before .adds .ensures) (c .before .before .before .before .if1 .left) (c .before .before .before .before .before .before .before .before .before .args .starts .now) (c .before .before .before .before .before .before .before .before .before .args .xs .now) (c .before .before .before .before .before .before .before .before .before .pre) (c .before .before .before .card-at .ensures)
 
 add-square-requires-2 : tie.Need-add-square-requires-2
-add-square-requires-2 c κs = turn-takes (c .before .before .before .before .before .before .before .before .before .args .all) (c .before .before .before .before .before .before .before .before .before .args .table .now) (c .before .before .before .before .before .before .before .before .before .args .row) (c .before .before .before .before .before .before .before .field .ensures) (c .before .before .before .before .before .before .adds .ensures) (c .before .before .before .before .before .if1 .left) (c .before .before .before .before .before .before .before .before .before .args .xs .now) (c .before .before .before .before .before .before .before .before .before .pre) (c .before .before .before .before .card-at .ensures) (c .before .before .before .corners-of .result) (c .before .before .before .corners-of .ensures .0) (c .before .before .before .corners-of .ensures .1) squareP (held-P _ _ (turn-card (c .before .before .before .before .before .before .before .before .before .args .all) (c .before .before .before .before .before .before .before .before .before .args .table .now) (c .before .before .before .before .before .before .before .before .before .args .row) (c .before .before .before .before .before .before .before .field .ensures) (c .before .before .before .before .before .before .adds .ensures) (c .before .before .before .before .before .if1 .left) (c .before .before .before .before .before .before .before .before .before .args .xs .now) (c .before .before .before .before .before .before .before .before .before .pre) (c .before .before .before .before .card-at .ensures)) (c .square-p .ensures)) (omega arith)
+add-square-requires-2 c κs = turn-takes (c .before .before .before .before .before .before .before .before .before .before .args .all) (c .before .before .before .before .before .before .before .before .before .before .args .table .now) (c .before .before .before .before .before .before .before .before .before .before .args .row) (c .before .before .before .before .before .before .before .field .ensures) (c .before .before .before .before .before .before .adds .ensures) (c .before .before .before .before .before .if1 .left) (c .before .before .before .before .before .before .before .before .before .before .args .starts .now) (c .before .before .before .before .before .before .before .before .before .before .args .xs .now) (c .before .before .before .before .before .before .before .before .before .before .pre) (c .before .before .before .before .card-at .ensures) (c .before .before .before .corners-of .result) (c .before .before .before .corners-of .ensures .0) (c .before .before .before .corners-of .ensures .1) squareP (held-P _ _ (turn-card (c .before .before .before .before .before .before .before .before .before .before .args .all) (c .before .before .before .before .before .before .before .before .before .before .args .table .now) (c .before .before .before .before .before .before .before .before .before .before .args .row) (c .before .before .before .before .before .before .before .field .ensures) (c .before .before .before .before .before .before .adds .ensures) (c .before .before .before .before .before .if1 .left) (c .before .before .before .before .before .before .before .before .before .before .args .starts .now) (c .before .before .before .before .before .before .before .before .before .before .args .xs .now) (c .before .before .before .before .before .before .before .before .before .before .pre) (c .before .before .before .before .card-at .ensures)) (c .square-p .ensures)) (omega arith)
 
 same-length-2 : tie.Need-same-length-2
 same-length-2 c = search needs
 
 returns-3 : tie.Need-returns-3
-returns-3 c = turn-p-gives (c .before .before .before .before .before .before .before .before .before .before .before .args .all) (c .before .before .before .before .before .before .before .before .before .before .before .args .table .now) (c .before .before .before .before .before .before .before .before .before .before .before .args .row) (c .before .before .before .before .before .before .before .before .before .field .ensures) (c .before .before .before .before .before .before .before .before .adds .ensures) (c .before .before .before .before .before .before .before .if1 .left) (c .before .before .before .before .before .before .before .before .before .before .before .args .xs .now) (c .before .before .before .before .before .before .before .before .before .before .before .pre) (c .before .before .before .before .before .before .card-at .ensures) (c .before .before .before .before .before .corners-of .result) (c .before .before .before .before .before .corners-of .ensures .0) (c .before .before .before .before .before .corners-of .ensures .1) (c .before .before .before .before .if2 .left) (held-P _ _ (turn-card (c .before .before .before .before .before .before .before .before .before .before .before .args .all) (c .before .before .before .before .before .before .before .before .before .before .before .args .table .now) (c .before .before .before .before .before .before .before .before .before .before .before .args .row) (c .before .before .before .before .before .before .before .before .before .field .ensures) (c .before .before .before .before .before .before .before .before .adds .ensures) (c .before .before .before .before .before .before .before .if1 .left) (c .before .before .before .before .before .before .before .before .before .before .before .args .xs .now) (c .before .before .before .before .before .before .before .before .before .before .before .pre) (c .before .before .before .before .before .before .card-at .ensures)) (c .before .before .square-p .ensures)) (c .before .add-square2 .ensures)
+returns-3 c = turn-p-gives (c .before .before .before .before .before .before .before .before .before .before .before .before .args .all) (c .before .before .before .before .before .before .before .before .before .before .before .before .args .table .now) (c .before .before .before .before .before .before .before .before .before .before .before .before .args .row) (c .before .before .before .before .before .before .before .before .before .field .ensures) (c .before .before .before .before .before .before .before .before .adds .ensures) (c .before .before .before .before .before .before .before .if1 .left) (c .before .before .before .before .before .before .before .before .before .before .before .before .args .starts .now) (c .before .before .before .before .before .before .before .before .before .before .before .before .args .xs .now) (c .before .before .before .before .before .before .before .before .before .before .before .before .pre) (c .before .before .before .before .before .before .card-at .ensures) (c .before .before .before .before .before .corners-of .result) (c .before .before .before .before .before .corners-of .ensures .0) (c .before .before .before .before .before .corners-of .ensures .1) (c .before .before .before .before .if2 .left) (held-P _ _ (turn-card (c .before .before .before .before .before .before .before .before .before .before .before .before .args .all) (c .before .before .before .before .before .before .before .before .before .before .before .before .args .table .now) (c .before .before .before .before .before .before .before .before .before .before .before .before .args .row) (c .before .before .before .before .before .before .before .before .before .field .ensures) (c .before .before .before .before .before .before .before .before .adds .ensures) (c .before .before .before .before .before .before .before .if1 .left) (c .before .before .before .before .before .before .before .before .before .before .before .before .args .starts .now) (c .before .before .before .before .before .before .before .before .before .before .before .before .args .xs .now) (c .before .before .before .before .before .before .before .before .before .before .before .before .pre) (c .before .before .before .before .before .before .card-at .ensures)) (c .before .before .square-p .ensures)) (c .before .add-square2 .ensures)
 
 pub add-card-spec : {M : Type 1} → statement M
 add-card-spec =

@@ -1,54 +1,53 @@
 use Rattle.packed.proofs.add_row.Statement.{statement}
 use Rattle.packed.proofs.add_row.Tie as tie
-use borrow.Author.Needs.{needs}
 use Prim.Native.Nat.{suc, _-_}
 use native.Mathlib.Omega.{arith}
 use Rattle.packed.proofs.Adding.{Row, row-start, row-long, row-asks, row-next, row-end}
 
 abbrev Inv-loop : tie.InvT-loop
-Inv-loop xs₀ a c q b₀ xs b = Row xs₀ c q a xs b
+Inv-loop xs₀ starts a c q b₀ xs b = Row starts xs₀ c q a xs b
 
 abbrev μ-loop : tie.MeasureT-loop
-μ-loop xs₀ a c q b₀ xs b = suc a - b
+μ-loop xs₀ starts a c q b₀ xs b = suc a - b
 
 loop-holds : tie.Need-loop-holds Inv-loop μ-loop
-loop-holds c = row-start (c .args .xs .now) (c .args .t2) (c .args .t3) (c .args .a)
+loop-holds c = row-start (c .before .args .starts .now) (c .before .args .xs .now) (c .before .args .t3) (c .before .args .t4) (c .before .args .a)
 
 array-copy-out-add-at : tie.Need-array-copy-out-add-at Inv-loop μ-loop
-array-copy-out-add-at c = omega (arith, c .before .before .before .pre .last)
+array-copy-out-add-at c = omega (arith, c .before .before .before .before .pre .last)
 
 array-copy-out-add-at-2 : tie.Need-array-copy-out-add-at-2 Inv-loop μ-loop
-array-copy-out-add-at-2 c = omega (arith, c .before .before .before .before .pre .last)
+array-copy-out-add-at-2 c = omega (arith, c .before .before .before .before .before .pre .last)
 
 mul-add-at : tie.Need-mul-add-at Inv-loop μ-loop
-mul-add-at c = omega (arith, c .before .before .before .before .before .pre .last)
+mul-add-at c = omega (arith, c .before .before .before .before .before .before .pre .last)
 
 mul-add-at-2 : tie.Need-mul-add-at-2 Inv-loop μ-loop
-mul-add-at-2 c = omega (arith, c .before .before .before .before .before .pre .last)
+mul-add-at-2 c = omega (arith, c .before .before .before .before .before .before .pre .last)
 
 index-1-add-at : tie.Need-index-1-add-at Inv-loop μ-loop
-index-1-add-at c = omega (arith, c .before .before .before .before .before .pre .last)
+index-1-add-at c = omega (arith, c .before .before .before .before .before .before .pre .last)
 
 index-2-add-at : tie.Need-index-2-add-at Inv-loop μ-loop
-index-2-add-at c = omega (arith, c .before .before .before .before .before .pre .last)
+index-2-add-at c = omega (arith, c .before .before .before .before .before .before .pre .last)
 
 add-at-requires : tie.Need-add-at-requires Inv-loop μ-loop
-add-at-requires c κs = row-asks (c .before .before .before .before .before .before .pre) (c .before .before .before .before .before .loop .inv) (omega arith)
+add-at-requires c κs = row-asks (c .before .before .before .before .before .before .before .pre) (c .before .before .before .before .before .loop .inv) (omega arith)
 
 add-b : tie.Need-add-b Inv-loop μ-loop
-add-b c = omega (arith, c .before .before .before .before .before .before .before .before .pre .last)
+add-b c = omega (arith, c .before .before .before .before .before .before .before .before .before .pre .last)
 
 loop-less : tie.Need-loop-less Inv-loop μ-loop
 loop-less c = omega arith
 
 loop-again : tie.Need-loop-again Inv-loop μ-loop
-loop-again c = row-next (c .before .before .before .before .before .before .before .before .pre) (c .before .before .before .before .before .before .before .loop .inv) (omega arith) (c .before .add-at .ensures)
+loop-again c = row-next (c .before .before .before .before .before .before .before .before .before .pre) (c .before .before .before .before .before .before .before .loop .inv) (omega arith) (c .before .add-at .ensures)
 
 same-length : tie.Need-same-length Inv-loop μ-loop
-same-length c = row-long (c .before .before .pre) (c .before .loop .inv)
+same-length c = row-long (c .before .before .before .pre) (c .before .loop .inv)
 
 returns : tie.Need-returns Inv-loop μ-loop
-returns c = row-end (c .before .before .pre) (c .before .loop .inv) (omega arith)
+returns c = row-end (c .before .before .before .pre) (c .before .loop .inv) (omega arith)
 
 pub add-row-spec : {M : Type 1} → statement M
 add-row-spec =

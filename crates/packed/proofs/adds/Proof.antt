@@ -1,7 +1,7 @@
 use borrow.Author.Needs.{needs}
 use Rattle.packed.proofs.adds.Statement.{statement}
 use Rattle.packed.proofs.adds.Tie as tie
-use mathlib.Core.Path.{_≡_, refl, sym, ap, _∙_}
+use mathlib.Core.Path.{_≡_, sym, ap, _∙_}
 use mathlib.Core.Bool.{Bool, true, false, _&&_, _||_}
 use Rattle.part.specs.declared.Does.{Does}
 use Rattle.packed.specs.Asks.{has}

@@ -1,57 +1,57 @@
--- The invariant: the slice is the sum over the rows passed.
+-- The invariant: the packed triangle is the sum over the rows passed.
 use borrow.Author.Needs.{needs}
 use Rattle.packed.proofs.assemble_one.Statement.{statement}
 use Rattle.packed.proofs.assemble_one.Tie as tie
-use mathlib.Core.Path.{_≡_, sym, ap, _∙_}
+use mathlib.Core.Path.{sym, ap, subst, _∙_}
 use Prim.Native.Nat.{_-_, _≤_}
 use native.Mathlib.Omega.{arith}
 use lib.ListN.{length}
-use Rattle.whole.proofs.Packed.{length-lower}
 use Rattle.paper.specs.Cards.{rows, nodes}
 use Rattle.paper.specs.Parts.{partAt}
-use Rattle.packed.specs.Asks.{addsTo}
+use Rattle.starts.specs.Lent.{Turned}
+use Rattle.packed.specs.Asks.{Suits, addsTo}
 use Rattle.packed.proofs.Assembling.{partly, walk-none, walk-more, walk-size, walk-card}
 
 abbrev Inv-loop : tie.InvT-loop
-Inv-loop table xs₀ all row₀ xs row = (row ≤ rows table) × (xs ≡ partly (nodes table) (λ r. addsTo all (partAt table r)) row)
+Inv-loop table xs₀ starts all row₀ xs row = (row ≤ rows table) × Turned starts xs₀ xs (partly (nodes table) (λ r. addsTo all (partAt table r)) row)
 
 abbrev μ-loop : tie.MeasureT-loop
-μ-loop table xs₀ all row₀ xs row = rows table - row
+μ-loop table xs₀ starts all row₀ xs row = rows table - row
 
 fill-requires : tie.Need-fill-requires Inv-loop μ-loop
 fill-requires c κs = search needs
 
 loop-holds : tie.Need-loop-holds Inv-loop μ-loop
 loop-holds c =
-    let t = c .before .before .before .before .args .table .now in
-    (omega arith, walk-none (nodes t) (λ r. addsTo (c .before .before .before .before .args .all) (partAt t r)) (c .before .before .before .before .args .xs .now) (c .before .fill .last .0) (c .before .before .before .before .pre .1) (c .before .fill .ensures))
+    let t = c .before .before .before .before .before .args .table .now in
+    (omega arith, walk-none (nodes t) (length (c .before .before .before .before .before .args .xs .now)) (λ r. addsTo (c .before .before .before .before .before .args .all) (partAt t r)) (c .before .before .before .before .before .args .starts .now) (c .before .fill .last .0) (c .before .before .before .before .before .pre .1 .rows) (c .before .fill .ensures))
 
 mul-loop : tie.Need-mul-loop Inv-loop μ-loop
-mul-loop c = omega (arith, c .loop .inv .0, c .before .before .before .before .before .pre .0 .deck .few)
+mul-loop c = omega (arith, c .loop .inv .0, c .before .before .before .before .before .before .pre .0 .deck .few)
 
 add-card-requires : tie.Need-add-card-requires Inv-loop μ-loop
 add-card-requires c κs =
-    let t = c .before .before .before .before .before .before .before .args .table .now in
-    walk-card t (λ r. addsTo (c .before .before .before .before .before .before .before .args .all) (partAt t r)) (c .before .before .loop .row) (c .before .before .loop .xs) (c .before .before .before .before .before .before .before .pre .0) (omega (arith, c .before .before .before .before .before .before .before .pre .0 .deck .whole)) (c .before .before .loop .inv .1) (λ i j. walk-size (c .before .before .before .before .before .before .before .args .all) t (c .before .before .before .before .before .before .before .pre .0) (c .before .before .loop .row) i j (c .before .before .loop .inv .0))
+    let t = c .before .before .before .before .before .before .before .before .args .table .now in
+    walk-card t (λ r. addsTo (c .before .before .before .before .before .before .before .before .args .all) (partAt t r)) (c .before .before .loop .row) (c .before .before .before .before .before .before .before .before .pre .0) (subst (Suits t (c .before .before .before .before .before .before .before .before .args .starts .now)) (sym (c .before .before .before .before .fill .kept .0)) (c .before .before .before .before .before .before .before .before .pre .1)) (omega (arith, c .before .before .before .before .before .before .before .before .pre .0 .deck .whole)) (c .before .before .loop .inv .1) (λ i j. walk-size (c .before .before .before .before .before .before .before .before .args .all) t (c .before .before .before .before .before .before .before .before .pre .0) (c .before .before .loop .row) i j (c .before .before .loop .inv .0))
 
 add-row : tie.Need-add-row Inv-loop μ-loop
-add-row c = omega (arith, c .before .before .before .before .loop .inv .0, c .before .before .before .before .before .before .before .before .before .pre .0 .deck .few)
+add-row c = omega (arith, c .before .before .before .before .loop .inv .0, c .before .before .before .before .before .before .before .before .before .before .pre .0 .deck .few)
 
 loop-less : tie.Need-loop-less Inv-loop μ-loop
-loop-less c = omega (arith, c .before .before .before .before .before .before .before .before .before .pre .0 .deck .whole)
+loop-less c = omega (arith, c .before .before .before .before .before .before .before .before .before .before .pre .0 .deck .whole)
 
 loop-again : tie.Need-loop-again Inv-loop μ-loop
 loop-again c =
-    let t = c .before .before .before .before .before .before .before .before .before .args .table .now in
-    (omega (arith, c .before .before .before .before .before .before .before .before .before .pre .0 .deck .whole), walk-more (nodes t) (c .before .before .before .before .loop .row) (λ r. addsTo (c .before .before .before .before .before .before .before .before .before .args .all) (partAt t r)) (c .before .before .before .before .loop .xs) (c .before .add-card .last .1 .1 .0) (c .before .before .before .before .loop .inv .1) (c .before .add-card .ensures))
+    let t = c .before .before .before .before .before .before .before .before .before .before .args .table .now in
+    (omega (arith, c .before .before .before .before .before .before .before .before .before .before .pre .0 .deck .whole), walk-more (nodes t) (c .before .before .before .before .loop .row) (λ r. addsTo (c .before .before .before .before .before .before .before .before .before .before .args .all) (partAt t r)) (c .before .before .before .before .loop .inv .1) (c .before .add-card .ensures))
 
 same-length : tie.Need-same-length Inv-loop μ-loop
-same-length c = ap length (c .before .loop .inv .1) ∙ length-lower _ _ ∙ sym (c .before .before .before .before .before .before .pre .1)
+same-length c = c .before .loop .inv .1 .long ∙ c .before .before .before .fill .kept .0
 
 returns : tie.Need-returns Inv-loop μ-loop
 returns c =
-    let t = c .before .before .before .before .before .before .args .table .now in
-    c .before .loop .inv .1 ∙ ap (partly (nodes t) (λ r. addsTo (c .before .before .before .before .before .before .args .all) (partAt t r))) (omega (arith, c .before .loop .inv .0, c .before .before .before .before .before .before .pre .0 .deck .whole))
+    let t = c .before .before .before .before .before .before .before .args .table .now in
+    record { long = c .before .loop .inv .1 .long ∙ c .before .before .before .fill .kept .0; is = c .before .loop .inv .1 .is ∙ ap (partly (nodes t) (λ r. addsTo (c .before .before .before .before .before .before .before .args .all) (partAt t r))) (omega (arith, c .before .loop .inv .0, c .before .before .before .before .before .before .before .pre .0 .deck .whole)) }
 
 pub assemble-one-spec : {M : Type 1} → statement M
 assemble-one-spec =

@@ -1,100 +1,92 @@
+-- The invariant: the node's row is cleared, and its column down to row j.
+use borrow.Author.Needs.{needs}
 use Rattle.packed.proofs.clear_node.Statement.{statement}
 use Rattle.packed.proofs.clear_node.Tie as tie
-use borrow.Author.Needs.{needs}
-use mathlib.Core.Path.{_≡_, sym, ap, _∙_}
+use mathlib.Core.Path.{_≡_, refl, sym, ap, subst, _∙_}
 use mathlib.Core.List.{List}
-use Prim.Native.Nat.{ℕ, suc, _+_, _-_, _^_, _≤_}
+use Prim.Native.Nat.{ℕ, suc, _-_, _≤_, _<_}
 use native.Mathlib.Omega.{arith}
 use lib.Dec.{eqb}
-use lib.IntN.{ℤ, pos}
-use lib.ListN.{length, set, length-set}
-use Rattle.whole.specs.Packed.{tri, place, entry, lower}
-use Rattle.whole.proofs.Packed.{tri-96, tri-below, place-first, place-in, length-lower}
+use lib.IntN.{ℤ}
+use lib.ListN.{length, getD, length-set}
+use Rattle.whole.specs.Packed.{entry, lower}
 use Rattle.paper.specs.Matrices.{cleared}
-use Rattle.packed.proofs.Clearing.{swept, sweep-none, sweep-more, sweep-end}
+use Rattle.starts.specs.Lent.{Starts, wide, Turned}
+use Rattle.starts.proofs.Lent.{some}
+use Rattle.packed.specs.Asks.{swept}
+use Rattle.packed.proofs.Spots.{turned-as, long-few}
+use Rattle.packed.proofs.Clearing.{row-room, column-start, column-more, column-end}
 
 abbrev Inv-loop : tie.InvT-loop
-Inv-loop xs₀ n i at₀ j₀ xs at j = (j ≤ n) × (at ≡ place i j) × (xs ≡ swept n xs₀ i j)
+Inv-loop xs₀ starts i j₀ xs j = (suc i ≤ j) × (j ≤ length starts) × Turned starts xs₀ xs (swept (length starts) (wide starts xs₀) i j)
 
 abbrev μ-loop : tie.MeasureT-loop
-μ-loop xs₀ n i at₀ j₀ xs at j = n - j
+μ-loop xs₀ starts i j₀ xs j = length starts - j
 
-long : (n i j : ℕ) (xs₀ xs : List ℤ) → xs ≡ swept n xs₀ i j → length xs ≡ tri n
-long n i j xs₀ xs e = ap length e ∙ length-lower n _
+-- the rows as they are after the loop
+module _ (st : List ℕ) (ks ms : List ℤ) (lent : Starts st (length ks)) (same : length ms ≡ length ks) (i : ℕ) (h : i < length st) {e : ℕ} (ee : e ≡ getD st (suc i) (length ms)) where
+  still : Starts st (length ms)
+  still = subst (Starts st) (sym same) lent
+
+  e-some : 1 ≤ e
+  e-some = omega (arith, some still i h)
+
+  e-within : e ≤ length ms
+  e-within = row-room st ms still i h (getD st i 0) e refl ee
+
+  e-few : e ≤ 4656
+  e-few = omega (arith, e-within, long-few still)
 
 node-row-requires : tie.Need-node-row-requires Inv-loop μ-loop
 node-row-requires c κs = search needs
 
 sub-i : tie.Need-sub-i Inv-loop μ-loop
-sub-i c = omega (arith, c .before .pre .among, c .node-row .ensures)
+sub-i c = omega (arith, c .before .before .pre .among, c .node-row .ensures)
 
-start-requires : tie.Need-start-requires Inv-loop μ-loop
-start-requires c κs = omega (arith, c .before .pre .among, c .node-row .ensures, c .before .pre .few)
+clear-row-requires : tie.Need-clear-row-requires Inv-loop μ-loop
+clear-row-requires c κs = (c .before .before .before .pre .lent, omega (arith, c .before .before .before .pre .among, c .before .node-row .ensures))
+
+add-j : tie.Need-add-j Inv-loop μ-loop
+add-j c = omega (arith, c .before .before .before .before .before .pre .among, c .before .before .before .node-row .ensures, c .before .before .before .before .before .pre .lent .few)
 
 loop-holds : tie.Need-loop-holds Inv-loop μ-loop
 loop-holds c =
-    let i = c .before .node-row .result - 1 in
-    (omega arith, c .start .ensures ∙ sym (place-first i), sweep-none (c .before .before .args .n) i (c .before .before .args .xs .now) (c .before .before .pre .long))
+    (omega arith, omega (arith, c .before .before .before .before .before .pre .among, c .before .before .before .node-row .ensures), turned-as (column-start (c .before .before .before .node-row .result - 1) (c .before .clear-row .ensures)) (ap (swept (length (c .before .before .before .before .before .args .starts .now)) (wide (c .before .before .before .before .before .args .starts .now) (c .before .clear-row .last .0)) (c .before .before .before .node-row .result - 1)) (omega arith)))
 
-mul-xs : tie.Need-mul-xs Inv-loop μ-loop
-mul-xs c =
-    let i = c .before .before .before .node-row .result - 1 in
-    omega (arith, c .before .loop .inv .1, place-in i (c .before .loop .j) (c .before .before .before .before .args .n) (omega (arith, c .before .before .before .before .pre .among, c .before .before .before .node-row .ensures)) (omega (arith, c .loop-test .taken, c .before .before .before .before .pre)), tri-96 (c .before .before .before .before .args .n) (c .before .before .before .before .pre .few))
+clear-at-requires : tie.Need-clear-at-requires Inv-loop μ-loop
+clear-at-requires c κs = (subst (Starts (c .before .before .before .before .before .before .before .before .args .starts .now)) (sym (c .before .before .loop .inv .2 .long ∙ c .before .before .before .before .clear-row .ensures .long)) (c .before .before .before .before .before .before .before .before .pre .lent), omega (arith, c .before .before .loop .inv .0), c .before .loop-test .taken)
 
-slice-set-of-xs : tie.Need-slice-set-of-xs Inv-loop μ-loop
-slice-set-of-xs c =
-    let i = c .before .before .before .node-row .result - 1 in
-    omega (arith, c .before .loop .inv .1, place-in i (c .before .loop .j) (c .before .before .before .before .args .n) (omega (arith, c .before .before .before .before .pre .among, c .before .before .before .node-row .ensures)) (omega (arith, c .loop-test .taken, c .before .before .before .before .pre)), long (c .before .before .before .before .args .n) i (c .before .loop .j) (c .before .before .before .before .args .xs .now) (c .before .loop .xs) (c .before .loop .inv .2))
-
-next-requires : tie.Need-next-requires Inv-loop μ-loop
-next-requires c κs = (c .before .loop .inv .1, omega (arith, c .before .before .before .before .pre .among, c .before .before .before .node-row .ensures, c .before .before .before .before .pre .few), omega (arith, c .loop-test .taken, c .before .before .before .before .pre .few))
-
-add-j : tie.Need-add-j Inv-loop μ-loop
-add-j c = omega (arith, c .before .loop-test .taken, c .before .before .before .before .before .pre .few)
+add-j-2 : tie.Need-add-j-2 Inv-loop μ-loop
+add-j-2 c = omega (arith, c .before .before .before .loop-test .taken, c .before .before .before .before .before .before .before .before .before .before .pre .lent .few)
 
 loop-less : tie.Need-loop-less Inv-loop μ-loop
-loop-less c = omega (arith, c .before .loop-test .taken)
+loop-less c = omega (arith, c .before .before .before .loop-test .taken)
 
 loop-again : tie.Need-loop-again Inv-loop μ-loop
-loop-again c =
-    let i = c .before .before .before .before .node-row .result - 1 in (
-      omega (arith, c .before .loop-test .taken),
-      c .next .ensures,
-      ap (λ (p : ℕ). set (c .before .before .loop .xs) p (pos 0)) (c .before .before .loop .inv .1) ∙ sweep-more (c .before .before .before .before .before .args .n) i (c .before .before .loop .j) (c .before .before .before .before .before .args .xs .now) (c .before .before .loop .xs) (c .before .before .loop .inv .2),
-    )
+loop-again c = (omega (arith, c .before .before .before .before .loop .inv .0), omega (arith, c .before .before .before .loop-test .taken), column-more (c .before .before .before .before .before .before .before .before .node-row .result - 1) (c .before .before .before .before .loop .j) (c .before .before .before .before .loop .inv .2) (c .before .clear-at .ensures))
 
-start-requires-2 : tie.Need-start-requires-2 Inv-loop μ-loop
-start-requires-2 c κs = omega (arith, c .before .before .before .before .pre .among, c .before .before .before .node-row .ensures, c .before .before .before .before .pre .few)
+end-requires : tie.Need-end-requires Inv-loop μ-loop
+end-requires c κs = omega (arith, c .before .before .before .before .before .before .before .pre .among, c .before .before .before .before .before .node-row .ensures)
 
-add-xs : tie.Need-add-xs Inv-loop μ-loop
-add-xs c =
-    let i = c .before .before .before .before .node-row .result - 1 in
-    omega (arith, c .start2 .ensures, tri-below i (c .before .before .before .before .before .args .n) (omega (arith, c .before .before .before .before .before .pre .among, c .before .before .before .before .node-row .ensures)), tri-96 (c .before .before .before .before .before .args .n) (c .before .before .before .before .before .pre .few))
+sub-xs : tie.Need-sub-xs Inv-loop μ-loop
+sub-xs c = e-some (c .before .before .before .before .before .before .before .before .args .starts .now) (c .before .before .before .before .before .before .before .before .args .xs .now) (c .before .before .loop .xs) (c .before .before .before .before .before .before .before .before .pre .lent) (c .before .before .loop .inv .2 .long ∙ c .before .before .before .before .clear-row .ensures .long) (c .before .before .before .before .before .before .node-row .result - 1) (omega (arith, c .before .before .before .before .before .before .before .before .pre .among, c .before .before .before .before .before .before .node-row .ensures)) (c .end .ensures)
 
-mul-xs-2 : tie.Need-mul-xs-2 Inv-loop μ-loop
-mul-xs-2 c =
-    let i = c .before .before .before .before .node-row .result - 1 in
-    omega (arith, c .start2 .ensures, tri-below i (c .before .before .before .before .before .args .n) (omega (arith, c .before .before .before .before .before .pre .among, c .before .before .before .before .node-row .ensures)), tri-96 (c .before .before .before .before .before .args .n) (c .before .before .before .before .before .pre .few))
+mul-xs : tie.Need-mul-xs Inv-loop μ-loop
+mul-xs c = omega (arith, e-few (c .before .before .before .before .before .before .before .before .args .starts .now) (c .before .before .before .before .before .before .before .before .args .xs .now) (c .before .before .loop .xs) (c .before .before .before .before .before .before .before .before .pre .lent) (c .before .before .loop .inv .2 .long ∙ c .before .before .before .before .clear-row .ensures .long) (c .before .before .before .before .before .before .node-row .result - 1) (omega (arith, c .before .before .before .before .before .before .before .before .pre .among, c .before .before .before .before .before .before .node-row .ensures)) (c .end .ensures))
 
-slice-set-of-xs-2 : tie.Need-slice-set-of-xs-2 Inv-loop μ-loop
-slice-set-of-xs-2 c =
-    let i = c .before .before .before .before .node-row .result - 1 in
-    omega (arith, c .start2 .ensures, tri-below i (c .before .before .before .before .before .args .n) (omega (arith, c .before .before .before .before .before .pre .among, c .before .before .before .before .node-row .ensures)), long (c .before .before .before .before .before .args .n) i (c .before .before .loop .j) (c .before .before .before .before .before .args .xs .now) (c .before .before .loop .xs) (c .before .before .loop .inv .2))
+slice-set-of-xs : tie.Need-slice-set-of-xs Inv-loop μ-loop
+slice-set-of-xs c = omega (arith, e-some (c .before .before .before .before .before .before .before .before .args .starts .now) (c .before .before .before .before .before .before .before .before .args .xs .now) (c .before .before .loop .xs) (c .before .before .before .before .before .before .before .before .pre .lent) (c .before .before .loop .inv .2 .long ∙ c .before .before .before .before .clear-row .ensures .long) (c .before .before .before .before .before .before .node-row .result - 1) (omega (arith, c .before .before .before .before .before .before .before .before .pre .among, c .before .before .before .before .before .before .node-row .ensures)) (c .end .ensures), e-within (c .before .before .before .before .before .before .before .before .args .starts .now) (c .before .before .before .before .before .before .before .before .args .xs .now) (c .before .before .loop .xs) (c .before .before .before .before .before .before .before .before .pre .lent) (c .before .before .loop .inv .2 .long ∙ c .before .before .before .before .clear-row .ensures .long) (c .before .before .before .before .before .before .node-row .result - 1) (omega (arith, c .before .before .before .before .before .before .before .before .pre .among, c .before .before .before .before .before .before .node-row .ensures)) (c .end .ensures))
 
 same-length : tie.Need-same-length Inv-loop μ-loop
-same-length c =
-    simp length-set (long (c .before .before .before .before .before .args .n) (c .before .before .before .before .node-row .result - 1) (c .before .before .loop .j) (c .before .before .before .before .before .args .xs .now) (c .before .before .loop .xs) (c .before .before .loop .inv .2) ∙ sym (c .before .before .before .before .before .pre .long))
+same-length c = simp length-set (c .before .before .loop .inv .2 .long ∙ c .before .before .before .before .clear-row .ensures .long)
 
 returns : tie.Need-returns Inv-loop μ-loop
 returns c =
-    let i = c .before .before .before .before .node-row .result - 1 in
-    let n = c .before .before .before .before .before .args .n in
-    let xs = c .before .before .before .before .before .args .xs .now in
-    let j : c .before .before .loop .j ≡ n = omega (arith, c .before .before .loop .inv .0, c .before .loop-test .left) in
-    let node : suc i ≡ c .before .before .before .before .before .args .node .0 = omega (arith, c .before .before .before .before .before .pre .among, c .before .before .before .before .node-row .ensures) in
-    ap (λ (s : ℕ). set (c .before .before .loop .xs) (s + i) (pos (2 ^ 20))) (c .start2 .ensures)
-    ∙ sweep-end n i xs (c .before .before .loop .xs) (c .before .before .loop .inv .2 ∙ ap (swept n xs i) j)
-    ∙ ap (λ (m : ℕ). lower n (cleared (λ k. eqb m (suc k)) (entry xs))) node
+    let i = c .before .before .before .before .before .before .node-row .result - 1 in
+    let all : c .before .before .loop .j ≡ length (c .before .before .before .before .before .before .before .before .args .starts .now) = omega (arith, c .before .before .loop .inv .1, c .before .loop-test .left) in
+    let node : suc i ≡ c .before .before .before .before .before .before .before .before .args .node .0 = omega (arith, c .before .before .before .before .before .before .before .before .pre .among, c .before .before .before .before .before .before .node-row .ensures) in
+    turned-as (column-end i (c .before .before .loop .j) (c .end .result) (c .before .before .before .before .before .before .before .before .pre .lent) (omega (arith, c .before .before .before .before .before .before .before .before .pre .among, c .before .before .before .before .before .before .node-row .ensures)) (c .before .before .before .before .clear-row .ensures) (c .before .before .loop .inv .2) all (c .end .ensures))
+    (ap (λ (m : ℕ). lower (length (c .before .before .before .before .before .before .before .before .args .starts .now)) (cleared (λ k. eqb m (suc k)) (entry (wide (c .before .before .before .before .before .before .before .before .args .starts .now) (c .before .before .before .before .before .before .before .before .args .xs .now))))) node)
 
 pub clear-node-spec : {M : Type 1} → statement M
 clear-node-spec =
@@ -104,17 +96,16 @@ clear-node-spec =
     μ-loop
     node-row-requires
     sub-i
-    start-requires
-    loop-holds
-    mul-xs
-    slice-set-of-xs
-    next-requires
+    clear-row-requires
     add-j
+    loop-holds
+    clear-at-requires
+    add-j-2
     loop-less
     loop-again
-    start-requires-2
-    add-xs
-    mul-xs-2
-    slice-set-of-xs-2
+    end-requires
+    sub-xs
+    mul-xs
+    slice-set-of-xs
     same-length
     returns)

@@ -7,29 +7,32 @@ use Prim.Native.Nat.{_-_}
 use native.Mathlib.Omega.{arith}
 use lib.ListN.{length}
 use Rattle.paper.specs.Calls.{lent}
+use Rattle.laws.proofs.KeptCalls.{wideOf}
+use Rattle.step.proofs.Past.{again}
 use Rattle.run.proofs.Turns.{RunInv, run-start, run-refused, run-next, run-end}
 
 abbrev Inv-loop : tie.InvT-loop
-Inv-loop table p a factor temperatures₀ carried₀ k count₀ temperatures carried count =
-    (length temperatures ≡ length temperatures₀) × (length carried ≡ length carried₀) × RunInv (lent table p a factor [] temperatures₀ carried₀) (lent table p a factor [] temperatures carried) k count
+Inv-loop table p a factor starts temperatures₀ carried₀ long k count₀ temperatures carried count =
+    (length temperatures ≡ length temperatures₀) × (length carried ≡ length carried₀)
+    × RunInv (lent table (wideOf table p) (wideOf table a) (wideOf table factor) [] temperatures₀ carried₀) (lent table (wideOf table p) (wideOf table a) (wideOf table factor) [] temperatures carried) k count
 
 abbrev μ-loop : tie.MeasureT-loop
-μ-loop table p a factor temperatures₀ carried₀ k count₀ temperatures carried count = k - count
+μ-loop table p a factor starts temperatures₀ carried₀ long k count₀ temperatures carried count = k - count
 
 loop-holds : tie.Need-loop-holds Inv-loop μ-loop
-loop-holds c = let s = c .before .args in (refl, refl, run-start (lent (s .table .now) (s .p .now) (s .a .now) (s .factor .now) [] (s .temperatures .now) (s .carried .now)) (s .k))
+loop-holds c = let s = c .before .before .args in (refl, refl, run-start (lent (s .table .now) (wideOf (s .table .now) (s .p .now)) (wideOf (s .table .now) (s .a .now)) (wideOf (s .table .now) (s .factor .now)) [] (s .temperatures .now) (s .carried .now)) (s .k))
 
 judged-step-requires : tie.Need-judged-step-requires Inv-loop μ-loop
-judged-step-requires c κs = c .before .before .before .before .before .pre
+judged-step-requires c κs = again (c .before .before .before .before .before .before .pre) (c .before .before .before .loop .inv .0) (c .before .before .before .loop .inv .1)
 
 enum-known-e : tie.Need-enum-known-e Inv-loop μ-loop
 enum-known-e c = search needs
 
 same-length : tie.Need-same-length Inv-loop μ-loop
-same-length c = c .before .before .before .before .before .judged-step .kept .1 .1 .1 .1 .0 ∙ c .before .before .before .before .before .before .before .before .before .loop .inv .0
+same-length c = c .before .before .before .before .before .judged-step .kept .1 .1 .1 .1 .1 .0 ∙ c .before .before .before .before .before .before .before .before .before .loop .inv .0
 
 same-length-2 : tie.Need-same-length-2 Inv-loop μ-loop
-same-length-2 c = c .before .before .before .before .before .judged-step .kept .1 .1 .1 .1 .1 .0 ∙ c .before .before .before .before .before .before .before .before .before .loop .inv .1
+same-length-2 c = c .before .before .before .before .before .judged-step .kept .1 .1 .1 .1 .1 .1 .0 ∙ c .before .before .before .before .before .before .before .before .before .loop .inv .1
 
 returns : tie.Need-returns Inv-loop μ-loop
 returns c = run-refused (c .before .before .before .before .before .before .before .before .before .loop .inv .2) (c .before .before .before .before .before .before .before .before .loop-test .taken) (c .before .before .before .before .before .judged-step .result) _ (c .before .before .before .before .before .judged-step .ensures) _ (c .before .e .given .1)
@@ -44,7 +47,7 @@ loop-less : tie.Need-loop-less Inv-loop μ-loop
 loop-less c = search needs
 
 loop-again : tie.Need-loop-again Inv-loop μ-loop
-loop-again c = (c .before .before .before .before .judged-step .kept .1 .1 .1 .1 .0 ∙ c .before .before .before .before .before .before .before .before .loop .inv .0, c .before .before .before .before .judged-step .kept .1 .1 .1 .1 .1 .0 ∙ c .before .before .before .before .before .before .before .before .loop .inv .1, run-next (c .before .before .before .before .before .before .before .before .loop .inv .2) (c .before .before .before .before .before .before .before .loop-test .taken) (c .before .before .before .before .judged-step .result) _ (c .before .before .before .before .judged-step .ensures) _ (c .enum-told .given .1))
+loop-again c = (c .before .before .before .before .judged-step .kept .1 .1 .1 .1 .1 .0 ∙ c .before .before .before .before .before .before .before .before .loop .inv .0, c .before .before .before .before .judged-step .kept .1 .1 .1 .1 .1 .1 .0 ∙ c .before .before .before .before .before .before .before .before .loop .inv .1, run-next (c .before .before .before .before .before .before .before .before .loop .inv .2) (c .before .before .before .before .before .before .before .loop-test .taken) (c .before .before .before .before .judged-step .result) _ (c .before .before .before .before .judged-step .ensures) _ (c .enum-told .given .1))
 
 same-length-3 : tie.Need-same-length-3 Inv-loop μ-loop
 same-length-3 c = c .before .loop .inv .0

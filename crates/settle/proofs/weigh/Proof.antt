@@ -5,16 +5,16 @@ use Rattle.settle.proofs.weigh.Tie as tie
 use Rattle.settle.proofs.Boards.{loads-asks, pass-asks, pass-is}
 
 loads-requires : tie.Need-loads-requires
-loads-requires c κs = loads-asks (c .before .before .pre)
+loads-requires c κs = loads-asks (c .before .before .before .pre .0)
 
 residuals-requires : tie.Need-residuals-requires
-residuals-requires c κs = pass-asks (c .before .before .before .before .before .pre) (c .before .before .loads .ensures)
+residuals-requires c κs = (c .before .before .before .before .before .before .pre .1, pass-asks (c .before .before .before .before .before .before .pre .0) (c .before .before .loads .ensures) .0, pass-asks (c .before .before .before .before .before .before .pre .0) (c .before .before .loads .ensures) .1)
 
 same-length : tie.Need-same-length
 same-length c = search needs
 
 returns : tie.Need-returns
-returns c = pass-is (c .before .before .before .before .before .before .before .pre) (c .before .before .before .before .loads .ensures) (c .before .residuals .ensures)
+returns c = pass-is (c .before .before .before .before .before .before .before .before .pre .0) (c .before .before .before .before .loads .ensures) (c .before .residuals .ensures)
 
 pub weigh-spec : {M : Type 1} → statement M
 weigh-spec = tie.close (tie.spec loads-requires residuals-requires same-length returns)

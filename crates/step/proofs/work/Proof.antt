@@ -4,7 +4,7 @@ use Rattle.step.proofs.work.Statement.{statement}
 use Rattle.step.proofs.work.Tie as tie
 use mathlib.Core.Path.{refl}
 use lib.IntN.{pos}
-use lib.ListN.{replicate}
+use lib.ListN.{length, replicate}
 use Rattle.step.proofs.Arrays.{part-long}
 
 sub-prepared : tie.Need-sub-prepared
@@ -36,8 +36,8 @@ part-r-end c = search needs
 
 prepared-requires : tie.Need-prepared-requires
 prepared-requires c κs =
-    let n = c .before .before .before .before .before .before .args .n in let few = c .before .before .before .before .before .before .pre .1 .rows .few in
-    (c .before .before .before .before .before .before .pre .0, c .before .before .before .before .before .before .pre .1, part-long (replicate 96 (pos 0)) n refl few, part-long (replicate 96 (pos 0)) n refl few, part-long (replicate 96 (pos 0)) n refl few)
+    let n = length (c .before .before .before .before .before .before .before .args .starts .now) in let few = c .before .before .before .before .before .before .before .pre .2 .lent .few in
+    (c .before .before .before .before .before .before .before .pre .0, c .before .before .before .before .before .before .before .pre .1, c .before .before .before .before .before .before .before .pre .2, part-long (replicate 96 (pos 0)) n refl few, part-long (replicate 96 (pos 0)) n refl few, part-long (replicate 96 (pos 0)) n refl few)
 
 same-length : tie.Need-same-length
 same-length c = search needs

@@ -1,10 +1,6 @@
 use borrow.Author.Needs.{needs}
 use Rattle.work.proofs.factored.Statement.{statement}
 use Rattle.work.proofs.factored.Tie as tie
-use mathlib.Core.Path.{ap, _∙_}
-use Prim.Native.Nat.{ℕ}
-use lib.IntN.{pos}
-use lib.ListN.{replicate}
 use Rattle.work.proofs.Stages.{factored-refused, factored-done}
 
 factor-requires : tie.Need-factor-requires
@@ -20,7 +16,7 @@ same-length : tie.Need-same-length
 same-length c = search needs
 
 returns : tie.Need-returns
-returns c = factored-refused _ (c .before .before .before .before .r .given .0 .0) _ (c .before .before .before .before .before .before .before .factor .last .0) (c .before .fill .last .0) (c .before .before .before .before .r .given .1) (c .before .before .before .before .before .before .before .factor .ensures) (c .before .fill .ensures ∙ ap (λ (k : ℕ). replicate k (pos 0)) (c .before .before .before .before .before .before .before .factor .kept .0 ∙ c .before .before .before .before .before .before .before .before .before .pre .1))
+returns c = factored-refused _ (c .before .before .before .before .before .before .before .before .before .before .args .starts .now) (c .before .before .before .before .before .before .before .before .before .before .args .work .now) (c .before .before .before .before .before .before .before .factor .last .0) (c .before .before .before .before .before .before .before .factor .kept .0) (c .before .before .before .before .before .before .before .factor .ensures) (c .before .before .before .before .r .given .0 .0) (c .before .fill .last .0) (c .before .before .before .before .r .given .1) (c .before .fill .ensures)
 
 enum-told : tie.Need-enum-told
 enum-told c = search needs
@@ -29,7 +25,7 @@ same-length-2 : tie.Need-same-length-2
 same-length-2 c = search needs
 
 returns-2 : tie.Need-returns-2
-returns-2 c = factored-done _ _ (c .before .before .before .factor .last .0) (c .enum-told .given .1) (c .before .before .before .factor .ensures)
+returns-2 c = factored-done _ (c .before .before .before .before .before .before .args .starts .now) (c .before .before .before .before .before .before .args .work .now) (c .before .before .before .factor .last .0) (c .before .before .before .factor .kept .0) (c .before .before .before .factor .ensures) (c .enum-told .given .1)
 
 pub factored-spec : {M : Type 1} → statement M
 factored-spec =

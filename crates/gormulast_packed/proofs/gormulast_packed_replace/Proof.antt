@@ -1,0 +1,47 @@
+use borrow.Author.Needs.{needs}
+use Rattle.gormulast_packed.proofs.gormulast_packed_replace.Statement.{statement}
+use Rattle.gormulast_packed.proofs.gormulast_packed_replace.Tie as tie
+use mathlib.Core.Path.{ap, _∙_}
+use Rattle.paper.specs.Refusals.{told, packed}
+use Rattle.paper.specs.Calls.{Exit, gave}
+
+replace-requires : tie.Need-replace-requires
+replace-requires c κs = search needs
+
+packed-answer-requires : tie.Need-packed-answer-requires
+packed-answer-requires c κs = search needs
+
+same-length : tie.Need-same-length
+same-length c = search needs
+
+same-length-2 : tie.Need-same-length-2
+same-length-2 c = search needs
+
+same-length-3 : tie.Need-same-length-3
+same-length-3 c = search needs
+
+same-length-4 : tie.Need-same-length-4
+same-length-4 c = search needs
+
+same-length-5 : tie.Need-same-length-5
+same-length-5 c = search needs
+
+returns : tie.Need-returns
+returns c =
+    let e = c .before .before .before .before .before .before .before .replace .ensures in
+    let answer = c .packed-answer .ensures ∙ ap (λ (x : Exit). packed (told (x .answer))) e in
+    let rest = ap (λ (x : Exit). x .lent) e in
+    λ i. gave (answer i) (rest i)
+
+pub gormulast-packed-replace-spec : {M : Type 1} → statement M
+gormulast-packed-replace-spec =
+    tie.close
+    (tie.spec
+    replace-requires
+    packed-answer-requires
+    same-length
+    same-length-2
+    same-length-3
+    same-length-4
+    same-length-5
+    returns)
