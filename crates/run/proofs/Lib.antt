@@ -1,2 +1,2 @@
--- The laws of a run.
-mod Turns
+-- A run past its first refusals stays past them.
+pub mod Past
