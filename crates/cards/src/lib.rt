@@ -200,13 +200,21 @@ fn element_named(counts: Counts, t: &[u32], letter: u32, name: u32) -> usize
     row + 1
 }
 
-// The place of a row's group and key, as one number.
-fn place_of(t: &[u32], row: usize) -> u64
+// A card's group and key, as one number by which loads rise.
+pub fn standing(card: &[u32]) -> u64
+    requires { ⌜ length (now card) ≡ 6 ⌝ }
+    ensures { λ r. ⌜ (r ≡ paper.orderOf (now (card .entry)) * 4294967296 + getD (now (card .entry)) 1 0) × (getD (now (card .entry)) 1 0 < 4294967296) ⌝ }
+{
+    kinds::about(kinds::kind(card[0])).order as u64 * 4_294_967_296 + card[1] as u64
+}
+
+fn standing_at(t: &[u32], row: usize) -> u64
     requires { ⌜ row * 6 + 6 ≤ length (now t) ⌝ }
     ensures { λ r. ⌜ (r ≡ paper.orderOf (paper.rowAt (now (t .entry)) row) * 4294967296 + getD (paper.rowAt (now (t .entry)) row) 1 0) × (getD (paper.rowAt (now (t .entry)) row) 1 0 < 4294967296) ⌝ }
 {
     let at = row * 6;
-    kinds::about(kinds::kind(t[at])).order as u64 * 4_294_967_296 + t[at + 1] as u64
+    let end = at + 6;
+    standing(&t[at..end])
 }
 
 // The number of the load of this letter among the first n rows, by halves: keys rise within a group.
@@ -219,7 +227,7 @@ fn load_named(counts: Counts, t: &[u32], n: usize, letter: u32, name: u32) -> us
     let mut hi = n;
     while lo < hi {
         let mid = lo + (hi - lo) / 2;
-        let here = place_of(t, mid);
+        let here = standing_at(t, mid);
         if here == wanted {
             return mid + 1;
         }

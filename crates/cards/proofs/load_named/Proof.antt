@@ -59,8 +59,8 @@ sub-mid c = search needs
 add-mid : tie.Need-add-mid Inv-loop μ-loop
 add-mid c = search needs
 
-place-of-requires : tie.Need-place-of-requires Inv-loop μ-loop
-place-of-requires c κs = omega (arith, c .before .loop .inv .upto, c .before .before .before .before .before .before .before .before .pre .1)
+standing-at-requires : tie.Need-standing-at-requires Inv-loop μ-loop
+standing-at-requires c κs = omega (arith, c .before .loop .inv .upto, c .before .before .before .before .before .before .before .before .pre .1)
 
 add-result : tie.Need-add-result Inv-loop μ-loop
 add-result c = search needs
@@ -72,7 +72,7 @@ returns c =
     let mid = l .lo + (l .hi - l .lo) / 2 in
     let w = ap (λ (x : About). x .order) (c .before .before .before .before .before .before .before .about .ensures ∙ ap about (c .before .before .before .before .before .before .before .before .kind .ensures)) in
     there-it-is (a .counts) (rowAt (a .t .now)) (a .letter) (a .name) (a .n) (c .before .before .before .before .before .before .before .before .before .before .pre .0 .past) (c .before .before .before .before .before .before .before .before .before .before .pre .0 .one) (c .before .before .before .before .before .before .before .before .before .before .pre .0 .real)
-    mid (omega (arith, l .inv .upto)) (c .before .place-of .ensures .1) (omega arith) (l .inv) (omega (arith, c .before .place-of .ensures .0, c .if1 .taken, w))
+    mid (omega (arith, l .inv .upto)) (c .before .standing-at .ensures .1) (omega arith) (l .inv) (omega (arith, c .before .standing-at .ensures .0, c .if1 .taken, w))
 
 add-lo : tie.Need-add-lo Inv-loop μ-loop
 add-lo c = search needs
@@ -88,7 +88,7 @@ loop-again c =
     let w = ap (λ (x : About). x .order) (c .before .before .before .before .before .before .before .before .about .ensures ∙ ap about (c .before .before .before .before .before .before .before .before .before .kind .ensures)) in
     raised (l .inv) mid
     (early (a .counts) (rowAt (a .t .now)) (a .letter) (a .name) (a .n) (c .before .before .before .before .before .before .before .before .before .before .before .pre .0 .past) (c .before .before .before .before .before .before .before .before .before .before .before .pre .0 .one) (c .before .before .before .before .before .before .before .before .before .before .before .pre .0 .real)
-    mid (omega (arith, l .inv .upto)) (c .before .before .place-of .ensures .1) (omega arith) (omega (arith, c .before .before .place-of .ensures .0, c .if2 .taken, w)))
+    mid (omega (arith, l .inv .upto)) (c .before .before .standing-at .ensures .1) (omega arith) (omega (arith, c .before .before .standing-at .ensures .0, c .if2 .taken, w)))
 
 loop-less-2 : tie.Need-loop-less-2 Inv-loop μ-loop
 loop-less-2 c = search needs
@@ -101,7 +101,7 @@ loop-again-2 c =
     let w = ap (λ (x : About). x .order) (c .before .before .before .before .before .before .before .before .about .ensures ∙ ap about (c .before .before .before .before .before .before .before .before .before .kind .ensures)) in
     lowered (l .inv) mid (omega (arith, l .inv .upto))
     (late (a .counts) (rowAt (a .t .now)) (a .letter) (a .name) (a .n) (c .before .before .before .before .before .before .before .before .before .before .before .pre .0 .past) (c .before .before .before .before .before .before .before .before .before .before .before .pre .0 .one) (c .before .before .before .before .before .before .before .before .before .before .before .pre .0 .real)
-    mid (omega (arith, l .inv .upto)) (c .before .before .place-of .ensures .1) (omega arith) (omega (arith, c .before .before .place-of .ensures .0, c .before .if1 .left, c .if2 .left, w)))
+    mid (omega (arith, l .inv .upto)) (c .before .before .standing-at .ensures .1) (omega arith) (omega (arith, c .before .before .standing-at .ensures .0, c .before .if1 .left, c .if2 .left, w)))
 
 returns-2 : tie.Need-returns-2 Inv-loop μ-loop
 returns-2 c =
@@ -124,7 +124,7 @@ load-named-spec =
     loop-holds
     sub-mid
     add-mid
-    place-of-requires
+    standing-at-requires
     add-result
     returns
     add-lo
