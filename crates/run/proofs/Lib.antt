@@ -1,2 +1,3 @@
--- A run past its first refusals stays past them.
+-- A change as the code makes it; a run past its first refusals stays past them.
+pub mod Making
 pub mod Past

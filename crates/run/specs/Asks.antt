@@ -10,8 +10,8 @@ use Rattle.paper.specs.declared.Answer.the-variants.{Done, Refused}
 use Rattle.paper.specs.declared.Kind.the-variants.{C}
 use Rattle.laws.proofs.Changes.{Still}
 use Rattle.laws.proofs.Cursor.{Cursor}
-use Rattle.run.specs.declared.Turn.{Turn}
-use Rattle.run.specs.declared.Turn.the-variants as turn
+use Rattle.run.specs.declared.Next.{Next}
+use Rattle.run.specs.declared.Next.the-variants as next
 
 -- a change in a row of a judged deck
 pub record ChangeAt (t : List ℕ) (at : ℕ) : Type 0 where
@@ -25,11 +25,11 @@ pub record Making (t : List ℕ) (k at : ℕ) : Type 0 where
   pub cursor : Cursor t k k at
 
 -- what a turn answers
-abbrev pub said : Turn → Answer
-said (turn.At row) = Done
-said (turn.Refused r) = Refused r
+abbrev pub said : Next → Answer
+said (next.At row) = Done
+said (next.Refused r) = Refused r
 
 -- where it leaves the deck: no change of increment k is left from the row on
-abbrev pub Leaves : List ℕ → List ℕ → ℕ → Turn → Type 0
-Leaves t t′ k (turn.At row) = Still t t′ × Cursor t′ k (suc k) row
-Leaves t t′ k (turn.Refused r) = Unit {0}
+abbrev pub Leaves : List ℕ → List ℕ → ℕ → Next → Type 0
+Leaves t t′ k (next.At row) = Still t t′ × Cursor t′ k (suc k) row
+Leaves t t′ k (next.Refused r) = Unit {0}

@@ -103,7 +103,7 @@ fn change(
 // ---- the changes of an increment
 
 // The row of the next change, Z's where there is none, or a refusal.
-enum Turn {
+enum Next {
     At(usize),
     Refused(Refusal),
 }
@@ -133,7 +133,7 @@ fn changes(
     starts: &[u32],
     first: usize,
     increment: u32,
-) -> Turn
+) -> Next
     requires { ⌜ Making (now table) increment first ⌝ }
     ensures { λ r. ⌜ (leftKept (said r) (kept (now (table .exit)) (now (p .exit)) (now (a .exit)) (now (factor .exit)) (now (work .exit)) (now (starts .entry)) [] []) ≡ changesFrom increment (rows (now (table .entry)) - first) first (kept (now (table .entry)) (now (p .entry)) (now (a .entry)) (now (factor .entry)) (now (work .entry)) (now (starts .entry)) [] [])) × Leaves (now (table .entry)) (now (table .exit)) increment r ⌝ }
 {
@@ -141,7 +141,7 @@ fn changes(
     let mut at = first;
     while at < last {
         if element::field(&table[..], at, 1) != increment {
-            return Turn::At(at);
+            return Next::At(at);
         }
         let answer = change(
             &mut table[..],
@@ -153,11 +153,11 @@ fn changes(
             at,
         );
         if let Answer::Refused(why) = answer {
-            return Turn::Refused(why);
+            return Next::Refused(why);
         }
         at += 1;
     }
-    Turn::At(at)
+    Next::At(at)
 }
 
 // ---- the run
@@ -175,7 +175,7 @@ fn turn(
     long: usize,
     at: usize,
     count: u32,
-) -> Turn
+) -> Next
     requires { ⌜ Past (now table) (now p) (now a) (now factor) (now starts) (now temperatures) (now carried) long × Cursor (now table) (suc count) (suc count) at × (count < 4294967295) ⌝ }
     ensures { λ r. ⌜ (leftKept (said r) (kept (now (table .exit)) (now (p .exit)) (now (a .exit)) (now (factor .exit)) (now (work .exit)) (now (starts .entry)) (now (temperatures .exit)) (now (carried .exit))) ≡ turnOf count at (kept (now (table .entry)) (now (p .entry)) (now (a .entry)) (now (factor .entry)) (now (work .entry)) (now (starts .entry)) (now (temperatures .entry)) (now (carried .entry)))) × Leaves (now (table .entry)) (now (table .exit)) (suc count) r ⌝ }
 {
@@ -189,7 +189,7 @@ fn turn(
         at,
         count + 1,
     );
-    let Turn::At(row) = made else {
+    let Next::At(row) = made else {
         return made;
     };
     let answer = step::judged_step(
@@ -203,9 +203,9 @@ fn turn(
         long,
     );
     if let Stepped::Refused(why) = answer {
-        return Turn::Refused(why);
+        return Next::Refused(why);
     }
-    Turn::At(row)
+    Next::At(row)
 }
 
 // k of them, as far as none is refused.
@@ -241,8 +241,8 @@ fn turns(
             at,
             count,
         ) {
-            Turn::At(row) => at = row,
-            Turn::Refused(why) => return Answer::Refused(why),
+            Next::At(row) => at = row,
+            Next::Refused(why) => return Answer::Refused(why),
         }
         count += 1;
     }
@@ -317,7 +317,7 @@ fn judged_run(
         first,
         1,
     ) {
-        Turn::At(at) => opened(
+        Next::At(at) => opened(
             &mut table[..],
             &mut p[..],
             &mut a[..],
@@ -329,7 +329,7 @@ fn judged_run(
             at,
             k,
         ),
-        Turn::Refused(why) => Answer::Refused(why),
+        Next::Refused(why) => Answer::Refused(why),
     }
 }
 
