@@ -1,7 +1,7 @@
 -- What a step asks past its first refusals holds again after changes and steps, and then nothing is refused there.
-use mathlib.Core.Path.{_≡_, sym, ap, _∙_}
+use mathlib.Core.Path.{_≡_, refl, sym, ap, _∙_}
 use mathlib.Core.Bool.{true, _&&_}
-use mathlib.Core.List.{List}
+use mathlib.Core.List.{List, []}
 use Prim.Native.Nat.{ℕ}
 use native.Mathlib.Omega.{arith}
 use borrow.Author.Tests.{le-leb}
@@ -13,7 +13,7 @@ use Rattle.whole.proofs.RowStarts.{rows-ext}
 use Rattle.paper.specs.Refusals.{andThen}
 use Rattle.paper.specs.Cards.{nodes}
 use Rattle.paper.specs.Coupled.{firstOf}
-use Rattle.paper.specs.KeptCalls.{Kept, kept, keptLong, keptEnough, nodesJudged}
+use Rattle.paper.specs.KeptCalls.{Kept, kept, keptLong, keptEnough, lengthsJudged, startsJudged, nodesJudged}
 use Rattle.paper.specs.declared.Answer.the-variants.{Done}
 use Rattle.laws.proofs.KeptCalls.{lengths-pass}
 use Rattle.laws.proofs.KeptDemand3.{long-of, own-pass}
@@ -53,3 +53,8 @@ module _ {t : List ℕ} {p a f : List ℤ} {st : List ℕ} {old carried : List �
         old-room = omega (arith, q .old-room, n);
         carried-room = omega (arith, q .carried-room, n);
       }
+
+-- 9 and 17 do not ask for the work slice
+pub any-work : (t : List ℕ) (p a f w : List ℤ) (st : List ℕ) (old carried : List ℤ) → nodesJudged (kept t p a f w st old carried) ≡ nodesJudged (kept t p a f [] st old carried)
+unfolding lengthsJudged keptEnough startsJudged
+any-work t p a f w st old carried = refl

@@ -41,9 +41,11 @@ module _ (count at : ℕ) (t : List ℕ) (p a f w : List ℤ) (st : List ℕ) (o
 
   pub not-made : (why : Refusal) → n ≡ next.Refused why
       → (leftKept (said n) (kept t₁ p₁ a₁ f₁ w₁ st old carried) ≡ turnOf count at (kept t p a f w st old carried)) × Leaves t t₁ (suc count) n
-  not-made why q =
-      (ap (λ (n : Next). leftKept (said n) (kept t₁ p₁ a₁ f₁ w₁ st old carried)) q
-      ∙ turn-refused count at old carried (kept t p a f w st [] []) (said n) (kept t₁ p₁ a₁ f₁ w₁ st [] []) is why (ap said q), leaves)
+  not-made why q = (
+    ap (λ (n : Next). leftKept (said n) (kept t₁ p₁ a₁ f₁ w₁ st old carried)) q
+        ∙ turn-refused count at old carried (kept t p a f w st [] []) (said n) (kept t₁ p₁ a₁ f₁ w₁ st [] []) is why (ap said q),
+    leaves,
+  )
 
   module _ (row : ℕ) (q : n ≡ next.At row) (long : ℕ) (past : Past t p a f st old carried long) (ep : length p₁ ≡ length p) (ea : length a₁ ≡ length a) (ef : length f₁ ≡ length f) where
     pub past-made : Past t₁ p₁ a₁ f₁ st old carried long
@@ -61,9 +63,10 @@ module _ (count at : ℕ) (t : List ℕ) (p a f w : List ℤ) (st : List ℕ) (o
 
       pub step-made : (c : ℕ) → s ≡ stepAnswer.Settled c
           → (leftKept Done (kept t₁ p₁ a₁ f₁ w₁ st old₂ carried₂) ≡ turnOf count at (kept t p a f w st old carried)) × Leaves t t₁ (suc count) (next.At row)
-      step-made c es =
-          (turn-done count at old carried (kept t p a f w st [] []) (said n) (kept t₁ p₁ a₁ f₁ w₁ st [] []) is (ap said q) s (kept t₁ p₁ a₁ f₁ w₁ st old₂ carried₂) stepped c es,
-          leaves-at t t₁ (suc count) n row leaves q)
+      step-made c es = (
+        turn-done count at old carried (kept t p a f w st [] []) (said n) (kept t₁ p₁ a₁ f₁ w₁ st [] []) is (ap said q) s (kept t₁ p₁ a₁ f₁ w₁ st old₂ carried₂) stepped c es,
+        leaves-at t t₁ (suc count) n row leaves q,
+      )
 
 -- ---- one more turn of k
 
@@ -76,3 +79,7 @@ module _ {z₀ z : Kept} {k first count at : ℕ} (v : Turned z₀ z k first cou
   turned-on row q =
       let (s, c) = leaves-at (z .lent .table) (z′ .lent .table) (suc count) n row (e .1) q in
       turns-on v h (said n) z′ (e .0) (ap said q) row (s .judge) c
+
+-- none is left of the first increment, so none of a later one is passed over
+pub first-turn : (t : List ℕ) (at : ℕ) → Cursor t 1 2 at → Cursor t 1 1 at
+first-turn t at c = record { inside = c .inside; behind = c .behind; ahead = λ row l h. let (e, m) = c .ahead row l h in (e, omega arith) }

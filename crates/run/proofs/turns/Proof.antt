@@ -22,9 +22,17 @@ abbrev μ-loop : tie.MeasureT-loop
 
 loop-holds : tie.Need-loop-holds Inv-loop μ-loop
 loop-holds c =
-    let s = c .before .before .args in
-    (refl, refl, refl, refl, refl, refl, refl, c .before .before .pre .0,
-    turns-start (kept (s .table .now) (s .p .now) (s .a .now) (s .factor .now) (s .work .now) (s .starts .now) (s .temperatures .now) (s .carried .now)) (s .k) (s .first) (c .before .before .pre .0 .judge) (c .before .before .pre .1))
+    let s = c .before .before .args in (
+      refl,
+      refl,
+      refl,
+      refl,
+      refl,
+      refl,
+      refl,
+      c .before .before .pre .0,
+      turns-start (kept (s .table .now) (s .p .now) (s .a .now) (s .factor .now) (s .work .now) (s .starts .now) (s .temperatures .now) (s .carried .now)) (s .k) (s .first) (c .before .before .pre .0 .judge) (c .before .before .pre .1),
+    )
 
 turn-requires : tie.Need-turn-requires Inv-loop μ-loop
 turn-requires c κs = (c .before .before .before .before .before .before .before .before .loop .inv .7, c .before .before .before .before .before .before .before .before .loop .inv .8 .cursor, omega arith)
@@ -67,11 +75,17 @@ loop-less c = search needs
 
 loop-again : tie.Need-loop-again Inv-loop μ-loop
 loop-again c =
-    let s = leaves-at (c .before .before .before .before .before .before .before .before .before .before .before .before .before .before .before .before .before .before .before .before .loop .table) (c .before .before .before .before .before .before .before .before .before .before .before .turn .last .0) (suc (c .before .before .before .before .before .before .before .before .before .before .before .before .before .before .before .before .before .before .before .before .loop .count)) (c .before .before .before .before .before .before .before .before .before .before .before .turn .result) _ (c .before .before .before .before .before .before .before .before .before .before .before .turn .ensures .1) (c .before .row .given .1) .0 in
-    (c .before .before .before .before .before .before .before .before .before .before .before .turn .kept .0 ∙ c .before .before .before .before .before .before .before .before .before .before .before .before .before .before .before .before .before .before .before .before .loop .inv .0, c .before .before .before .before .before .before .before .before .before .before .before .turn .kept .1 .0 ∙ c .before .before .before .before .before .before .before .before .before .before .before .before .before .before .before .before .before .before .before .before .loop .inv .1, c .before .before .before .before .before .before .before .before .before .before .before .turn .kept .1 .1 .0 ∙ c .before .before .before .before .before .before .before .before .before .before .before .before .before .before .before .before .before .before .before .before .loop .inv .2, c .before .before .before .before .before .before .before .before .before .before .before .turn .kept .1 .1 .1 .0 ∙ c .before .before .before .before .before .before .before .before .before .before .before .before .before .before .before .before .before .before .before .before .loop .inv .3, c .before .before .before .before .before .before .before .before .before .before .before .turn .kept .1 .1 .1 .1 .0 ∙ c .before .before .before .before .before .before .before .before .before .before .before .before .before .before .before .before .before .before .before .before .loop .inv .4,
-    c .before .before .before .before .before .before .before .before .before .before .before .turn .kept .1 .1 .1 .1 .1 .1 .0 ∙ c .before .before .before .before .before .before .before .before .before .before .before .before .before .before .before .before .before .before .before .before .loop .inv .5, c .before .before .before .before .before .before .before .before .before .before .before .turn .kept .1 .1 .1 .1 .1 .1 .1 .0 ∙ c .before .before .before .before .before .before .before .before .before .before .before .before .before .before .before .before .before .before .before .before .loop .inv .6,
-    past-still (c .before .before .before .before .before .before .before .before .before .before .before .before .before .before .before .before .before .before .before .before .loop .inv .7) s (c .before .before .before .before .before .before .before .before .before .before .before .turn .kept .1 .0) (c .before .before .before .before .before .before .before .before .before .before .before .turn .kept .1 .1 .0) (c .before .before .before .before .before .before .before .before .before .before .before .turn .kept .1 .1 .1 .0) (c .before .before .before .before .before .before .before .before .before .before .before .turn .kept .1 .1 .1 .1 .1 .1 .0) (c .before .before .before .before .before .before .before .before .before .before .before .turn .kept .1 .1 .1 .1 .1 .1 .1 .0),
-    turned-on (c .before .before .before .before .before .before .before .before .before .before .before .before .before .before .before .before .before .before .before .before .loop .inv .8) (omega arith) (c .before .before .before .before .before .before .before .before .before .before .before .turn .result) _ (c .before .before .before .before .before .before .before .before .before .before .before .turn .ensures) _ (c .before .row .given .1))
+    let s = leaves-at (c .before .before .before .before .before .before .before .before .before .before .before .before .before .before .before .before .before .before .before .before .loop .table) (c .before .before .before .before .before .before .before .before .before .before .before .turn .last .0) (suc (c .before .before .before .before .before .before .before .before .before .before .before .before .before .before .before .before .before .before .before .before .loop .count)) (c .before .before .before .before .before .before .before .before .before .before .before .turn .result) _ (c .before .before .before .before .before .before .before .before .before .before .before .turn .ensures .1) (c .before .row .given .1) .0 in (
+      c .before .before .before .before .before .before .before .before .before .before .before .turn .kept .0 ∙ c .before .before .before .before .before .before .before .before .before .before .before .before .before .before .before .before .before .before .before .before .loop .inv .0,
+      c .before .before .before .before .before .before .before .before .before .before .before .turn .kept .1 .0 ∙ c .before .before .before .before .before .before .before .before .before .before .before .before .before .before .before .before .before .before .before .before .loop .inv .1,
+      c .before .before .before .before .before .before .before .before .before .before .before .turn .kept .1 .1 .0 ∙ c .before .before .before .before .before .before .before .before .before .before .before .before .before .before .before .before .before .before .before .before .loop .inv .2,
+      c .before .before .before .before .before .before .before .before .before .before .before .turn .kept .1 .1 .1 .0 ∙ c .before .before .before .before .before .before .before .before .before .before .before .before .before .before .before .before .before .before .before .before .loop .inv .3,
+      c .before .before .before .before .before .before .before .before .before .before .before .turn .kept .1 .1 .1 .1 .0 ∙ c .before .before .before .before .before .before .before .before .before .before .before .before .before .before .before .before .before .before .before .before .loop .inv .4,
+      c .before .before .before .before .before .before .before .before .before .before .before .turn .kept .1 .1 .1 .1 .1 .1 .0 ∙ c .before .before .before .before .before .before .before .before .before .before .before .before .before .before .before .before .before .before .before .before .loop .inv .5,
+      c .before .before .before .before .before .before .before .before .before .before .before .turn .kept .1 .1 .1 .1 .1 .1 .1 .0 ∙ c .before .before .before .before .before .before .before .before .before .before .before .before .before .before .before .before .before .before .before .before .loop .inv .6,
+      past-still (c .before .before .before .before .before .before .before .before .before .before .before .before .before .before .before .before .before .before .before .before .loop .inv .7) s (c .before .before .before .before .before .before .before .before .before .before .before .turn .kept .1 .0) (c .before .before .before .before .before .before .before .before .before .before .before .turn .kept .1 .1 .0) (c .before .before .before .before .before .before .before .before .before .before .before .turn .kept .1 .1 .1 .0) (c .before .before .before .before .before .before .before .before .before .before .before .turn .kept .1 .1 .1 .1 .1 .1 .0) (c .before .before .before .before .before .before .before .before .before .before .before .turn .kept .1 .1 .1 .1 .1 .1 .1 .0),
+      turned-on (c .before .before .before .before .before .before .before .before .before .before .before .before .before .before .before .before .before .before .before .before .loop .inv .8) (omega arith) (c .before .before .before .before .before .before .before .before .before .before .before .turn .result) _ (c .before .before .before .before .before .before .before .before .before .before .before .turn .ensures) _ (c .before .row .given .1),
+    )
 
 same-length-8 : tie.Need-same-length-8 Inv-loop μ-loop
 same-length-8 c = c .before .loop .inv .0
