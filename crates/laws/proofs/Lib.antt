@@ -67,6 +67,7 @@ pub mod Passing
 pub mod Imported
 pub mod Importing
 pub mod ByHand
+pub mod Stretches
 pub mod Changes
 pub mod Targets
 pub mod Cursor

@@ -60,7 +60,7 @@ named-told t at j h e =
 
 -- ---- that card with its new values
 
-gives-few : (k : Kind) → about k .gives ≤ 2
+pub gives-few : (k : Kind) → about k .gives ≤ 2
 unfolding about
 gives-few D = omega arith
 gives-few N = omega arith

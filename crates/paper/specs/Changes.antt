@@ -1,7 +1,8 @@
 -- Request [9]: changes during the run. A C card names a card by its letter and key, and gives it new values at the start of a step.
-use mathlib.Core.Bool.{Bool, cond, _&&_}
+use mathlib.Core.Path.{_≡_}
+use mathlib.Core.Bool.{Bool, false, cond, _&&_}
 use mathlib.Core.List.{List, [], _++_}
-use Prim.Native.Nat.{ℕ, zero, suc, _+_, _-_}
+use Prim.Native.Nat.{ℕ, zero, suc, _+_, _-_, _≤_, _<_}
 use lib.Dec.{eqb}
 use lib.IntN.{ℤ}
 use lib.ListN.{getD, take, drop, replicate}
@@ -12,6 +13,7 @@ use Rattle.paper.specs.Cards.{countsAt, rowAt, rows, stepsOf, put}
 use Rattle.paper.specs.Judge.{judged, cardNamed, newJudged}
 use Rattle.paper.specs.Building.{Slices, build}
 use Rattle.paper.specs.Calls.{whenDone, Lent, lent, StepExit, stepCall}
+use Rattle.paper.specs.Running.{runFrom}
 use Rattle.paper.specs.KeptCalls.{Kept, KeptExit, leftKept, KeptStepExit, KeptRunExit, leftKeptRun, orElse, keptReplace, keptStep}
 use Rattle.paper.specs.declared.Kind.the-variants.{C}
 use Rattle.paper.specs.declared.Answer.{Answer}
@@ -143,3 +145,19 @@ unfoldable pub handRun : ℕ → ℕ → Hand → HandExit
 handRun zero count h = leftHand Done h
 handRun (suc n) count h =
     byHandThen (handChanges (suc count) (rows (h .table)) 0 h) (λ y. byHandThen (handStep y) (handRun n (suc count)))
+
+-- ---- cut where the deck changes
+
+-- no change falls in the n steps after `count` of them
+abbrev pub Quiet : ℕ → ℕ → List ℕ → Type 0
+Quiet n count t = (k row : ℕ) → count < k → k ≤ count + n → row < rows t → falls k t row ≡ false
+
+-- the deck is built once, and n steps done with what that gives
+unfoldable pub handSteps : ℕ → Hand → HandExit
+handSteps n h = go (build (h .table))
+  where
+    go : Outcome Slices → HandExit
+    go (refused r) = leftHand (Refused r) h
+    go (done s) =
+        let x = runFrom n (lent (h .table) (s .p) (s .a) (s .factor) [] (h .temperatures) (h .carried)) in
+        leftHand (x .answer) (handOf (x .lent))

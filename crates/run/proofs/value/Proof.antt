@@ -7,8 +7,7 @@ use native.Mathlib.Omega.{arith}
 use lib.ListN.{getD}
 use Rattle.paper.specs.Kinds.{aboutOf, kindAt}
 use Rattle.laws.proofs.NewCard.{keeps-few}
-use Rattle.laws.proofs.Targets.{renewed-kept, renewed-given, renewed-blank}
-use Rattle.run.proofs.Making.{gives-few}
+use Rattle.laws.proofs.Targets.{gives-few, renewed-kept, renewed-given, renewed-blank}
 
 mul-result : tie.Need-mul-result
 mul-result c = search needs
