@@ -120,3 +120,34 @@ pub fn step(board: &Board, factor: Vec<i64>) -> Work<'_> {
         answer & 255
     })
 }
+
+#[cfg(feature = "run")]
+pub fn run(board: &Board) -> Work<'_> {
+    let mut lent = board.lent(&board.kept);
+    Box::new(move || {
+        lent.renew(board, &board.kept);
+        let length = lent.matrices[0].len();
+        let [p, a, factor, work] = lent.matrices.each_mut().map(|matrix| matrix.as_mut_ptr());
+        let answer = unsafe {
+            crate::packed_face::gormulast_run(
+                lent.table.as_mut_ptr(),
+                lent.table.len(),
+                p,
+                length,
+                a,
+                length,
+                factor,
+                length,
+                work,
+                length,
+                board.starts.as_ptr(),
+                board.starts.len(),
+                lent.temperatures.as_mut_ptr(),
+                lent.temperatures.len(),
+                lent.carried.as_mut_ptr(),
+                lent.carried.len(),
+            )
+        };
+        answer & 255
+    })
+}

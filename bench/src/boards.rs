@@ -118,6 +118,79 @@ impl Board {
     }
 }
 
+/// What a run is lent and may write.
+#[cfg(feature = "run")]
+pub struct Lent {
+    pub table: Vec<u32>,
+    pub matrices: [Vec<i64>; 4],
+    pub temperatures: Vec<i64>,
+    pub carried: Vec<i64>,
+}
+
+#[cfg(feature = "run")]
+impl Lent {
+    /// As it was before the run.
+    pub fn renew(&mut self, board: &Board, matrices: &[Vec<i64>; 4]) {
+        self.table.copy_from_slice(&board.table);
+        for (lent, own) in self.matrices.iter_mut().zip(matrices) {
+            lent.copy_from_slice(own);
+        }
+        self.temperatures.fill(i64::from(board.table[2]));
+        self.carried.fill(0);
+    }
+}
+
+#[cfg(feature = "run")]
+impl Board {
+    pub fn lent(&self, matrices: &[Vec<i64>; 4]) -> Lent {
+        Lent {
+            table: self.table.clone(),
+            matrices: matrices.clone(),
+            temperatures: self.start(),
+            carried: vec![0; self.nodes],
+        }
+    }
+
+    /// The same board with a change at every other step, of H, F and E in turn, as far as there are steps and at most 64.
+    pub fn with_changes(&self) -> Board {
+        use crate::decks::C;
+        let (heats, films): (Vec<_>, Vec<_>) = (self.cards(H).collect(), self.cards(F).collect());
+        let triangles: Vec<_> = self.cards(E).collect();
+        let mut table = self.table[..self.table.len() - 6].to_vec();
+        let mut trailer = self.table[self.table.len() - 6..].to_vec();
+        for (at, step) in (1..=self.table[3]).step_by(2).take(64).enumerate() {
+            let turn = at / 3;
+            let change = match at % 3 {
+                0 => Some(&heats[turn % heats.len()].1).map(|h| [H, h[1], h[2] + step, 0]),
+                1 if !films.is_empty() => {
+                    let film = &films[turn % films.len()].1;
+                    Some([F, film[1], film[2] + step, film[3]])
+                }
+                _ if !triangles.is_empty() => {
+                    let element = turn % triangles.len();
+                    let card = &triangles[element].1;
+                    Some([E, element as u32 + 1, card[4], card[5] - step])
+                }
+                _ => None,
+            };
+            if let Some([letter, key, first, second]) = change {
+                table.extend([C, step, letter, key, first, second]);
+                trailer[1] += 42;
+                trailer[5] += 1;
+            }
+        }
+        table.extend(trailer);
+        Board {
+            bytes: self.bytes.clone(),
+            table,
+            nodes: self.nodes,
+            starts: self.starts.clone(),
+            packed: self.packed.clone(),
+            kept: self.kept.clone(),
+        }
+    }
+}
+
 fn least(nodes: &[u32]) -> u32 {
     nodes.iter().copied().fold(u32::MAX, u32::min)
 }

@@ -5,12 +5,16 @@
 //!
 //! The decks rise in nodes and build. reference/ divides as the paper writes it: its R is x/2^20 by a division.
 //!
-//! With the feature `before` it is the archive's calls against those of an archive from before rows were kept.
+//! With the feature `run` also the deck's steps in one call, and the same with changes. With the feature `before` it is the archive's calls against those of an archive from before rows were kept.
 
 #[path = "../../reference/tests/common/mod.rs"]
 mod decks;
 #[path = "../../tests/differential/src/face.rs"]
 mod face;
+#[cfg(feature = "run")]
+#[path = "../../tests/differential/src/packed_face.rs"]
+#[allow(dead_code)]
+mod packed_face;
 
 mod archive;
 #[cfg(feature = "before")]
@@ -123,6 +127,8 @@ fn calls(boards: &[Board]) {
         if let Some(factors) = board.factors_for(4) {
             show("step by 4", board, steps(board, factors));
         }
+        #[cfg(feature = "run")]
+        runs(board);
     }
     if boards.len() > 1 {
         growth(boards);
@@ -155,6 +161,20 @@ fn steps(board: &Board, [packed, kept]: [Vec<i64>; 2]) -> [f64; 3] {
         plain::step_kept(board, kept.clone()),
         archive::step(board, kept),
     ])
+}
+
+/// All of the deck's steps; and the same with changes, one at every other step and as many as there may be.
+#[cfg(feature = "run")]
+fn runs(board: &Board) {
+    let changing = board.with_changes();
+    for (name, board) in [("run", board), ("run with C", &changing)] {
+        let works = [
+            plain::run_packed(board),
+            plain::run_kept(board),
+            archive::run(board),
+        ];
+        show(name, board, in_turns(works));
+    }
 }
 
 /// How the cost of a build rises: the power of n from each size to the next. Other work on the machine comes and goes, so

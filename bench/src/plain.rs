@@ -73,3 +73,27 @@ pub fn step_kept(board: &Board, factor: Vec<i64>) -> Work<'_> {
         kept::step(table, p, a, &factor, starts, temperatures, carried).packed() & 255
     })
 }
+
+/// A run may change the deck and its matrices: each begins with them as they were.
+#[cfg(feature = "run")]
+pub fn run_packed(board: &Board) -> Work<'_> {
+    let mut lent = board.lent(&board.packed);
+    Box::new(move || {
+        lent.renew(board, &board.packed);
+        let [p, a, factor, work] = &mut lent.matrices;
+        let (temperatures, carried) = (&mut lent.temperatures, &mut lent.carried);
+        reference::run(&mut lent.table, p, a, factor, work, temperatures, carried).packed() & 255
+    })
+}
+
+#[cfg(feature = "run")]
+pub fn run_kept(board: &Board) -> Work<'_> {
+    let mut lent = board.lent(&board.kept);
+    Box::new(move || {
+        lent.renew(board, &board.kept);
+        let [p, a, factor, work] = &mut lent.matrices;
+        let (temperatures, carried) = (&mut lent.temperatures, &mut lent.carried);
+        let (table, starts) = (&mut lent.table, &board.starts);
+        kept::run(table, p, a, factor, work, starts, temperatures, carried).packed() & 255
+    })
+}

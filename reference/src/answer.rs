@@ -87,10 +87,10 @@ impl Stepped {
 }
 
 impl Ran {
-    /// number + 65,536·place: a run has no one count of corrections.
+    /// number + 65,536·place, or 65,536·steps: a run has no one count of corrections.
     pub fn packed(self) -> u64 {
         match self {
-            Ran::Done(_) => 0,
+            Ran::Done(steps) => 65_536 * u64::from(steps),
             Ran::Refused(refusal) => refusal.packed(),
         }
     }

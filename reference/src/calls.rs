@@ -3,7 +3,7 @@
 use crate::answer::*;
 use crate::card::*;
 use crate::element::{change, triangle, Element, Form};
-use crate::judge::{in_range, well_formed, Counts, Deck, Turn};
+use crate::judge::{in_range, well_formed, Counts, Deck, Shape, Turn};
 use crate::layout::Layout;
 use crate::step::{on_scale, Stepper};
 use crate::{edge, solid, text};
@@ -262,38 +262,84 @@ pub fn step<L: Layout>(
     temperatures: &mut [i64],
     carried: &mut [i64],
 ) -> Result<u32, Refusal> {
-    let one = |stepper: &Stepper<L>, _, temperatures: &mut [i64], carried: &mut [i64]| {
+    let one = |stepper: &Stepper<L>, temperatures: &mut [i64], carried: &mut [i64]| {
         stepper.step(temperatures, carried)
     };
     judged(table, lent, starts, [temperatures, carried], one)
 }
 
-/// D's number of steps, up to the first refusal; each hands temperatures and residuals to the next. What a step asks of the deck, the
-/// matrices and the row starts is the same each time, and asked once. So are 10 of the residuals and 11 of the temperatures: a step
-/// leaves residuals within its row bounds, which 10 of A holds to 2^33, and temperatures on the scale.
+/// D's number of steps, up to the first refusal; each hands temperatures and residuals to the next. Before step k the changes of
+/// increment k are made as replacements, in order; one that is refused ends the run, and those before it stay made.
 pub fn run<L: Layout>(
-    table: &[u32],
-    lent: [&[i64]; 3],
+    table: &mut [u32],
+    [p, a, factor, work]: [&mut [i64]; 4],
     starts: &[u32],
     temperatures: &mut [i64],
     carried: &mut [i64],
 ) -> Result<u32, Refusal> {
-    let all = |stepper: &Stepper<L>, steps, temperatures: &mut [i64], carried: &mut [i64]| {
+    let deck = Deck::judge(table)?;
+    let (shape, steps) = (deck.shape(), deck.steps());
+    let mut at = deck.first_change();
+    let mut done = 0;
+    while done < steps {
+        let lent = [&mut *p, &mut *a, &mut *factor, &mut *work];
+        at = change_all::<L>(table, shape, lent, starts, at, done + 1)?;
+        let next = Deck::shaped(table, shape).change(at);
+        let until = next.map_or(steps, |change| steps.min(change[1] - 1));
+        let both = [&mut *temperatures, &mut *carried];
+        alike::<L>(table, [p, a, factor], starts, both, until - done)?;
+        done = until;
+    }
+    Ok(steps)
+}
+
+/// Makes the changes of an increment from that index on; the index after them.
+fn change_all<L: Layout>(
+    table: &mut [u32],
+    shape: Shape,
+    [p, a, factor, work]: [&mut [i64]; 4],
+    starts: &[u32],
+    mut at: usize,
+    increment: u32,
+) -> Result<usize, Refusal> {
+    loop {
+        let deck = Deck::shaped(table, shape);
+        let Some(change) = deck.change(at).filter(|change| change[1] == increment) else {
+            return Ok(at);
+        };
+        let (card, new) = deck.changed(&change);
+        let lent = [&mut *p, &mut *a, &mut *factor, &mut *work];
+        replace::<L>(table, lent, starts, card, new)?;
+        at += 1;
+    }
+}
+
+/// So many steps with no change between them. What a step asks of the deck, the matrices and the row starts is the same each time, and
+/// asked once. So are 10 of the residuals and 11 of the temperatures: a step leaves residuals within its row bounds, which 10 of A
+/// holds to 2^33, and temperatures on the scale.
+fn alike<L: Layout>(
+    table: &[u32],
+    lent: [&[i64]; 3],
+    starts: &[u32],
+    both: [&mut [i64]; 2],
+    steps: u32,
+) -> Result<u32, Refusal> {
+    let all = |stepper: &Stepper<L>, temperatures: &mut [i64], carried: &mut [i64]| {
         for _ in 0..steps {
             stepper.step(temperatures, carried)?;
         }
         Ok(steps)
     };
-    judged(table, lent, starts, [temperatures, carried], all)
+    judged(table, lent, starts, both, all)
 }
 
-/// The judging before a step, then `work` with the stepper, D's steps, the n temperatures and the n residuals.
+/// The judging before a step, then `work` with the stepper, the n temperatures and the n residuals.
 fn judged<L: Layout>(
     table: &[u32],
     [p, a, factor]: [&[i64]; 3],
     starts: &[u32],
     [temperatures, carried]: [&mut [i64]; 2],
-    work: impl Fn(&Stepper<L>, u32, &mut [i64], &mut [i64]) -> Result<u32, Refusal>,
+    work: impl Fn(&Stepper<L>, &mut [i64], &mut [i64]) -> Result<u32, Refusal>,
 ) -> Result<u32, Refusal> {
     let deck = Deck::judge(table)?;
     let layout = L::of(&deck);
@@ -308,7 +354,7 @@ fn judged<L: Layout>(
     judge_carried(carried)?;
     on_scale(temperatures)?;
     let stepper = Stepper::new(&deck, layout, [p, a, factor]);
-    work(&stepper, deck.steps(), temperatures, carried)
+    work(&stepper, temperatures, carried)
 }
 
 /// The parts of four lent matrices that count, or 9 of one of them or of the row starts.

@@ -74,7 +74,7 @@ pub fn import(table: &[u32], records: &[u8], second: &mut [u32]) -> Answer {
 fn try_import(table: &[u32], records: &[u8], second: &mut [u32]) -> Result<(), Refusal> {
     let deck = Deck::judge(table)?;
     let first = deck.counts.first_load();
-    if let Some(at) = deck.loads().position(|card| card[0] != G) {
+    if let Some(at) = deck.loads().position(|card| [H, F, T].contains(&card[0])) {
         return Err(Refusal::at_index(REPLACEMENT, first + at));
     }
     let length = records.len();
@@ -86,7 +86,7 @@ fn try_import(table: &[u32], records: &[u8], second: &mut [u32]) -> Result<(), R
     let records = || records.chunks_exact(RECORD_BYTES).map(Record::of);
     let count = judge_all(&deck, records(), &Record::of(tail))?;
 
-    // Of each element one H, of each triangle one F, of each node one T at most, and the deck's own G: never too many.
+    // Of each element one H, of each triangle one F, of each node one T at most, and the deck's own G and C: never too many.
     let rows = deck.counts.rows() + count;
     if second.len() < 6 * rows {
         return Err(Refusal::whole(SHORT));
@@ -96,9 +96,11 @@ fn try_import(table: &[u32], records: &[u8], second: &mut [u32]) -> Result<(), R
         let cards = records().filter_map(|record| record.card().ok());
         cards.filter(move |card| (card[0] == T) == held)
     };
+    let own = |letter: u32| deck.loads().filter(move |card| card[0] == letter);
     let cards = deck.cards().take(first);
-    let cards = cards.chain(new(false)).chain(deck.loads());
-    let cards = cards.chain(new(true)).chain([trailer(&deck, count)]);
+    let cards = cards.chain(new(false)).chain(own(G));
+    let cards = cards.chain(new(true)).chain(own(C));
+    let cards = cards.chain([trailer(&deck, count)]);
     for (row, card) in second.chunks_exact_mut(6).zip(cards) {
         row.copy_from_slice(&card);
     }
@@ -143,7 +145,7 @@ fn judge(deck: &Deck, before: &Card, record: &Record) -> Result<Card, u8> {
 
 /// Z with so many cards more.
 fn trailer(deck: &Deck, count: usize) -> Card {
-    let [_, _, nodes, materials, elements, edges] = deck.card(deck.counts.trailer());
+    let [_, _, nodes, materials, elements, loads] = deck.card(deck.counts.trailer());
     let back = CARD_BYTES * (deck.counts.rows() + count - 1);
     [
         Z,
@@ -151,6 +153,6 @@ fn trailer(deck: &Deck, count: usize) -> Card {
         nodes,
         materials,
         elements,
-        edges + count as u32,
+        loads + count as u32,
     ]
 }

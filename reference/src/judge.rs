@@ -65,9 +65,9 @@ fn within(value: u32, least: u32, most: u32) -> bool {
     least <= value && value <= most
 }
 
-/// A letter that is one of the ten, and nothing in the fields that it uses in no deck.
+/// A letter that is one of the eleven, and nothing in the fields that it uses in no deck.
 pub fn well_formed(card: &Card) -> bool {
-    match fields_used(card[0], true) {
+    match fields_used(card, true) {
         Some(used) => card[1 + used..].iter().all(|&field| field == 0),
         None => false,
     }
@@ -75,11 +75,18 @@ pub fn well_formed(card: &Card) -> bool {
 
 /// Does a card of a table have a z or kz, as only in a solid deck it may? A 0 is none.
 fn filled(card: &Card) -> bool {
-    fields_used(card[0], false).is_some_and(|used| card[1 + used..].iter().any(|&field| field != 0))
+    fields_used(card, false).is_some_and(|used| card[1 + used..].iter().any(|&field| field != 0))
 }
 
-/// May this letter stand at this index, after that letter and so many G cards?
-fn allowed(counts: &Counts, index: usize, before: u32, edges: usize, letter: u32) -> bool {
+/// How many cards there are so far of the kinds that have a most of their own.
+#[derive(Clone, Copy)]
+struct Seen {
+    edges: usize,
+    changes: usize,
+}
+
+/// May this letter stand at this index, after that letter and so many G and C cards?
+fn allowed(counts: &Counts, index: usize, before: u32, seen: Seen, letter: u32) -> bool {
     if index == 0 {
         letter == D
     } else if index < counts.first_material() {
@@ -91,9 +98,10 @@ fn allowed(counts: &Counts, index: usize, before: u32, edges: usize, letter: u32
     } else {
         match letter {
             H => before == E || before == V || before == H,
-            F => before != G && before != T,
-            G => before != T && edges < MAX_EDGES,
-            T => true,
+            F => before != G && before != T && before != C,
+            G => before != T && before != C && seen.edges < MAX_EDGES,
+            T => before != C,
+            C => seen.changes < MAX_CHANGES,
             _ => false,
         }
     }
@@ -106,7 +114,7 @@ pub fn in_range(counts: &Counts, solid: bool, card: &Card) -> bool {
     let elements = counts.elements as u32;
     let [letter, a, b, c, d, e] = *card;
     match letter {
-        D => within(a, 1, 60_000) && b <= TOP && within(c, 1, 100_000),
+        D => within(a, 1, 60_000) && b <= TOP && within(c, 1, MAX_STEPS),
         N if solid => a <= 1_023 && b <= 1_023 && c <= 1_023,
         N => a <= 4_095 && b <= 4_095,
         M => {
@@ -131,16 +139,28 @@ pub fn in_range(counts: &Counts, solid: bool, card: &Card) -> bool {
                 && within(e, 1, 4_000)
         }
         T => within(a, 1, nodes) && b <= TOP,
+        // Its key is asked with the cards before it.
+        C => within(a, 1, MAX_STEPS) && turn(b).is_some() && d <= MAX_VALUE && e <= MAX_VALUE,
         _ => false,
     }
 }
 
-/// In H, F and T the first field rises strictly within the group, in G the two nodes as a pair.
+/// The place in the deck's order of a letter that a C may name.
+fn turn(letter: u32) -> Option<usize> {
+    [E, H, F, T].iter().position(|&named| named == letter)
+}
+
+/// In H, F and T the first field rises strictly within the group, in G the two nodes as a pair, in C the increment, the letter as
+/// it stands in the deck and the key.
 pub fn rising(before: &Card, card: &Card) -> bool {
     before[0] != card[0]
         || match card[0] {
             H | F | T => before[1] < card[1],
             G => before[1] < card[1] || (before[1] == card[1] && before[2] < card[2]),
+            C => {
+                let by = |card: &Card| (card[1], turn(card[2]), card[3]);
+                by(before) < by(card)
+            }
             _ => true,
         }
 }
@@ -154,8 +174,10 @@ pub struct Turn {
     before: Card,
     /// The E cards so far.
     triangles: usize,
-    /// The G cards so far.
-    edges: usize,
+    /// The G and C cards so far.
+    seen: Seen,
+    /// The elements of H and of F and the nodes of T so far, each from 0.
+    keys: Keys,
     /// z of the nodes so far: 0 in a flat deck.
     levels: [u32; MAX_NODES],
 }
@@ -168,7 +190,11 @@ impl Turn {
             index: 0,
             before: [0; 6],
             triangles: 0,
-            edges: 0,
+            seen: Seen {
+                edges: 0,
+                changes: 0,
+            },
+            keys: Keys::NONE,
             levels: [0; MAX_NODES],
         }
     }
@@ -176,7 +202,7 @@ impl Turn {
     /// The next card: 3, then 4. `filled` says that it has a z or kz where the deck is flat.
     pub fn judge(&mut self, card: &Card, filled: bool) -> Result<(), Refusal> {
         let (counts, index, before) = (&self.counts, self.index, &self.before);
-        if !well_formed(card) || !allowed(counts, index, before[0], self.edges, card[0]) {
+        if !well_formed(card) || !allowed(counts, index, before[0], self.seen, card[0]) {
             return Err(Refusal::at_index(FORM, index));
         }
         let flat_and_filled = filled && !self.solid;
@@ -190,7 +216,11 @@ impl Turn {
         match card[0] {
             N => self.levels[index - 1] = card[3],
             E => self.triangles += 1,
-            G => self.edges += 1,
+            H => self.keys.heats[card[1] as usize - 1] = true,
+            F => self.keys.films[card[1] as usize - 1] = true,
+            T => self.keys.held[card[1] as usize - 1] = true,
+            G => self.seen.edges += 1,
+            C => self.seen.changes += 1,
             _ => {}
         }
         self.index += 1;
@@ -198,15 +228,53 @@ impl Turn {
         Ok(())
     }
 
-    /// The nodes of an E, which are in range, lie at one z; the element of an F is an E.
+    /// The nodes of an E, which are in range, lie at one z; the element of an F is an E; there is a card that a C changes.
     fn lies_well(&self, card: &Card) -> bool {
         let level = |field: usize| self.levels[card[field] as usize - 1];
         match card[0] {
             E => level(1) == level(2) && level(1) == level(3),
             F => card[1] as usize <= self.triangles,
+            C => self.has(card[2], card[3]),
             _ => true,
         }
     }
+
+    /// Is there a card of that letter with that key among those so far? An E's key is its number as an element.
+    fn has(&self, letter: u32, key: u32) -> bool {
+        let Some(key) = (key as usize).checked_sub(1) else {
+            return false;
+        };
+        let among = |keys: &[bool]| keys.get(key) == Some(&true);
+        match letter {
+            E => key < self.triangles,
+            H => among(&self.keys.heats),
+            F => among(&self.keys.films),
+            T => among(&self.keys.held),
+            _ => false,
+        }
+    }
+}
+
+/// Which elements have an H and an F and which nodes a T.
+struct Keys {
+    heats: [bool; MAX_ELEMENTS],
+    films: [bool; MAX_ELEMENTS],
+    held: [bool; MAX_NODES],
+}
+
+impl Keys {
+    const NONE: Keys = Keys {
+        heats: [false; MAX_ELEMENTS],
+        films: [false; MAX_ELEMENTS],
+        held: [false; MAX_NODES],
+    };
+}
+
+/// What no replacement changes of a deck, beside its D and C cards; nor does one make it no deck.
+#[derive(Clone, Copy)]
+pub struct Shape {
+    counts: Counts,
+    solid: bool,
 }
 
 /// A table that has been judged.
@@ -238,6 +306,23 @@ impl<'a> Deck<'a> {
             counts,
             solid,
         })
+    }
+
+    /// A table that was judged, as replacements have left it.
+    pub fn shaped(table: &'a [u32], shape: Shape) -> Deck<'a> {
+        let Shape { counts, solid } = shape;
+        Deck {
+            table,
+            counts,
+            solid,
+        }
+    }
+
+    pub fn shape(&self) -> Shape {
+        Shape {
+            counts: self.counts,
+            solid: self.solid,
+        }
     }
 
     /// The card at an index, D being 0.
@@ -283,10 +368,41 @@ impl<'a> Deck<'a> {
         elements.take_while(|card| card[0] == E).count()
     }
 
-    /// The H, F, G and T cards.
+    /// The H, F, G, T and C cards.
     pub fn loads(&self) -> impl Iterator<Item = Card> + 'a {
         let counts = self.counts;
         self.cards().skip(counts.first_load()).take(counts.loads)
+    }
+
+    /// The index of the first C card; of Z where there is none.
+    pub fn first_change(&self) -> usize {
+        let at = self.loads().position(|card| card[0] == C);
+        at.map_or(self.counts.trailer(), |at| self.counts.first_load() + at)
+    }
+
+    /// The C card at an index, if it is one.
+    pub fn change(&self, index: usize) -> Option<Card> {
+        Some(self.card(index)).filter(|card| card[0] == C)
+    }
+
+    /// The number of the E, H, F or T card that a C changes, and that card with its new values.
+    pub fn changed(&self, change: &Card) -> (u32, Card) {
+        let [_, _, letter, key, first, second] = *change;
+        let counts = &self.counts;
+        let index = if letter == E {
+            counts.first_element() + key as usize - 1
+        } else {
+            let named = |card: &Card| card[0] == letter && card[1] == key;
+            let at = self.loads().position(|card| named(&card));
+            counts.first_load() + at.expect("a judged C has its card")
+        };
+        let mut card = self.card(index);
+        match letter {
+            E => (card[4], card[5]) = (first, second),
+            F => (card[2], card[3]) = (first, second),
+            _ => card[2] = first,
+        }
+        (index as u32 + 1, card)
     }
 
     /// The temperature of each fixed node.

@@ -42,7 +42,7 @@ fn simulate(bytes: &[u8]) -> Result<(u32, Vec<i64>), Refusal> {
     let mut table = vec![0; 6 * MAX_ROWS];
     let (answer, start, end) = read(bytes, &mut table);
     accepted(answer)?;
-    let table = &table[..(end - start) / 42 * 6];
+    let table = &mut table[..(end - start) / 42 * 6];
     // D's start temperature; Z's count of nodes.
     let start = i64::from(table[2]);
     let nodes = table[table.len() - 4] as usize;
@@ -52,9 +52,9 @@ fn simulate(bytes: &[u8]) -> Result<(u32, Vec<i64>), Refusal> {
         (matrix.clone(), matrix.clone(), matrix.clone(), matrix);
     accepted(build(table, &mut p, &mut a, &mut factor, &mut work))?;
 
-    let mut temperatures = vec![start; nodes];
-    let mut carried = vec![0; nodes];
-    match run(table, &p, &a, &factor, &mut temperatures, &mut carried) {
+    let (mut temperatures, mut carried) = (vec![start; nodes], vec![0; nodes]);
+    let (p, a, factor, work) = (&mut p, &mut a, &mut factor, &mut work);
+    match run(table, p, a, factor, work, &mut temperatures, &mut carried) {
         Ran::Done(steps) => Ok((steps, temperatures)),
         Ran::Refused(refusal) => Err(refusal),
     }

@@ -4,7 +4,7 @@ use crate::card::{fields_used, Card, CARD_BYTES};
 
 const COLUMNS: usize = 8;
 
-/// The card that the bytes spell; None if the letter is none of the ten, or
+/// The card that the bytes spell; None if the letter is none of the eleven, or
 /// the columns or the newline are wrong. Ranges are the judge's, and so is a z or
 /// kz that a flat deck has no use for: told beside the card, since a 0 is filled too.
 pub fn scan(bytes: &[u8], solid: bool) -> Option<(Card, bool)> {
@@ -13,14 +13,13 @@ pub fn scan(bytes: &[u8], solid: bool) -> Option<(Card, bool)> {
     }
     let mut card = [0; 6];
     card[0] = u32::from(bytes[0]);
-    let used = fields_used(card[0], solid)?;
-    let used_in_solids = fields_used(card[0], true)?;
     let mut filled = false;
     for (i, columns) in bytes[1..CARD_BYTES - 1].chunks_exact(COLUMNS).enumerate() {
-        if i < used {
+        // Of a C the second field says whether the fifth is used.
+        if i < fields_used(&card, solid)? {
             card[i + 1] = number(columns)?;
         } else if columns.iter().any(|&byte| byte != b' ') {
-            if i >= used_in_solids {
+            if i >= fields_used(&card, true)? {
                 return None;
             }
             card[i + 1] = number(columns)?;
@@ -52,7 +51,7 @@ pub fn print(card: &Card, solid: bool, bytes: &mut [u8]) {
     bytes.fill(b' ');
     bytes[0] = card[0] as u8;
     bytes[CARD_BYTES - 1] = b'\n';
-    let used = fields_used(card[0], solid).unwrap_or(0);
+    let used = fields_used(card, solid).unwrap_or(0);
     for i in 0..used {
         let mut rest = card[i + 1];
         for column in bytes[1 + i * COLUMNS..1 + (i + 1) * COLUMNS]

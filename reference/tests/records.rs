@@ -6,7 +6,7 @@ use common::kind::*;
 use common::*;
 use reference::{import, Answer};
 
-const ROOM: usize = 5_052;
+const ROOM: usize = 5_436;
 const NAN: u32 = INFINITY | 1 << 22;
 /// The least NaN, a signalling one.
 const NAN_ONE: u32 = INFINITY | 1;
@@ -92,15 +92,54 @@ fn places() {
     assert_eq!(table[table.len() - 1], 8);
 }
 
+/// The deck's changes, which can only be of E, come after T and stay as they are; one of another letter has no card to change.
+#[test]
+fn changes_stay_last() {
+    let mut groups = sheet();
+    groups.changes = vec![
+        [1, E, 2, 1, 900],
+        [1, E, 3, 1, 4_001],
+        [100_000, E, 1, 9, 0],
+    ];
+    let all = [
+        Record::heat(2, 1.0),
+        Record::film(3, 1.0, 1.0),
+        Record::held(12, 2.0),
+    ];
+    for mask in 0..8 {
+        let some: Vec<Record> = (0..3)
+            .filter(|at| mask >> at & 1 == 1)
+            .map(|at| all[at])
+            .collect();
+        becomes(&groups.table(), &some, &groups.measured(&some).table());
+    }
+    let table = groups.measured(&all).table();
+    let letters: Vec<u32> = table.chunks(6).map(|card| card[0]).collect();
+    let first = letters.len() - 9;
+    assert_eq!(letters[first..], [H, F, G, G, T, C, C, C, Z]);
+    assert_eq!(table[table.len() - 1], 8);
+    for letter in [H, F, T] {
+        let mut other = groups.clone();
+        other.changes[1] = [1, letter, 3, 1, 0];
+        if letter == F {
+            other.changes[1][4] = 9;
+        }
+        let place = other.table().len() as u32 / 6 - 2;
+        is_refused(&other.table(), &with_tail(&all), 4, place);
+    }
+}
+
 #[test]
 fn largest() {
     let chance = &mut Chance::seeded(8);
-    for groups in [Groups::largest(chance), Groups::largest_block(chance)] {
+    for mut groups in [Groups::largest(chance), Groups::largest_block(chance)] {
+        // Of E alone, which a deck without H, F and T can have.
+        groups.changes = (1..=64).map(|at| [at, E, 1 + at % 10, 1, 900]).collect();
         let records = groups.records();
         let right = groups.measured(&records);
         becomes(&groups.bare().table(), &records, &right.table());
         let cards = right.table().len() / 6;
-        assert_eq!(cards, if groups.solids.is_empty() { 842 } else { 692 });
+        assert_eq!(cards, if groups.solids.is_empty() { 906 } else { 756 });
         // And one more of any kind.
         for last in [HEAT, FILM, HELD] {
             let mut more = records.clone();
@@ -466,7 +505,7 @@ fn deck_first() {
     let decks = [
         (vec![], 1, 0),
         (table[1..].to_vec(), 1, 0),
-        (vec![0; 5_058], 1, 0),
+        (vec![0; 5_442], 1, 0),
         (with(&table, rows - 1, 2, 4), 2, 0),
         (with(&table, 1, 0, M), 3, 2),
         (with(&table, 1, 1, 4_096), 4, 2),

@@ -179,7 +179,7 @@ fn accepted_decks() {
     }
     most.solids = vec![[1, 2, 13, 96, 1]];
     most.films.pop();
-    assert_eq!(most.table().len(), 5_046);
+    assert_eq!(most.table().len(), 5_430);
     accepts(&most.table());
     // 160 together, and one more.
     most.solids.push([1, 2, 13, 96, 1]);
@@ -337,7 +337,7 @@ fn z_and_kz_of_a_solid_deck() {
                 continue;
             }
             let bytes = put(&bytes, row, field, columns);
-            let mut table = vec![9; 5_052];
+            let mut table = vec![9; 5_436];
             let answer = read(&bytes, &mut table).0;
             // A foot of the triangle that is not level with the others: 4 there.
             let place = if row == NODE && !wrong && columns != b"       0" {

@@ -1,23 +1,24 @@
 -- A card's own tests, step by step as the code makes them, and what the judge says of it.
 use mathlib.Core.Path.{_≡_, refl, sym, ap, _∙_}
-use mathlib.Core.Bool.{Bool, true, false}
+use mathlib.Core.Bool.{Bool, true, false, not, _&&_}
 use mathlib.Core.List.{List}
-use Prim.Native.Nat.{ℕ, suc, _+_, _-_, _*_, _≤_, _<_}
+use Prim.Native.Nat.{ℕ, zero, suc, _+_, _-_, _*_, _≤_, _<_}
 use native.Mathlib.Numerals.{add-one}
 use native.Mathlib.Omega.{arith}
 use borrow.Author.Tests.{eq-eqb, ne-eqb, lt-ltb, le-ltb, le-leb, lt-leb}
 use lib.Dec.{eqb, leb, ltb}
 use lib.ListN.{getD}
 use Rattle.whole.specs.Sums.{sumN}
-use Rattle.paper.specs.Kinds.{about, aboutOf, letterOf, kindOf, kindAt, bodies, edge}
-use Rattle.paper.specs.Cards.{before, columnsOf, inRange, ranked, countsOf}
-use Rattle.paper.specs.Judge.{stands, rises, ordered, full, clean, formed, judgeOne, asks, trailer}
+use Rattle.whole.proofs.Tests.{never}
+use Rattle.paper.specs.Kinds.{about, aboutOf, letterOf, kindOf, kindAt, bodies, edge, change}
+use Rattle.paper.specs.Cards.{before, columnsOf, inRange, triple, ranked, countsOf}
+use Rattle.paper.specs.Judge.{stands, rises, ordered, full, clean, formed, judgeOne, cardNamed, asks, trailer}
 use Rattle.paper.specs.declared.Answer.the-variants.{Done, Refused}
 use Rattle.paper.specs.declared.Refusal.the-variants.{Form, Range}
 use Rattle.paper.specs.declared.About.{About}
 use Rattle.paper.specs.declared.Counts.{Counts}
 use Rattle.paper.specs.declared.Kind.{Kind}
-use Rattle.paper.specs.declared.Kind.the-variants.{D, N, M, E, «V», H, F, G, T, Z, Other}
+use Rattle.paper.specs.declared.Kind.the-variants.{D, N, M, E, «V», H, F, G, T, C, Z, Other}
 use Rattle.laws.proofs.Letters.{kind-letter, kind-of}
 use Rattle.laws.proofs.Judging.{formed-on, formed-not, formed-crowded, ranged-on, ranged-not, ranged-unordered, form-refused, range-refused, card-done}
 
@@ -63,9 +64,13 @@ pub ranked-edge : (a : About) (card : List ℕ) → edge a ≡ true → 128 * ge
 unfolding ranked
 ranked-edge a card e = simp e
 
-pub ranked-key : (a : About) (card : List ℕ) → edge a ≡ false → getD card 1 0 ≡ ranked a card
+pub ranked-change : (a : About) (card : List ℕ) → edge a ≡ false → change a ≡ true → triple card ≡ ranked a card
 unfolding ranked
-ranked-key a card e = simp e
+ranked-change a card e h = simp (e, h)
+
+pub ranked-key : (a : About) (card : List ℕ) → edge a ≡ false → change a ≡ false → getD card 1 0 ≡ ranked a card
+unfolding ranked
+ranked-key a card e h = simp (e, h)
 
 -- an edge's nodes
 pub ordered-free : (a : About) (card : List ℕ) → edge a ≡ false → true ≡ ordered a card
@@ -86,39 +91,81 @@ unfolding full
 full-late row i a h = simp (le-leb (a .most) i h)
 
 -- what it asks of those before it
-module _ (z : Counts) (row : ℕ → List ℕ) (card : List ℕ) where
+module _ (z : Counts) (row : ℕ → List ℕ) (i : ℕ) (card : List ℕ) where
   abbrev height : ℕ → ℕ
   height k = getD (row (getD card k 0)) 3 0
 
-  pub level-not : (height 1 ≡ height 2 → ⊥) → false ≡ asks z row card E
+  pub level-not : (height 1 ≡ height 2 → ⊥) → false ≡ asks z row i card E
   unfolding asks
   level-not n = simp (ne-eqb (height 1) (height 2) n)
 
-  pub level-is : height 1 ≡ height 2 → eqb (height 1) (height 3) ≡ asks z row card E
+  pub level-is : height 1 ≡ height 2 → eqb (height 1) (height 3) ≡ asks z row i card E
   unfolding asks
   level-is e = simp (eq-eqb (height 1) (height 2) e)
 
-  pub of-triangle : eqb (getD (row (before z bodies + getD card 1 0 - 1)) 0 0) (letterOf E) ≡ asks z row card F
+  pub of-triangle : eqb (getD (row (before z bodies + getD card 1 0 - 1)) 0 0) (letterOf E) ≡ asks z row i card F
   unfolding asks
   of-triangle = refl
 
-  pub asks-none : (kind : Kind) → (letterOf kind ≡ letterOf E → ⊥) → (letterOf kind ≡ letterOf F → ⊥) → true ≡ asks z row card kind
+  pub asks-none : (kind : Kind) → (letterOf kind ≡ letterOf E → ⊥) → (letterOf kind ≡ letterOf F → ⊥) → (kind ≡ C → ⊥) → true ≡ asks z row i card kind
   unfolding asks
-  asks-none D e f = refl
-  asks-none N e f = refl
-  asks-none M e f = refl
-  asks-none E e f = absurd (e refl)
-  asks-none «V» e f = refl
-  asks-none H e f = refl
-  asks-none F e f = absurd (f refl)
-  asks-none G e f = refl
-  asks-none T e f = refl
-  asks-none Z e f = refl
-  asks-none Other e f = refl
+  asks-none D e f h = refl
+  asks-none N e f h = refl
+  asks-none M e f h = refl
+  asks-none E e f h = absurd (e refl)
+  asks-none «V» e f h = refl
+  asks-none H e f h = refl
+  asks-none F e f h = absurd (f refl)
+  asks-none G e f h = refl
+  asks-none T e f h = refl
+  asks-none C e f h = absurd (h refl)
+  asks-none Z e f h = refl
+  asks-none Other e f h = refl
 
   -- of a kind told by its letter
-  pub asks-by : (kind k : Kind) → letterOf kind ≡ letterOf k → asks z row card k ≡ asks z row card kind
-  asks-by kind k e = ap (asks z row card) (sym (sym (kind-letter kind) ∙ ap kindOf e ∙ kind-letter k))
+  pub asks-by : (kind k : Kind) → letterOf kind ≡ letterOf k → asks z row i card k ≡ asks z row i card kind
+  asks-by kind k e = ap (asks z row i card) (sym (sym (kind-letter kind) ∙ ap kindOf e ∙ kind-letter k))
+
+  -- a change: one that its letter has none of, and the card that it names
+  pub change-not : about (kindOf (getD card 2 0)) .gives ≡ 0 → false ≡ asks z row i card C
+  unfolding asks
+  change-not e = rw e
+
+  pub change-named : 1 ≤ about (kindOf (getD card 2 0)) .gives → not (eqb (cardNamed z row i (getD card 2 0) (getD card 3 0)) 0) ≡ asks z row i card C
+  unfolding asks
+  change-named h = rw (le-leb 1 (about (kindOf (getD card 2 0)) .gives) h) (some (cardNamed z row i (getD card 2 0) (getD card 3 0)))
+    where
+      some : (n : ℕ) → not (eqb n 0) ≡ leb 1 n
+      some zero = refl
+      some (suc n) = ap not (ne-eqb (suc n) 0 (λ e. omega arith)) ∙ sym (le-leb 1 (suc n) (omega arith))
+
+-- the kind that is a change, and where it stands
+pub change-C : (k : Kind) → change (about k) ≡ true → k ≡ C
+unfolding about
+change-C D e = never e
+change-C N e = never e
+change-C M e = never e
+change-C E e = never e
+change-C «V» e = never e
+change-C H e = never e
+change-C F e = never e
+change-C G e = never e
+change-C T e = never e
+change-C C e = refl
+change-C Z e = never e
+change-C Other e = never e
+
+pub plain-C : change (about C) ≡ false → ⊥
+unfolding about
+plain-C e = never (sym e)
+
+pub changes-stand : (z : Counts) (i : ℕ) → before z (about C .section) ≤ i → before z 4 ≤ i
+unfolding about
+changes-stand z i h = h
+
+pub body-section : about E .section ≡ 3
+unfolding about
+body-section = refl
 
 -- the cards before the elements, as the code counts them
 pub some-before : (z : Counts) → before z bodies ≡ 1 + z .nodes + z .materials

@@ -1,5 +1,5 @@
 -- A row of a table, as the code lends it and reads it.
-use mathlib.Core.Path.{_≡_, refl, sym, ap, _∙_}
+use mathlib.Core.Path.{_≡_, refl, sym, ap, subst, _∙_}
 use mathlib.Core.Bool.{Bool}
 use mathlib.Core.List.{List, [], _∷_}
 use Prim.Native.Nat.{ℕ, zero, suc, _+_, _-_, _*_, _≤_, _<_}
@@ -45,3 +45,7 @@ past-end (x ∷ l) (suc i) h = past-end l i (omega arith)
 
 pub no-row : (t : List ℕ) (i k : ℕ) → k < 6 → length t ≤ i * 6 + k → 0 ≡ getD (rowAt t i) k 0
 no-row t i k l h = past-end t (i * 6 + k) h ∙ at-row t i k l
+
+-- its key is one of the table's numbers
+pub key-few : (t : List ℕ) (i : ℕ) → getD t (i * 6 + 1) 0 < 4294967296 → getD (rowAt t i) 1 0 < 4294967296
+key-few t i h = subst (λ (x : ℕ). x < 4294967296) (at-row t i 1 (omega arith)) h

@@ -1,4 +1,4 @@
-// The judge of a card, of a table of cards and of a new card: it asks the tables of kinds, and names no kind but Z and Other.
+// The judge of a card, of a table of cards and of a new card: it asks the tables of kinds.
 use paper::About;
 use paper::Answer;
 use paper::Counts;
@@ -8,12 +8,14 @@ ghost use mathlib.Core.Path.{_≡_};
 ghost use mathlib.Core.List.{List};
 ghost use Prim.Native.Nat.{ℕ, _+_, _-_, _*_, _/_, _^_, _≤_, _<_};
 ghost use lib.ListN.{length, getD};
-ghost use Rattle.paper.specs.Kinds.{kindAt, aboutOf, edge};
+ghost use Rattle.paper.specs.Kinds.{kindAt, about, aboutOf, edge};
 ghost use Rattle.paper.specs.Cards as paper;
-ghost use Rattle.paper.specs.Judge.{stands, rises, ordered, full, judgeOne, asks, judgeCard, judgeFrom, trailer, judgeRows, judged, answers, newJudged};
+ghost use Rattle.paper.specs.Judge.{stands, rises, ordered, full, cardNamed, judgeOne, asks, judgeCard, judgeFrom, trailer, judgeRows, judged, answers, newJudged};
+ghost use Rattle.laws.proofs.Past.{Past, Turn};
+ghost use Rattle.cards.specs.Asks.{Loads, Bodies, Naming};
 
 // The rows of the longest table.
-pub const MOST_ROWS: usize = 842;
+pub const MOST_ROWS: usize = 906;
 
 // ---- a table
 
@@ -63,6 +65,15 @@ fn is_edge(a: About) -> bool
     a.keys == 2
 }
 
+// A change's increment, letter in deck order and key: 27 bits for the key and 4 for the order.
+fn triple(card: &[u32]) -> u64
+    requires { ⌜ length (now card) ≡ 6 ⌝ }
+    ensures { λ r. ⌜ r ≡ paper.triple (now (card .entry)) ⌝ }
+{
+    let order = kinds::about(kinds::kind(card[2])).order;
+    (16 * card[1] as u64 + order as u64) * 134_217_728 + card[3] as u64
+}
+
 // What rises within a group.
 pub fn rank(a: About, card: &[u32]) -> u64
     requires { ⌜ length (now card) ≡ 6 ⌝ }
@@ -70,6 +81,9 @@ pub fn rank(a: About, card: &[u32]) -> u64
 {
     if is_edge(a) {
         return 128 * card[1] as u64 + card[2] as u64;
+    }
+    if kinds::is_change(a) {
+        return triple(card);
     }
     card[1] as u64
 }
@@ -133,7 +147,7 @@ pub fn judge_card(
         return Answer::Refused(Refusal::Form((i + 1) as u32));
     }
     let columns = kinds::columns_of(counts, k);
-    if !kinds::is_clean(columns.used, card) {
+    if !kinds::is_clean(kinds::used_by(k, card[2]), card) {
         return Answer::Refused(Refusal::Form((i + 1) as u32));
     }
     if !kinds::in_range(columns, card) {
@@ -151,7 +165,7 @@ pub fn judge_card(
 // Whether an E's nodes have one height.
 fn is_level(t: &[u32], card: &[u32]) -> bool
     requires { ⌜ length (now card) ≡ 6 ⌝ }
-    ensures { λ r. ⌜ ((z : Counts) → r ≡ asks z (paper.rowAt (now (t .entry))) (now (card .entry)) Kind.E) ⌝ }
+    ensures { λ r. ⌜ ((z : Counts) (i : ℕ) → r ≡ asks z (paper.rowAt (now (t .entry))) i (now (card .entry)) Kind.E) ⌝ }
 {
     let height = number_at(t, card[1] as usize, 3);
     if height != number_at(t, card[2] as usize, 3) {
@@ -163,16 +177,95 @@ fn is_level(t: &[u32], card: &[u32]) -> bool
 // Whether an F names a triangle.
 fn on_triangle(counts: Counts, t: &[u32], card: &[u32]) -> bool
     requires { ⌜ length (now card) ≡ 6 ⌝ }
-    ensures { λ r. ⌜ r ≡ asks counts (paper.rowAt (now (t .entry))) (now (card .entry)) Kind.F ⌝ }
+    ensures { λ r. ⌜ ((i : ℕ) → r ≡ asks counts (paper.rowAt (now (t .entry))) i (now (card .entry)) Kind.F) ⌝ }
 {
     let row = kinds::cards_before(counts, kinds::about(Kind::E).section) + card[1] as usize - 1;
     number_at(t, row, 0) == kinds::about(Kind::E).letter
 }
 
-// What a card asks of those before it.
+// The number of the element of this letter among the first rows, by its place; 0 where there is none.
+fn element_named(counts: Counts, t: &[u32], letter: u32, name: u32) -> usize
+    ensures { λ r. ⌜ ((n : ℕ) → Bodies counts (paper.rowAt (now (t .entry))) n letter → r ≡ cardNamed counts (paper.rowAt (now (t .entry))) n letter name) ⌝ }
+{
+    if name == 0 {
+        return 0;
+    }
+    if counts.elements < name {
+        return 0;
+    }
+    let row = kinds::cards_before(counts, kinds::about(Kind::E).section) + name as usize - 1;
+    if number_at(t, row, 0) != letter {
+        return 0;
+    }
+    row + 1
+}
+
+// A card's group and key, as one number by which loads rise.
+pub fn standing(card: &[u32]) -> u64
+    requires { ⌜ length (now card) ≡ 6 ⌝ }
+    ensures { λ r. ⌜ (r ≡ paper.orderOf (now (card .entry)) * 4294967296 + getD (now (card .entry)) 1 0) × (getD (now (card .entry)) 1 0 < 4294967296) ⌝ }
+{
+    kinds::about(kinds::kind(card[0])).order as u64 * 4_294_967_296 + card[1] as u64
+}
+
+fn standing_at(t: &[u32], row: usize) -> u64
+    requires { ⌜ row * 6 + 6 ≤ length (now t) ⌝ }
+    ensures { λ r. ⌜ (r ≡ paper.orderOf (paper.rowAt (now (t .entry)) row) * 4294967296 + getD (paper.rowAt (now (t .entry)) row) 1 0) × (getD (paper.rowAt (now (t .entry)) row) 1 0 < 4294967296) ⌝ }
+{
+    let at = row * 6;
+    let end = at + 6;
+    standing(&t[at..end])
+}
+
+// The number of the load of this letter among the first n rows, by halves: keys rise within a group.
+fn load_named(counts: Counts, t: &[u32], n: usize, letter: u32, name: u32) -> usize
+    requires { ⌜ (Loads counts (paper.rowAt (now t)) n letter) × (n * 6 ≤ length (now t)) ⌝ }
+    ensures { λ r. ⌜ r ≡ cardNamed counts (paper.rowAt (now (t .entry))) n letter name ⌝ }
+{
+    let wanted = kinds::about(kinds::kind(letter)).order as u64 * 4_294_967_296 + name as u64;
+    let mut lo = kinds::cards_before(counts, kinds::about(Kind::H).section);
+    let mut hi = n;
+    while lo < hi {
+        let mid = lo + (hi - lo) / 2;
+        let here = standing_at(t, mid);
+        if here == wanted {
+            return mid + 1;
+        }
+        if here < wanted {
+            lo = mid + 1;
+        } else {
+            hi = mid;
+        }
+    }
+    0
+}
+
+// The number of the card of this letter and name among the first n rows, which have passed; 0 where there is none. Of a kind that a change may name.
+pub fn card_named(counts: Counts, t: &[u32], n: usize, letter: u32, name: u32) -> usize
+    requires { ⌜ Naming counts (now t) n letter ⌝ }
+    ensures { λ r. ⌜ r ≡ cardNamed counts (paper.rowAt (now (t .entry))) n letter name ⌝ }
+{
+    if kinds::about(kinds::kind(letter)).section == kinds::about(Kind::E).section {
+        return element_named(counts, t, letter, name);
+    }
+    load_named(counts, t, n, letter, name)
+}
+
+// Whether a C in row i names a card that it may change.
+fn can_change(counts: Counts, t: &[u32], i: usize, card: &[u32]) -> bool
+    requires { ⌜ (Past counts (paper.rowAt (now t)) i) × (paper.before counts 4 ≤ i) × (i * 6 + 6 ≤ length (now t)) × (length (now card) ≡ 6) ⌝ }
+    ensures { λ r. ⌜ r ≡ asks counts (paper.rowAt (now (t .entry))) i (now (card .entry)) Kind.C ⌝ }
+{
+    if kinds::about(kinds::kind(card[2])).gives == 0 {
+        return false;
+    }
+    card_named(counts, t, i, card[2], card[3]) != 0
+}
+
+// What a card of a kind but C asks of those before it.
 pub fn asks_rows(counts: Counts, t: &[u32], k: Kind, card: &[u32]) -> bool
     requires { ⌜ length (now card) ≡ 6 ⌝ }
-    ensures { λ r. ⌜ r ≡ asks counts (paper.rowAt (now (t .entry))) (now (card .entry)) k ⌝ }
+    ensures { λ r. ⌜ ((i : ℕ) → (k ≡ Kind.C → ⊥) → r ≡ asks counts (paper.rowAt (now (t .entry))) i (now (card .entry)) k) ⌝ }
 {
     let letter = kinds::about(k).letter;
     if letter == kinds::about(Kind::E).letter {
@@ -184,9 +277,20 @@ pub fn asks_rows(counts: Counts, t: &[u32], k: Kind, card: &[u32]) -> bool
     true
 }
 
+// What the card in row i asks of those before it, which have passed, and it its own tests.
+fn asks_past(counts: Counts, t: &[u32], i: usize, k: Kind, card: &[u32]) -> bool
+    requires { ⌜ (Past counts (paper.rowAt (now t)) i) × (paper.before counts (about k .section) ≤ i) × (i * 6 + 6 ≤ length (now t)) × (length (now card) ≡ 6) ⌝ }
+    ensures { λ r. ⌜ r ≡ asks counts (paper.rowAt (now (t .entry))) i (now (card .entry)) k ⌝ }
+{
+    if kinds::is_change(kinds::about(k)) {
+        return can_change(counts, t, i, card);
+    }
+    asks_rows(counts, t, k, card)
+}
+
 // The card in row i, of kind k.
 fn judge_row(counts: Counts, t: &[u32], i: usize, group: u32, key: u64, k: Kind) -> Answer
-    requires { ⌜ (i * 6 + 6 ≤ length (now t)) × (i ≤ paper.mostRows) × (k ≡ kindAt (paper.rowAt (now t) i)) ⌝ }
+    requires { ⌜ (i * 6 + 6 ≤ length (now t)) × (i ≤ paper.mostRows) × (k ≡ kindAt (paper.rowAt (now t) i)) × Turn counts (paper.rowAt (now t)) i group key ⌝ }
     ensures { λ r. ⌜ r ≡ judgeCard counts (paper.rowAt (now (t .entry))) i group key ⌝ }
 {
     let at = i * 6;
@@ -196,7 +300,7 @@ fn judge_row(counts: Counts, t: &[u32], i: usize, group: u32, key: u64, k: Kind)
     let Answer::Done = answer else {
         return answer;
     };
-    if !asks_rows(counts, t, k, &t[at..end]) {
+    if !asks_past(counts, t, i, k, &t[at..end]) {
         return Answer::Refused(Refusal::Range((i + 1) as u32));
     }
     Answer::Done
@@ -300,7 +404,7 @@ fn judge_change(table: &[u32], card: u32, new: &[u32]) -> Answer
         return Answer::Refused(Refusal::Form(card));
     }
     let columns = kinds::columns_of(counts_at(table), k);
-    if !kinds::is_clean(columns.used, new) {
+    if !kinds::is_clean(kinds::used_by(k, new[2]), new) {
         return Answer::Refused(Refusal::Form(card));
     }
     if !answers_to(table, card, a.keeps, new) {

@@ -16,13 +16,13 @@ use Rattle.paper.specs.declared.About.{About}
 use Rattle.paper.specs.declared.Answer.the-variants.{Done}
 use Rattle.paper.specs.declared.Counts.{Counts}
 use Rattle.paper.specs.declared.Kind.{Kind}
-use Rattle.paper.specs.declared.Kind.the-variants.{D, N, M, E, «V», H, F, G, T, Z, Other}
+use Rattle.paper.specs.declared.Kind.the-variants.{D, N, M, E, «V», H, F, G, T, C, Z, Other}
 use Rattle.laws.proofs.Letters.{kind-letter}
 use Rattle.laws.proofs.CardText.{first-byte, length-card, card-letter}
 use Rattle.laws.proofs.Printing.{letter-known, lettered}
 use Rattle.laws.proofs.Judged.{passes, stands-told, one-told}
 use Rattle.laws.proofs.Past.{Past, node-in, film-in}
-use Rattle.deck.specs.Asks.{Asking, Reached}
+use Rattle.deck.specs.Asks.{Asking, After, Elements, Reached}
 
 -- the test for a card too many, before and after there may be so many
 pub early : (i m : ℕ) (b : Bool) → i < m → false ≡ (leb m i && b)
@@ -42,6 +42,7 @@ some-most H = omega arith
 some-most F = omega arith
 some-most G = omega arith
 some-most T = omega arith
+some-most C = omega arith
 some-most Z = omega arith
 some-most Other = omega arith
 
@@ -78,19 +79,24 @@ module _ (z : Counts) (b : List ℕ) (start : ℕ) where
         let c = f ∙ ap (λ (a : About). leb (a .most) i && eqb (getD b (start + (i - a .most) * 42) 0) (a .letter)) e ∙ full-bytes i k (h .turn .past) ∙ ap (λ (k : Kind). full row i (about k)) q in
         λ j. judgeOne z i p key (c j) (h .is j)
 
-    pub asking : (crowded : Bool) → judgeOne z i p key crowded card ≡ Done → Asking z b start card k
+    pub asking : (crowded : Bool) → judgeOne z i p key crowded card ≡ Done → After z b start i card k
     asking crowded g =
         let o = one-told z i p key crowded card g in
         let l : before z (about k .section) ≤ i = subst (λ (q : Kind). before z (about q .section) ≤ i) (sym (h .kind)) (stands-told z i p (aboutOf card) (o .place) .lo) in
         record {
-          six = six;
-          range = subst (λ (q : Kind). inRange (columns z q) card 5 0 ≡ true) (sym (h .kind)) (o .range);
+          asking = record {
+            six = six;
+            range = subst (λ (q : Kind). inRange (columns z q) card 5 0 ≡ true) (sym (h .kind)) (o .range);
+            room = omega (arith, h .room);
+            past = λ j m. h .turn .past j (omega arith);
+          };
+          stands = l;
           room = omega (arith, h .room);
-          past = λ j m. h .turn .past j (omega arith);
+          past = h .turn .past;
         }
 
-    pub asks-read : (r : Bool) → r ≡ asks z row card k → r ≡ asks z row (row i) (kindAt (row i))
-    asks-read r e = e ∙ (λ j. asks z row (h .is j) ((h .kind ∙ ap kindAt (h .is)) j))
+    pub asks-read : (r : Bool) → r ≡ asks z row i card k → r ≡ asks z row i (row i) (kindAt (row i))
+    asks-read r e = e ∙ (λ j. asks z row i (h .is j) ((h .kind ∙ ap kindAt (h .is)) j))
 
   module _ (card : List ℕ) where
     -- the row of a node of an E, and that of the element of an F
@@ -105,6 +111,21 @@ module _ (z : Counts) (b : List ℕ) (start : ℕ) where
     unfolding about before sumN
     element-in r = let h = film-in z row card (r .range) in (h .0, omega (arith, h .0, h .1))
 
-    pub film-bytes : Asking z b start card F → eqb (getD b (start + (before z bodies + getD card 1 0 - 1) * 42) 0) (letterOf E) ≡ asks z row card F
+    pub film-bytes : Asking z b start card F → (i : ℕ) → eqb (getD b (start + (before z bodies + getD card 1 0 - 1) * 42) 0) (letterOf E) ≡ asks z row i card F
     unfolding asks
-    film-bytes r = ap (λ (l : ℕ). eqb l (letterOf E)) (first-past (before z bodies + getD card 1 0 - 1) (r .past (before z bodies + getD card 1 0 - 1) (element-in r .1)))
+    film-bytes r i = ap (λ (l : ℕ). eqb l (letterOf E)) (first-past (before z bodies + getD card 1 0 - 1) (r .past (before z bodies + getD card 1 0 - 1) (element-in r .1)))
+
+  -- the element of a number, where there is one
+  module _ (name : ℕ) (some : 1 ≤ name) (few : name ≤ z .elements) (e : Elements z b start) where
+    abbrev place : ℕ
+    place = before z bodies + name - 1
+
+    pub place-in : place < before z 4
+    unfolding before sumN
+    place-in = omega arith
+
+    pub place-room : start + place * 42 < length b
+    place-room = omega (arith, place-in, e .room)
+
+    pub place-letter : getD b (start + place * 42) 0 ≡ getD (row place) 0 0
+    place-letter = first-past place (e .past place place-in)

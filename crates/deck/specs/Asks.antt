@@ -4,7 +4,7 @@ use mathlib.Core.Bool.{true}
 use mathlib.Core.List.{List}
 use Prim.Native.Nat.{ℕ, _+_, _*_, _≤_}
 use lib.ListN.{length}
-use Rattle.paper.specs.Kinds.{about, kindAt}
+use Rattle.paper.specs.Kinds.{about, kindOf, kindAt}
 use Rattle.paper.specs.Cards.{before, columns, inRange, mostRows}
 use Rattle.paper.specs.Calls.{cardAt}
 use Rattle.paper.specs.declared.Counts.{Counts}
@@ -17,6 +17,25 @@ pub record Asking (z : Counts) (s : List ℕ) (start : ℕ) (card : List ℕ) (k
   pub range : inRange (columns z k) card 5 0 ≡ true
   pub room : start + before z (about k .section) * 42 ≤ length s
   pub past : Past z (cardAt (z .solid) s start) (before z (about k .section))
+
+-- such a card after i cards, which have all passed
+pub record After (z : Counts) (s : List ℕ) (start i : ℕ) (card : List ℕ) (k : Kind) : Type 0 where
+  pub asking : Asking z s start card k
+  pub stands : before z (about k .section) ≤ i
+  pub room : start + i * 42 ≤ length s
+  pub past : Past z (cardAt (z .solid) s start) i
+
+-- a part whose elements have passed, and all before them
+pub record Elements (z : Counts) (s : List ℕ) (start : ℕ) : Type 0 where
+  pub room : start + before z 4 * 42 ≤ length s
+  pub past : Past z (cardAt (z .solid) s start) (before z 4)
+
+-- a code that a change may give, among the first n cards, which have passed
+pub record Naming (z : Counts) (s : List ℕ) (start n code : ℕ) : Type 0 where
+  pub past : Past z (cardAt (z .solid) s start) n
+  pub loads : before z 4 ≤ n
+  pub room : start + n * 42 ≤ length s
+  pub gives : 1 ≤ about (kindOf code) .gives
 
 -- card i of a part, of kind k, where the judge is at it
 pub record Reached (z : Counts) (s : List ℕ) (start i p key : ℕ) (k : Kind) (card : List ℕ) : Type 0 where

@@ -1,6 +1,7 @@
 // The calls as document 01 has them, over packed triangles, for tests alone: row starts 0, 1, 3, 6, and so on lent to the functions
-// that the calls over kept rows use.
+// that the calls over kept rows use. And a run, which no other archive has.
 use paper::Answer;
+use paper::Ran;
 use paper::Refusal;
 use paper::Stepped;
 ghost use mathlib.Core.Path.{_≡_};
@@ -9,8 +10,11 @@ ghost use lib.ListN.{length};
 ghost use Rattle.paper.specs.Cards.{nodes};
 ghost use Rattle.paper.specs.Judge.{judged};
 ghost use Rattle.paper.specs.Calls.{lent, left, leftStep, buildCall, replaceCall, stepCall, gave, exitToC, stepToC};
+ghost use Rattle.paper.specs.KeptCalls.{kept};
+ghost use Rattle.paper.specs.Changes.{changingRun};
 ghost use Rattle.paper.specs.declared.Answer.the-variants.{Done};
 ghost use Rattle.admit.specs.Asks.{cardsJudged};
+ghost use Rattle.gormulast_packed.specs.Runs.{ranPacked, runToC};
 
 // ---- build
 
@@ -243,4 +247,40 @@ pub extern "C" fn gormulast_packed_step(
     ensures { λ r. ⌜ gave r (lent (now (table .entry)) (now (p .entry)) (now (a .entry)) (now (factor .entry)) [] (now (temperatures .exit)) (now (carried .exit))) ≡ stepToC (stepCall (lent (now (table .entry)) (now (p .entry)) (now (a .entry)) (now (factor .entry)) [] (now (temperatures .entry)) (now (carried .entry)))) ⌝ }
 {
     paper::packed_step(step(table, p, a, factor, &mut temperatures[..], &mut carried[..]))
+}
+
+// ---- a run, over kept rows
+
+fn packed_run(ran: Ran) -> u64
+    ensures { λ n. ⌜ n ≡ ranPacked ran ⌝ }
+{
+    match ran {
+        Ran::Finished(steps) => 65_536 * steps as u64,
+        Ran::Refused(why) => paper::packed_answer(Answer::Refused(why)),
+    }
+}
+
+#[no_mangle]
+pub extern "C" fn gormulast_run(
+    table: &mut [u32],
+    p: &mut [i64],
+    a: &mut [i64],
+    factor: &mut [i64],
+    work: &mut [i64],
+    starts: &[u32],
+    temperatures: &mut [i64],
+    carried: &mut [i64],
+) -> u64
+    ensures { λ r. ⌜ gave r (kept (now (table .exit)) (now (p .exit)) (now (a .exit)) (now (factor .exit)) (now (work .exit)) (now (starts .entry)) (now (temperatures .exit)) (now (carried .exit))) ≡ runToC (changingRun (kept (now (table .entry)) (now (p .entry)) (now (a .entry)) (now (factor .entry)) (now (work .entry)) (now (starts .entry)) (now (temperatures .entry)) (now (carried .entry)))) ⌝ }
+{
+    packed_run(run::run(
+        &mut table[..],
+        &mut p[..],
+        &mut a[..],
+        &mut factor[..],
+        &mut work[..],
+        starts,
+        &mut temperatures[..],
+        &mut carried[..],
+    ))
 }

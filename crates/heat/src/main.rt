@@ -1,5 +1,5 @@
 // The stepping program: reads a deck from standard input, builds, starts every node at D's start temperature with nothing carried,
-// does D's steps and prints the temperatures. A refusal prints `R number place` alone.
+// does D's steps with their changes and prints the temperatures. A refusal prints `R number place` alone.
 use libc::STDIN_FILENO;
 use libc::STDOUT_FILENO;
 use paper::Answer;
@@ -61,19 +61,21 @@ fn size(x: u32) -> usize {
 
 // D's steps of a built model.
 fn stepped(
-    table: &[u32],
-    p: &[i64],
-    a: &[i64],
-    factor: &[i64],
+    table: &mut [u32],
+    p: &mut [i64],
+    a: &mut [i64],
+    factor: &mut [i64],
+    work: &mut [i64],
     starts: &[u32],
     temperatures: &mut [i64],
     carried: &mut [i64],
 ) {
     match run::run(
-        table,
-        p,
-        a,
-        factor,
+        &mut table[..],
+        &mut p[..],
+        &mut a[..],
+        &mut factor[..],
+        &mut work[..],
         starts,
         &mut temperatures[..],
         &mut carried[..],
@@ -83,7 +85,7 @@ fn stepped(
     }
 }
 
-fn ran(table: &[u32]) {
+fn ran(table: &mut [u32]) {
     let mut p = [0i64; LONGEST];
     let mut a = [0i64; LONGEST];
     let mut factor = [0i64; LONGEST];
@@ -91,20 +93,28 @@ fn ran(table: &[u32]) {
     let mut starts = [0u32; NODES];
     let mut temperatures = [0i64; NODES];
     let mut carried = [0i64; NODES];
-    let answer = model::build(table, &mut p, &mut a, &mut factor, &mut work, &mut starts);
+    let answer = model::build(
+        &table[..],
+        &mut p,
+        &mut a,
+        &mut factor,
+        &mut work,
+        &mut starts,
+    );
     if let Answer::Refused(why) = answer {
         refused(why);
         return;
     }
-    let n = nodes(table);
-    let first = start(table);
+    let n = nodes(&table[..]);
+    let first = start(&table[..]);
     whole::slices::fill(&mut temperatures, first.0 as i64);
     if n <= NODES {
         stepped(
-            table,
-            &p,
-            &a,
-            &factor,
+            &mut table[..],
+            &mut p,
+            &mut a,
+            &mut factor,
+            &mut work,
             &starts,
             &mut temperatures[0..n],
             &mut carried[0..n],
@@ -124,6 +134,6 @@ fn main() {
     }
     let k = part.len() / 42 * 6;
     if k <= deck::NUMBERS {
-        ran(&table[0..k]);
+        ran(&mut table[0..k]);
     }
 }

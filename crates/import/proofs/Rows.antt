@@ -1,25 +1,30 @@
 -- The rows of the second table, as the code makes them, and what the call leaves.
-use mathlib.Core.Path.{_≡_, refl, sym, ap, _∙_}
+use mathlib.Core.Path.{_≡_, refl, sym, ap, subst, _∙_}
+use mathlib.Core.Bool.{Bool}
 use mathlib.Core.List.{List, [], _∷_, _++_}
 use Prim.Native.Nat.{ℕ, zero, suc, _+_, _-_, _*_, _≤_, _<_}
+use native.Mathlib.Numerals.{add-one}
 use native.Mathlib.Omega.{arith}
+use lib.Dec.{ltb}
 use lib.ListN.{length, getD, drop}
+use Rattle.whole.specs.Sums.{firstFrom}
 use Rattle.paper.specs.Kinds.{about, letterOf}
-use Rattle.paper.specs.Cards.{before, cards, countsAt, rowAt, field, rows}
+use Rattle.paper.specs.Cards.{before, cards, orderOf, countsAt, mostRows, rowAt, field, rows}
 use Rattle.paper.specs.Calls.{joined}
-use Rattle.paper.specs.Records.{recordCount, recordRow, early, lastRow, secondRow, secondRows, secondTable, imports, imported, importCall}
+use Rattle.paper.specs.Records.{recordCount, recordRow, earlyFrom, early, lastRow, orAll, fixedPlace, secondRow, secondRows, secondTable, imports, imported, importCall}
 use Rattle.paper.specs.declared.Answer.the-variants.{Done, Refused}
 use Rattle.paper.specs.declared.Refusal.{Refusal}
 use Rattle.paper.specs.declared.Counts.{Counts}
 use Rattle.paper.specs.declared.About.{About}
-use Rattle.paper.specs.declared.Kind.the-variants.{H, Z}
+use Rattle.paper.specs.declared.Kind.the-variants.{H, T, Z}
 use Rattle.laws.proofs.Tables.{row-ext}
 use Rattle.laws.proofs.Spans.{begins}
 use Rattle.laws.proofs.Judged.{deck}
 use Rattle.laws.proofs.Recorded.{early-most}
-use Rattle.laws.proofs.Second.{before-five, at-body, at-early, at-edge, at-late, at-last}
-use Rattle.laws.proofs.Imported.{accepted}
-use Rattle.import.specs.Asks.{Placed}
+use Rattle.laws.proofs.Second.{place-most, at-body, at-early, at-edge, at-late, at-change, at-last}
+use Rattle.laws.proofs.Imported.{accepted, place-up}
+use Rattle.import.specs.Asks.{splitAs, splitOf, Placed}
+use Rattle.import.specs.declared.Split.{Split}
 use Rattle.import.proofs.Turns.{sized-told}
 
 -- six numbers from a place on
@@ -53,44 +58,105 @@ pub last-is : (z : Counts) (n letter rows : ℕ) → letter ≡ letterOf Z → r
 unfolding lastRow
 last-is z n letter rows e q = λ i. e i ∷ (42 * (q i + n)) ∷ z .nodes ∷ z .materials ∷ z .elements ∷ (z .loads + n) ∷ []
 
--- by its parts: base rows before the loads, all of them before Z
-module _ (z : Counts) (t bs : List ℕ) (first n i base all : ℕ) (p : Placed z t bs first n) (b : base ≡ before z 4) (a : all ≡ cards z) where
-  pub few-first : first ≤ n
-  few-first = omega (arith, p .first-is, p .n-is, early-most bs (recordCount bs) 0)
+-- where the fixed nodes go, as the scan finds it: at this row, or before Z
+module _ (rows : ℕ) (row : ℕ → List ℕ) where
+  abbrev pub late : ℕ → Bool
+  late i = ltb (about T .order) (orderOf (row i))
 
-  pub inner : base + z .loads ≡ all
-  inner = omega (arith, before-five z)
+  pub place-found : (i : ℕ) → i + 1 ≡ firstFrom rows 0 late → i ≡ orAll rows (firstFrom rows 0 late)
+  place-found i e = ap (orAll rows) (sym (add-one i) ∙ e)
 
-  pub row-body : i < base → rowAt t i ≡ secondRow z (rowAt t) bs i
-  row-body h = sym (at-body z (rowAt t) bs i (omega arith))
+  pub place-all : 0 ≡ firstFrom rows 0 late → rows ≡ orAll rows (firstFrom rows 0 late)
+  place-all e = ap (orAll rows) e
 
-  pub row-early : base ≤ i → i < base + first → recordRow bs (i - base) ≡ secondRow z (rowAt t) bs i
-  row-early l h = ap (λ (k : ℕ). recordRow bs (i - k)) b ∙ sym (at-early z (rowAt t) bs i (omega arith) (omega (arith, p .first-is)))
+-- the split as the code makes it
+pub split-is : (z : Counts) (t bs : List ℕ) (base place rows first n : ℕ) → base ≡ before z 4 → rows ≡ cards z
+    → place ≡ orAll rows (firstFrom rows 0 (late rows (rowAt t))) → n ≡ recordCount bs → first ≡ earlyFrom bs n 0
+    → splitAs base place rows first n ≡ splitOf z t bs
+unfolding fixedPlace about
+split-is z t bs base place rows first n b r p c f =
+    let q : place ≡ fixedPlace z (rowAt t) = p ∙ ap (λ (k : ℕ). orAll k (firstFrom k 0 (λ i. ltb (about T .order) (orderOf (rowAt t i))))) r in
+    let g : first ≡ early bs = f ∙ ap (λ (k : ℕ). earlyFrom bs k 0) c in
+    λ i. splitAs (b i) (q i) (r i) (g i) (c i)
 
-  pub row-edge : base + first ≤ i → i < all + first → rowAt t (i - first) ≡ secondRow z (rowAt t) bs i
-  row-edge l h = ap (λ (k : ℕ). rowAt t (i - k)) (p .first-is) ∙ sym (at-edge z (rowAt t) bs i (omega (arith, p .first-is)) (omega (arith, p .first-is)))
+-- by its parts
+module _ (z : Counts) (s : Split) (t bs : List ℕ) (i : ℕ) (p : Placed z s t bs) where
+  -- the split's numbers, and how they follow each other
+  pub record Known : Type 0 where
+    pub base-is : s .base ≡ before z 4
+    pub place-is : s .place ≡ fixedPlace z (rowAt t)
+    pub rows-is : s .rows ≡ cards z
+    pub first-is : s .first ≡ early bs
+    pub n-is : s .n ≡ recordCount bs
+    pub up : before z 4 ≤ fixedPlace z (rowAt t)
+    pub place-few : fixedPlace z (rowAt t) ≤ cards z
+    pub first-few : early bs ≤ recordCount bs
 
-  pub row-late : all + first ≤ i → i < all + n → recordRow bs (i - all) ≡ secondRow z (rowAt t) bs i
-  row-late l h = ap (λ (k : ℕ). recordRow bs (i - k)) a ∙ sym (at-late z (rowAt t) bs i (omega (arith, p .first-is)) (omega (arith, p .n-is)))
+  pub known : Known
+  unfolding about
+  known = record {
+    base-is = ap (λ (x : Split). x .base) (p .split-is);
+    place-is = ap (λ (x : Split). x .place) (p .split-is);
+    rows-is = ap (λ (x : Split). x .rows) (p .split-is);
+    first-is = ap (λ (x : Split). x .first) (p .split-is);
+    n-is = ap (λ (x : Split). x .n) (p .split-is);
+    up = p .up;
+    place-few = place-most z (rowAt t);
+    first-few = early-most bs (recordCount bs) 0;
+  }
 
-  pub row-last : all + n ≤ i → lastRow z n ≡ secondRow z (rowAt t) bs i
-  row-last h = ap (lastRow z) (p .n-is) ∙ sym (at-last z (rowAt t) bs i (omega (arith, p .n-is)))
+  abbrev second : ℕ → List ℕ
+  second = secondRow z (rowAt t) bs
+
+  pub row-body : i < s .base → rowAt t i ≡ second i
+  row-body h = sym (at-body z (rowAt t) bs i (omega (arith, known .base-is)))
+
+  pub row-early : s .base ≤ i → i < s .base + s .first → recordRow bs (i - s .base) ≡ second i
+  row-early l h =
+      ap (λ (k : ℕ). recordRow bs (i - k)) (known .base-is) ∙ sym (at-early z (rowAt t) bs i (omega (arith, known .base-is)) (omega (arith, known .base-is, known .first-is)))
+
+  pub row-edge : s .base + s .first ≤ i → i < s .place + s .first → rowAt t (i - s .first) ≡ second i
+  row-edge l h =
+      ap (λ (k : ℕ). rowAt t (i - k)) (known .first-is)
+      ∙ sym (at-edge z (rowAt t) bs i (omega (arith, known .base-is, known .first-is)) (omega (arith, known .place-is, known .first-is)))
+
+  pub row-late : s .place + s .first ≤ i → i < s .place + s .n → recordRow bs (i - s .place) ≡ second i
+  row-late l h =
+      ap (λ (k : ℕ). recordRow bs (i - k)) (known .place-is)
+      ∙ sym (at-late z (rowAt t) bs i (known .up) (omega (arith, known .place-is, known .first-is)) (omega (arith, known .place-is, known .n-is)))
+
+  pub row-change : s .place + s .n ≤ i → i < s .rows + s .n → rowAt t (i - s .n) ≡ second i
+  row-change l h =
+      ap (λ (k : ℕ). rowAt t (i - k)) (known .n-is) ∙ sym (at-change z (rowAt t) bs i (known .up) (omega (arith, known .place-is, known .n-is)) (omega (arith, known .rows-is, known .n-is)))
+
+  pub row-last : s .rows + s .n ≤ i → lastRow z (s .n) ≡ second i
+  row-last h = ap (lastRow z) (known .n-is) ∙ sym (at-last z (rowAt t) bs i (known .up) (omega (arith, known .rows-is, known .n-is)))
 
 -- ---- an accepted import
 
-pub placed-told : (t bs : List ℕ) (room first : ℕ) (z : Counts) → imports t bs room ≡ Done → z ≡ countsAt t → first ≡ early bs → Placed z t bs first (recordCount bs)
-placed-told t bs room first z e z-is f =
+pub splits-told : (t bs : List ℕ) (room : ℕ) (z : Counts) → imports t bs room ≡ Done → z ≡ countsAt t
+    → (cards z * 6 ≤ length t) × (cards z ≤ mostRows) × (recordCount bs * 12 ≤ length bs) × (recordCount bs < 6000) × (recordCount bs ≡ recordCount bs)
+splits-told t bs room z e z-is =
     let acc = accepted t bs room e in
     let d = deck t (acc .fine) in
     let s = sized-told t bs (acc .fine) (acc .twelves) in
     let c : cards z ≡ cards (countsAt t) = ap cards z-is in
+    (omega (arith, d .all, begins t .atZ, d .whole), omega (arith, d .all, begins t .atZ, d .few), omega (arith, s .all), s .most, refl)
+
+pub placed-told : (t bs : List ℕ) (room : ℕ) (z : Counts) (s : Split) → imports t bs room ≡ Done → z ≡ countsAt t → s ≡ splitOf z t bs → Placed z s t bs
+unfolding about
+placed-told t bs room z s e z-is s-is =
+    let acc = accepted t bs room e in
+    let d = deck t (acc .fine) in
+    let z′ = sized-told t bs (acc .fine) (acc .twelves) in
+    let c : cards z ≡ cards (countsAt t) = ap cards z-is in
     record {
-      n-is = refl;
-      first-is = f;
+      split-is = s-is;
+      up = subst (λ (y : Counts). before y 4 ≤ fixedPlace y (rowAt t)) (sym z-is) (place-up t bs room e);
       few = omega (arith, d .all, begins t .atZ, d .few);
       some = omega (arith, d .all, begins t .atZ, d .whole);
-      most = s .most;
-      all = s .all;
+      most = z′ .most;
+      all = z′ .all;
     }
 
 pub ends-refused : (t bs old : List ℕ) (r : Refusal) → imports t bs (length old) ≡ Refused r → imported (Refused r) old ≡ importCall t bs old

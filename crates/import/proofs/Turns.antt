@@ -10,7 +10,7 @@ use lib.ListN.{length, getD, take, drop}
 use borrow.Author.Tests.{eqb-true, eq-eqb, ne-eqb, lt-ltb, le-ltb, le-leb, lt-leb, leb-true}
 use Rattle.whole.proofs.Tests.{cond-true, cond-false, and-told}
 use Rattle.paper.specs.Refusals.{Outcome, refused, done, when, then, answerOf}
-use Rattle.paper.specs.Kinds.{kindAt, letterOf}
+use Rattle.paper.specs.Kinds.{about, kindAt, letterOf}
 use Rattle.paper.specs.Cards.{columnsOf, inRange, countsAt, rowAt, rows}
 use Rattle.paper.specs.Judge.{asks, judged}
 use Rattle.paper.specs.Records.{recordKind, recordNumber, recordCard, recordAt, recordCount, inTwelves, isTail, follows, fitting, recordJudged, recordsFrom, recordsJudged, isMade, firstMade, earlyFrom, secondRows, roomJudged, imports}
@@ -18,8 +18,10 @@ use Rattle.paper.specs.declared.Answer.the-variants.{Done, Refused}
 use Rattle.paper.specs.declared.Refusal.{Refusal}
 use Rattle.paper.specs.declared.Refusal.the-variants.{Length, Range, Short, Replacement, Garbled}
 use Rattle.paper.specs.declared.Counts.{Counts}
-use Rattle.paper.specs.declared.Kind.the-variants.{H, F, T}
+use Rattle.paper.specs.declared.Kind.{Kind}
+use Rattle.paper.specs.declared.Kind.the-variants.{H, F, T, C}
 use Rattle.laws.proofs.Judged.{deck}
+use Rattle.laws.proofs.Recorded.{made-card, loads-of}
 use Rattle.import.specs.Asks.{Sized}
 
 -- ---- what 4 asks
@@ -29,11 +31,16 @@ module _ (z : Counts) (row : ℕ → List ℕ) (card : List ℕ) where
   unfolding fitting
   fitting-not h = simp h
 
-  pub fitting-on : inRange (columnsOf z card) card 5 0 ≡ true → asks z row card (kindAt card) ≡ fitting z row card
+  pub fitting-on : inRange (columnsOf z card) card 5 0 ≡ true → asks z row 0 card (kindAt card) ≡ fitting z row card
   unfolding fitting
   fitting-on h = simp h
 
 -- ---- one record
+
+-- no record becomes a change
+pub no-change : (place : ℕ) (bs card : List ℕ) → done card ≡ recordCard place bs → kindAt card ≡ C → ⊥
+unfolding about
+no-change place bs card e q = omega (arith, loads-of (recordKind bs) card (made-card place bs card (sym e) .sort) .keys, ap (λ (k : Kind). about k .keys) q)
 
 module _ (z : Counts) (row : ℕ → List ℕ) (kind number place : ℕ) (bs : List ℕ) where
   abbrev judgedAs : Outcome (List ℕ) → Outcome (List ℕ)

@@ -7,18 +7,30 @@ use records::Decoded;
 ghost use mathlib.Core.Path.{_≡_};
 ghost use mathlib.Core.List.{List, _++_};
 ghost use Prim.Native.Nat.{ℕ, _+_, _-_, _*_, _≤_, _<_};
+ghost use lib.Dec.{ltb};
 ghost use lib.ListN.{length, getD, drop};
 ghost use Rattle.whole.specs.Sums.{firstFrom};
-ghost use Rattle.paper.specs.Cards.{cards, mostRows, rowAt};
+ghost use Rattle.paper.specs.Kinds.{about, kindOf, kindAt};
+ghost use Rattle.paper.specs.Cards.{cards, mostRows, orderOf, rowAt};
 ghost use Rattle.paper.specs.Calls.{joined};
 ghost use Rattle.paper.specs.Records as paper;
-ghost use Rattle.import.specs.Asks.{Sized, Placed};
+ghost use Rattle.import.specs.Asks.{Sized, splitOf, Placed};
+
+// Where the parts of a second table begin: the deck's rows before its loads, before the fixed nodes and before Z; the records before
+// its edges, and all n of them.
+struct Split {
+    base: usize,
+    place: usize,
+    rows: usize,
+    first: usize,
+    n: usize,
+}
 
 // ---- one record
 
 // What 4 asks of a card beside its order, of a deck that counts so.
 fn fits_deck(counts: Counts, t: &[u32], card: &[u32]) -> bool
-    requires { ⌜ length (now card) ≡ 6 ⌝ }
+    requires { ⌜ (length (now card) ≡ 6) × (kindAt (now card) ≡ Kind.C → ⊥) ⌝ }
     ensures { λ r. ⌜ r ≡ paper.fitting counts (rowAt (now (t .entry))) (now (card .entry)) ⌝ }
 {
     let k = kinds::kind(card[0]);
@@ -29,6 +41,7 @@ fn fits_deck(counts: Counts, t: &[u32], card: &[u32]) -> bool
 }
 
 fn card_fits(counts: Counts, t: &[u32], card: [u32; 6]) -> bool
+    requires { ⌜ (kindAt card ≡ Kind.C → ⊥) ⌝ }
     ensures { λ r. ⌜ r ≡ paper.fitting counts (rowAt (now (t .entry))) card ⌝ }
 {
     fits_deck(counts, t, &card)
@@ -243,45 +256,74 @@ fn early(bytes: &[u8], n: usize) -> usize
     i
 }
 
-// Row i of the second table, `first` of the n records before the deck's edges.
-fn second_row(counts: Counts, t: &[u32], bytes: &[u8], first: usize, n: usize, i: usize) -> [u32; 6]
-    requires { ⌜ Placed counts (now t) (now bytes) first n ⌝ }
-    ensures { λ r. ⌜ r ≡ paper.secondRow counts (rowAt (now (t .entry))) (now (bytes .entry)) i ⌝ }
+// Whether cards of this letter come after the fixed nodes.
+fn is_late(letter: u32) -> bool
+    ensures { λ r. ⌜ r ≡ ltb (about Kind.T .order) (about (kindOf letter) .order) ⌝ }
 {
-    let base = kinds::cards_before(counts, kinds::about(Kind::H).section);
-    let rows = kinds::cards_before(counts, kinds::about(Kind::Z).section);
-    if i < base {
-        return row_of(t, i);
-    }
-    if i < base + first {
-        return record_row(bytes, i - base);
-    }
-    if i < rows + first {
-        return row_of(t, i - first);
-    }
-    if i < rows + n {
-        return record_row(bytes, i - rows);
-    }
-    last_row(counts, n)
+    kinds::about(Kind::T).order < kinds::about(kinds::kind(letter)).order
 }
 
-fn second_to(
-    counts: Counts,
-    t: &[u32],
-    bytes: &[u8],
-    first: usize,
-    n: usize,
-    rows: usize,
-    out: &mut [u32],
-)
-    requires { ⌜ Placed counts (now t) (now bytes) first n × (rows * 6 ≤ length (now out)) × (rows < 10000) ⌝ }
+// The rows before the first such card, of `rows` before Z: the fixed nodes go there.
+fn fixed_place(t: &[u32], rows: usize) -> usize
+    requires { ⌜ (rows * 6 ≤ length (now t)) × (rows ≤ mostRows) ⌝ }
+    ensures { λ r. ⌜ r ≡ paper.orAll rows (firstFrom rows 0 (λ i. ltb (about Kind.T .order) (orderOf (rowAt (now (t .entry)) i)))) ⌝ }
+{
+    let mut i = 0;
+    while i < rows {
+        if is_late(t[i * 6]) {
+            return i;
+        }
+        i += 1;
+    }
+    rows
+}
+
+fn split_deck(counts: Counts, t: &[u32], bytes: &[u8], n: usize) -> Split
+    requires { ⌜ (cards counts * 6 ≤ length (now t)) × (cards counts ≤ mostRows) × (n * 12 ≤ length (now bytes)) × (n < 6000) × (n ≡ paper.recordCount (now bytes)) ⌝ }
+    ensures { λ r. ⌜ r ≡ splitOf counts (now (t .entry)) (now (bytes .entry)) ⌝ }
+{
+    let rows = kinds::cards_before(counts, kinds::about(Kind::Z).section);
+    Split {
+        base: kinds::cards_before(counts, kinds::about(Kind::H).section),
+        place: fixed_place(t, rows),
+        rows: rows,
+        first: early(bytes, n),
+        n: n,
+    }
+}
+
+// Row i of the second table.
+fn second_row(counts: Counts, s: Split, t: &[u32], bytes: &[u8], i: usize) -> [u32; 6]
+    requires { ⌜ Placed counts s (now t) (now bytes) ⌝ }
+    ensures { λ r. ⌜ r ≡ paper.secondRow counts (rowAt (now (t .entry))) (now (bytes .entry)) i ⌝ }
+{
+    if i < s.base {
+        return row_of(t, i);
+    }
+    if i < s.base + s.first {
+        return record_row(bytes, i - s.base);
+    }
+    if i < s.place + s.first {
+        return row_of(t, i - s.first);
+    }
+    if i < s.place + s.n {
+        return record_row(bytes, i - s.place);
+    }
+    if i < s.rows + s.n {
+        return row_of(t, i - s.n);
+    }
+    last_row(counts, s.n)
+}
+
+fn second_to(counts: Counts, s: Split, t: &[u32], bytes: &[u8], rows: usize, out: &mut [u32])
+    requires { ⌜ Placed counts s (now t) (now bytes) × (rows * 6 ≤ length (now out)) × (rows < 10000) ⌝ }
     ensures { λ r. ⌜ now (out .exit) ≡ joined (paper.secondRow counts (rowAt (now (t .entry))) (now (bytes .entry))) rows 0 ++ drop (rows * 6) (now (out .entry)) ⌝ }
 {
     let mut i = 0;
     while i < rows {
         let at = i * 6;
         let end = at + 6;
-        kinds::row_to(second_row(counts, t, bytes, first, n, i), &mut out[at..end]);
+        kinds::row_to(second_row(counts, s, t, bytes, i), &mut out[at..end]);
         i += 1;
     }
 }
@@ -294,15 +336,9 @@ pub fn import(table: &[u32], bytes: &[u8], second: &mut [u32]) -> Answer
     let Answer::Done = a else {
         return a;
     };
+    let counts = cards::counts_at(table);
     let n = bytes.len() / 12 - 1;
-    second_to(
-        cards::counts_at(table),
-        table,
-        bytes,
-        early(bytes, n),
-        n,
-        table.len() / 6 + n,
-        second,
-    );
+    let s = split_deck(counts, table, bytes, n);
+    second_to(counts, s, table, bytes, table.len() / 6 + n, second);
     Answer::Done
 }

@@ -9,7 +9,7 @@ use lib.Dec.{eqb}
 use lib.ListN.{getD}
 use Rattle.paper.specs.Cards.{Column, _⋯_, columns, none, mayBlank}
 use Rattle.paper.specs.declared.Kind.{Kind}
-use Rattle.paper.specs.declared.Kind.the-variants.{D, N, M, E, «V», H, F, G, T, Z, Other}
+use Rattle.paper.specs.declared.Kind.the-variants.{D, N, M, E, «V», H, F, G, T, C, Z, Other}
 use Rattle.kinds.specs.Laid.{blankAt}
 
 -- no column of these may be blank
@@ -33,6 +33,7 @@ all-filled H = (refl, (refl, tt))
 all-filled F = (refl, (refl, (refl, tt)))
 all-filled G = (refl, (refl, (refl, (refl, (refl, tt)))))
 all-filled T = (refl, (refl, tt))
+all-filled C = (refl, (refl, (refl, (refl, (refl, tt)))))
 all-filled Z = (refl, (refl, (refl, (refl, (refl, tt)))))
 all-filled Other = tt
 
@@ -66,5 +67,6 @@ flat-one H k l = never-blank (columns (none false) H) (refl, (refl, tt)) k l
 flat-one F k l = never-blank (columns (none false) F) (refl, (refl, (refl, tt))) k l
 flat-one G k l = never-blank (columns (none false) G) (refl, (refl, (refl, (refl, (refl, tt))))) k l
 flat-one T k l = never-blank (columns (none false) T) (refl, (refl, tt)) k l
+flat-one C k l = never-blank (columns (none false) C) (refl, (refl, (refl, (refl, (refl, tt))))) k l
 flat-one Z k l = never-blank (columns (none false) Z) (refl, (refl, (refl, (refl, (refl, tt))))) k l
 flat-one Other k l = never-blank (columns (none false) Other) tt k l

@@ -1,19 +1,23 @@
 -- Each kind's columns as the code lays them out, and a card's tests over them.
 use mathlib.Core.Path.{_≡_, refl, sym, ap, _∙_}
-use mathlib.Core.Bool.{Bool, true, false, cond}
+use mathlib.Core.Bool.{Bool, true, false, cond, _&&_}
 use mathlib.Core.List.{List, [], _∷_}
 use Prim.Native.Nat.{ℕ, suc, _+_, _-_, _*_, _≤_, _<_}
 use native.Mathlib.Numerals.{add-one}
 use native.Mathlib.Omega.{arith}
-use borrow.Author.Tests.{le-leb, lt-leb}
+use borrow.Author.Tests.{eq-eqb, ne-eqb, eqb-true, le-leb, lt-leb}
+use lib.Dec.{eqb}
 use lib.ListN.{length, getD}
-use Rattle.paper.specs.Kinds.{ends, kindAt}
-use Rattle.paper.specs.Cards.{Column, _⋯_, blankOr, before, columns, columnsOf, used, zeros, inRange}
+use Rattle.paper.specs.Kinds.{about, kindOf, kindAt, change, ends}
+use Rattle.paper.specs.Cards.{Column, _⋯_, blankOr, before, columns, columnsOf, used, usedBy, zeros, inRange}
 use Rattle.paper.specs.Judge.{clean}
 use Rattle.laws.proofs.Judging.{clean-start}
+use Rattle.laws.proofs.Letters.{change-kind}
+use Rattle.laws.proofs.CardText.{used-kind}
+use Rattle.paper.specs.declared.About.{About}
 use Rattle.paper.specs.declared.Counts.{Counts}
 use Rattle.paper.specs.declared.Kind.{Kind}
-use Rattle.paper.specs.declared.Kind.the-variants.{D, N, M, E, «V», H, F, G, T, Z, Other}
+use Rattle.paper.specs.declared.Kind.the-variants.{D, N, M, E, «V», H, F, G, T, C, Z, Other}
 use Rattle.kinds.specs.Laid.{columnsAs, laid, inBounds}
 use Rattle.kinds.specs.declared.Columns.{Columns}
 
@@ -47,9 +51,9 @@ module _ (z : Counts) where
       go true = refl
       go false = refl
 
-  pub laid-Z : {b : ℕ} → b ≡ before z ends → columnsAs 5 (42 * b ∷ 3 ∷ 1 ∷ 1 ∷ 0 ∷ []) (42 * b ∷ 96 ∷ 8 ∷ 160 ∷ 576 ∷ []) ≡ laid (columns z Z)
+  pub laid-Z : {b : ℕ} → b ≡ before z ends → columnsAs 5 (42 * b ∷ 3 ∷ 1 ∷ 1 ∷ 0 ∷ []) (42 * b ∷ 96 ∷ 8 ∷ 160 ∷ 640 ∷ []) ≡ laid (columns z Z)
   unfolding laid columns
-  laid-Z e = ap (λ (b : ℕ). columnsAs 5 (42 * b ∷ 3 ∷ 1 ∷ 1 ∷ 0 ∷ []) (42 * b ∷ 96 ∷ 8 ∷ 160 ∷ 576 ∷ [])) e
+  laid-Z e = ap (λ (b : ℕ). columnsAs 5 (42 * b ∷ 3 ∷ 1 ∷ 1 ∷ 0 ∷ []) (42 * b ∷ 96 ∷ 8 ∷ 160 ∷ 640 ∷ [])) e
 
 pub laid-used : (b : Columns) (cs : List Column) → b ≡ laid cs → b .used ≡ length cs
 unfolding laid
@@ -67,6 +71,7 @@ used-any z H = refl
 used-any z F = refl
 used-any z G = refl
 used-any z T = refl
+used-any z C = refl
 used-any z Z = refl
 used-any z Other = refl
 
@@ -81,8 +86,32 @@ used-few H = omega arith
 used-few F = omega arith
 used-few G = omega arith
 used-few T = omega arith
+used-few C = omega arith
 used-few Z = omega arith
 used-few Other = omega arith
+
+-- those that a card uses, by its second field
+module _ (k : Kind) (code : ℕ) where
+  by-tests : (a b : Bool) → change (about k) ≡ a → eqb (about (kindOf code) .gives) 1 ≡ b → used k - cond (a && b) 1 0 ≡ usedBy k code
+  unfolding usedBy
+  by-tests a b p q = sym (λ i. used k - cond (p i && q i) 1 0)
+
+  pub used-plain : change (about k) ≡ false → used k ≡ usedBy k code
+  used-plain p = sym (used-kind k code p)
+
+  module _ (p : change (about k) ≡ true) {a : About} (e : a ≡ about (kindOf code)) where
+    pub used-whole : (a .gives ≡ 1 → ⊥) → used k ≡ usedBy k code
+    used-whole g =
+        let q : eqb (about (kindOf code) .gives) 1 ≡ false = ap (λ (x : About). eqb (x .gives) 1) (sym e) ∙ ne-eqb (a .gives) 1 g in
+        omega (arith, by-tests true false p q)
+
+    pub used-less : a .gives ≡ 1 → used k - 1 ≡ usedBy k code
+    used-less g = by-tests true true p (ap (λ (x : About). eqb (x .gives) 1) (sym e) ∙ eq-eqb (a .gives) 1 g)
+
+-- a change uses all five, or one less
+pub change-five : (k : Kind) → change (about k) ≡ true → used k ≡ 5
+unfolding used columns
+change-five k p = ap used (change-kind k (eqb-true (about k .keys) 3 p))
 
 -- the test of ranges over the two arrays, field by field
 module _ (ls ms card : List ℕ) where
@@ -121,11 +150,6 @@ module _ (z : Counts) {k : Kind} (card : List ℕ) (e : k ≡ kindAt card) {b : 
   card-range =
       ap (λ (b : Columns). inBounds (b .least) (b .most) card 5 0) l ∙ same-bounds (columns z k) card ∙ ap (λ (k : Kind). inRange (columns z k) card 5 0) e
 
-  laid-few : b .used ≡ used k
-  laid-few = laid-used b (columns z k) l ∙ used-any z k
-
-  pub few : b .used ≤ 5
-  few = omega (arith, laid-few, used-few k)
-
-  pub card-clean : zeros card (6 - (1 + b .used)) (1 + b .used) ≡ clean card
-  card-clean = sym (clean-start card (b .used) (laid-few ∙ ap used e) few)
+-- and what the fields that it uses do
+pub card-clean : {k : Kind} (card : List ℕ) → k ≡ kindAt card → {u : ℕ} → u ≡ usedBy k (getD card 2 0) → u ≤ 5 → zeros card (6 - (1 + u)) (1 + u) ≡ clean card
+card-clean card e {u} h few = sym (clean-start card u (h ∙ ap (λ (k : Kind). usedBy k (getD card 2 0)) e) few)

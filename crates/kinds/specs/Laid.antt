@@ -6,7 +6,7 @@ use lib.Dec.{leb}
 use lib.ListN.{length, getD}
 use Rattle.paper.specs.Cards.{Column, _⋯_}
 use Rattle.paper.specs.declared.Kind.{Kind}
-use Rattle.paper.specs.declared.Kind.the-variants.{D, N, M, E, «V», H, F, G, T, Z, Other}
+use Rattle.paper.specs.declared.Kind.the-variants.{D, N, M, E, «V», H, F, G, T, C, Z, Other}
 use Rattle.kinds.specs.declared.Columns.{Columns}
 
 -- a kind's columns: five of each, of an unused one 0
@@ -34,6 +34,7 @@ blankAt H = 5
 blankAt F = 5
 blankAt G = 5
 blankAt T = 5
+blankAt C = 5
 blankAt Z = 5
 blankAt Other = 5
 

@@ -32,6 +32,8 @@ const G: u32 = 71;
 
 const T: u32 = 84;
 
+const C: u32 = 67;
+
 const Z: u32 = 90;
 
 // The sections of the elements, of the loads and of Z.
@@ -43,6 +45,9 @@ const ENDS: usize = 5;
 
 // More than any table has rows.
 const MANY: usize = 2_000;
+
+// The most that 8 columns hold.
+const ANY8: u64 = 99_999_999;
 
 pub fn kind(letter: u32) -> Kind
     ensures { λ r. ⌜ r ≡ kinds.kindOf letter ⌝ }
@@ -57,6 +62,7 @@ pub fn kind(letter: u32) -> Kind
         F => Kind::F,
         G => Kind::G,
         T => Kind::T,
+        C => Kind::C,
         Z => Kind::Z,
         _ => Kind::Other,
     }
@@ -69,9 +75,10 @@ fn line(
     keeps: usize,
     keys: u32,
     joins: usize,
+    gives: usize,
     most: usize,
 ) -> About
-    ensures { λ r. ⌜ r ≡ kinds.line letter order section keeps keys joins most ⌝ }
+    ensures { λ r. ⌜ r ≡ kinds.line letter order section keeps keys joins gives most ⌝ }
 {
     About {
         letter: letter,
@@ -80,27 +87,36 @@ fn line(
         keeps: keeps,
         keys: keys,
         joins: joins,
+        gives: gives,
         most: most,
     }
 }
 
-// Letter, order, section, keeps, keys, joins, most.
+// Letter, order, section, keeps, keys, joins, gives, most.
 pub fn about(k: Kind) -> About
     ensures { λ r. ⌜ r ≡ kinds.about k ⌝ }
 {
     match k {
-        Kind::D => line(D, 0, 0, 0, 0, 0, MANY),
-        Kind::N => line(N, 1, 1, 0, 0, 0, MANY),
-        Kind::M => line(M, 2, 2, 0, 0, 0, MANY),
-        Kind::E => line(E, 3, BODIES, 3, 0, 3, MANY),
-        Kind::V => line(V, 4, BODIES, 4, 0, 4, MANY),
-        Kind::H => line(H, 5, LOADS, 1, 1, 0, MANY),
-        Kind::F => line(F, 6, LOADS, 1, 1, 0, MANY),
-        Kind::G => line(G, 7, LOADS, 2, 2, 2, 160),
-        Kind::T => line(T, 8, LOADS, 1, 1, 0, MANY),
-        Kind::Z => line(Z, 9, ENDS, 0, 0, 0, MANY),
-        Kind::Other => line(0, 10, 6, 0, 0, 0, MANY),
+        Kind::D => line(D, 0, 0, 0, 0, 0, 0, MANY),
+        Kind::N => line(N, 1, 1, 0, 0, 0, 0, MANY),
+        Kind::M => line(M, 2, 2, 0, 0, 0, 0, MANY),
+        Kind::E => line(E, 3, BODIES, 3, 0, 3, 2, MANY),
+        Kind::V => line(V, 4, BODIES, 4, 0, 4, 0, MANY),
+        Kind::H => line(H, 5, LOADS, 1, 1, 0, 1, MANY),
+        Kind::F => line(F, 6, LOADS, 1, 1, 0, 2, MANY),
+        Kind::G => line(G, 7, LOADS, 2, 2, 2, 0, 160),
+        Kind::T => line(T, 8, LOADS, 1, 1, 0, 1, MANY),
+        Kind::C => line(C, 9, LOADS, 0, 3, 0, 0, 64),
+        Kind::Z => line(Z, 10, ENDS, 0, 0, 0, 0, MANY),
+        Kind::Other => line(0, 11, 6, 0, 0, 0, 0, MANY),
     }
+}
+
+// Whether its kind is a change, which has an increment, a letter and a key.
+pub fn is_change(a: About) -> bool
+    ensures { λ r. ⌜ r ≡ kinds.change a ⌝ }
+{
+    a.keys == 3
 }
 
 // ---- sections
@@ -171,9 +187,10 @@ pub fn columns_of(counts: Counts, k: Kind) -> Columns
         Kind::F => laid_out(3, [1, 1, 0, 0, 0], [e, 100_000, top, 0, 0]),
         Kind::G => laid_out(5, [1, 1, 1, 0, 1], [n, n, 100_000, top, 4_000]),
         Kind::T => laid_out(2, [1, 0, 0, 0, 0], [n, top, 0, 0, 0]),
+        Kind::C => laid_out(5, [1, 0, 0, 0, 0], [100_000, ANY8, ANY8, ANY8, ANY8]),
         Kind::Z => {
             let b = 42 * cards_before(counts, ENDS) as u64;
-            laid_out(5, [b, 3, 1, 1, 0], [b, 96, 8, 160, 576])
+            laid_out(5, [b, 3, 1, 1, 0], [b, 96, 8, 160, 640])
         }
         Kind::Other => laid_out(0, [0, 0, 0, 0, 0], [0, 0, 0, 0, 0]),
     }
@@ -193,6 +210,20 @@ pub fn used_of(k: Kind) -> usize
     columns_of(none, k).used
 }
 
+// Those that a card uses, by its second field: a change that gives one value leaves the last blank.
+pub fn used_by(k: Kind, code: u32) -> usize
+    ensures { λ r. ⌜ (r ≡ cards.usedBy k code) × (r ≤ 5) ⌝ }
+{
+    let u = used_of(k);
+    if !is_change(about(k)) {
+        return u;
+    }
+    if about(kind(code)).gives != 1 {
+        return u;
+    }
+    u - 1
+}
+
 // ---- a card's numbers
 
 // The field, counted from 0, that may be blank in a flat deck: a node's z and a material's kz; 5 where none may.
@@ -209,6 +240,7 @@ fn blank_at(k: Kind) -> usize
         Kind::F => 5,
         Kind::G => 5,
         Kind::T => 5,
+        Kind::C => 5,
         Kind::Z => 5,
         Kind::Other => 5,
     }

@@ -4,20 +4,21 @@ use mathlib.Core.Bool.{Bool, true, _&&_, cond}
 use mathlib.Core.List.{List}
 use Prim.Native.Nat.{ℕ, zero, suc, _+_, _-_, _≤_, _<_}
 use native.Mathlib.Omega.{arith}
-use lib.Dec.{eqb}
+use lib.Dec.{leb, eqb}
 use lib.ListN.{getD}
 use Rattle.whole.specs.Sums.{sumN}
+use Rattle.whole.proofs.Sums.{first-ext}
 use Rattle.paper.specs.Refusals.{andThen}
-use Rattle.paper.specs.Kinds.{about, aboutOf, bodies, kindAt, letterOf, isA}
+use Rattle.paper.specs.Kinds.{about, aboutOf, bodies, kindOf, kindAt, letterOf, isA}
 use Rattle.paper.specs.Cards.{_⋯_, within, before, columns, columnsOf, inRange, orderOf, rank}
-use Rattle.paper.specs.Judge.{stands, full, judgeOne, asks, judgeCard, judgeFrom}
+use Rattle.paper.specs.Judge.{stands, full, judgeOne, nameAt, cardNamed, asks, judgeCard, judgeFrom}
 use Rattle.paper.specs.declared.Answer.{Answer}
 use Rattle.paper.specs.declared.Answer.the-variants.{Done, Refused}
 use Rattle.paper.specs.declared.Refusal.{Refusal}
 use Rattle.paper.specs.declared.Refusal.the-variants.{Range}
 use Rattle.paper.specs.declared.Counts.{Counts}
 use Rattle.paper.specs.declared.Kind.{Kind}
-use Rattle.paper.specs.declared.Kind.the-variants.{D, N, M, E, «V», H, F, G, T, Z, Other}
+use Rattle.paper.specs.declared.Kind.the-variants.{D, N, M, E, «V», H, F, G, T, C, Z, Other}
 use Rattle.laws.proofs.Decks.{In}
 use Rattle.laws.proofs.Spans.{in-told}
 use Rattle.laws.proofs.Judging.{full-same}
@@ -34,9 +35,17 @@ column-in z card kind k e r l =
 begins-at : (z : Counts) (i p : ℕ) (card : List ℕ) (kind : Kind) → kindAt card ≡ kind → stands z i p (aboutOf card) ≡ true → before z (about kind .section) ≤ i
 begins-at z i p card kind e s = subst (λ (q : Kind). before z (about q .section) ≤ i) e (stands-told z i p (aboutOf card) s .lo)
 
+-- a card is named alike by rows that are the same
+pub named-alike : (z : Counts) (f g : ℕ → List ℕ) (n letter name : ℕ) → ((j : ℕ) → j < n → f j ≡ g j) → cardNamed z f n letter name ≡ cardNamed z g n letter name
+unfolding cardNamed nameAt
+named-alike z f g n letter name e =
+    first-ext n 0 _ _ (λ j lo hi.
+    let q = e j (omega arith) in
+    λ k. eqb (getD (q k) 0 0) letter && eqb (cond (eqb (aboutOf (q k) .section) bodies) (suc j - before z bodies) (getD (q k) 1 0)) name)
+
 module _ (z : Counts) (f g : ℕ → List ℕ) (i p key : ℕ) (e : (j : ℕ) → j ≤ i → f j ≡ g j) where
   -- a card that passes its own tests asks of rows before it
-  asks-alike : (crowded : Bool) (card : List ℕ) → One z i p key crowded card → (kind : Kind) → kindAt card ≡ kind → asks z f card kind ≡ asks z g card kind
+  asks-alike : (crowded : Bool) (card : List ℕ) → One z i p key crowded card → (kind : Kind) → kindAt card ≡ kind → asks z f i card kind ≡ asks z g i card kind
   unfolding asks about columns before sumN
   asks-alike crowded card o D k = refl
   asks-alike crowded card o N k = refl
@@ -60,6 +69,8 @@ module _ (z : Counts) (f g : ℕ → List ℕ) (i p key : ℕ) (e : (j : ℕ) �
   asks-alike crowded card o F k = ap (isA E) (e (before z bodies + getD card 1 0 - 1) (omega (arith, column-in z card F 0 k (o .range) (omega arith), begins-at z i p card F k (o .place))))
   asks-alike crowded card o G k = refl
   asks-alike crowded card o T k = refl
+  asks-alike crowded card o C k =
+      ap (λ (n : ℕ). leb 1 (about (kindOf (getD card 2 0)) .gives) && leb 1 n) (named-alike z f g i (getD card 2 0) (getD card 3 0) (λ j l. e j (omega arith)))
   asks-alike crowded card o Z k = refl
   asks-alike crowded card o Other k = refl
 
@@ -71,7 +82,7 @@ module _ (z : Counts) (f g : ℕ → List ℕ) (i p key : ℕ) (e : (j : ℕ) �
       ∙ go (judgeOne z i p key (full g i (aboutOf (g i))) (g i)) refl
     where
       after : (ℕ → List ℕ) → List ℕ → Answer
-      after row c = cond (asks z row c (kindAt c)) Done (Refused (Range (suc i)))
+      after row c = cond (asks z row i c (kindAt c)) Done (Refused (Range (suc i)))
 
       go : (a : Answer) → judgeOne z i p key (full g i (aboutOf (g i))) (g i) ≡ a → andThen a (after f (g i)) ≡ andThen a (after g (g i))
       go Done h =

@@ -34,7 +34,7 @@ use Rattle.paper.specs.Running.{runFrom, runCall}
 use Rattle.paper.specs.Book.{stored, carriedIn, power, book, Closed, OwnMatrices, lentTo, Account, counted, stepOn, stepsOn, AllOwn}
 use Rattle.paper.specs.declared.Answer.the-variants.{Done}
 use Rattle.paper.specs.declared.Kind.{Kind}
-use Rattle.paper.specs.declared.Kind.the-variants.{D, N, M, E, «V», H, F, G, T, Z, Other}
+use Rattle.paper.specs.declared.Kind.the-variants.{D, N, M, E, «V», H, F, G, T, C, Z, Other}
 use Rattle.paper.specs.declared.Stepped.{Stepped}
 use Rattle.paper.specs.declared.Stepped.the-variants.{Settled, Refused}
 use Rattle.paper.specs.declared.Ran.the-variants as runAnswer
@@ -54,7 +54,7 @@ use Rattle.laws.proofs.Balance.{row, balance}
 -- ---- a deck with no film and no fixed node
 
 -- a card that is none of a kind
-not-kind : (t : List ℕ) (r : ℕ) (k : Kind) → about k .order < 10 → isCard k t r ≡ false → kindIn t r ≡ k → ⊥
+not-kind : (t : List ℕ) (r : ℕ) (k : Kind) → about k .order < 11 → isCard k t r ≡ false → kindIn t r ≡ k → ⊥
 not-kind t r k o e q = true≢false (sym (eq-eqb (letter t r) (letterOf k) (letter-of (letter t r) k q o)) ∙ e)
 
 -- F and G alone have a film
@@ -69,6 +69,7 @@ filmless t card H f g = refl
 filmless t card F f g = absurd (f refl)
 filmless t card G f g = absurd (g refl)
 filmless t card T f g = refl
+filmless t card C f g = refl
 filmless t card Z f g = refl
 filmless t card Other f g = refl
 

@@ -48,7 +48,7 @@ pub record Deck (t : List ℕ) : Type 0 where
   -- no card stands before a kind that comes before its own
   pub order : (r s : ℕ) → r < s → suc s < rows t → about (kindIn t r) .order ≤ about (kindIn t s) .order
   -- every card before Z has what it asks of those before it
-  pub asked : (row : ℕ) → suc row < rows t → asks (countsAt t) (rowAt t) (rowAt t row) (kindIn t row) ≡ true
+  pub asked : (row : ℕ) → suc row < rows t → asks (countsAt t) (rowAt t) row (rowAt t row) (kindIn t row) ≡ true
 
 -- the card in a row may become this one: its letter and the fields that its kind keeps are the same
 pub record Change (t : List ℕ) (row : ℕ) (card : List ℕ) : Type 0 where

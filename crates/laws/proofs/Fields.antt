@@ -11,7 +11,7 @@ use lib.ListN.{length, replicate}
 use Rattle.paper.specs.declared.Kind.{Kind}
 use Rattle.paper.specs.declared.Field.{Field}
 use Rattle.paper.specs.declared.Field.the-variants.{Number, Malformed}
-use Rattle.paper.specs.Cards.{used, mayBlank, outside}
+use Rattle.paper.specs.Cards.{mayBlank, outside}
 use Rattle.paper.specs.Text.{digits, alone, number, blank, digit, spaced, printed, filled, blankElse, textField}
 use Rattle.whole.proofs.Tests.{and-told}
 
@@ -26,9 +26,9 @@ pub length-printed : (n : ℕ) → length (printed n) ≡ 8
 unfolding printed
 length-printed n = length-spaced 7 (n / 10) ((48 + n % 10) ∷ [])
 
-pub length-field : (solid : Bool) (kind : Kind) (k n : ℕ) → length (textField solid kind k n) ≡ 8
+pub length-field : (solid : Bool) (kind : Kind) (u k n : ℕ) → length (textField solid kind u k n) ≡ 8
 unfolding textField
-length-field solid kind k n = by (ltb k (used kind) && not (mayBlank solid kind k && eqb n 0))
+length-field solid kind u k n = by (ltb k u && not (mayBlank solid kind k && eqb n 0))
   where
     by : (b : Bool) → length (cond b (printed n) (replicate 8 32)) ≡ 8
     by true = length-printed n

@@ -6,21 +6,22 @@ use mathlib.Core.List.{List}
 use Prim.Native.Nat.{ℕ, zero, suc, _+_, _-_, _*_, _≤_, _<_}
 use native.Mathlib.Decide.{decLt}
 use native.Mathlib.Omega.{arith}
-use lib.Dec.{ltb, eqb}
+use lib.Dec.{ltb, leb, eqb}
 use lib.ListN.{length, getD}
-use borrow.Author.Tests.{eqb-true, eq-eqb, lt-ltb, le-ltb, le-leb, ltb-false}
+use borrow.Author.Tests.{eqb-true, eq-eqb, lt-ltb, le-ltb, le-leb, leb-true, ltb-false}
 use Rattle.whole.proofs.Sums.{first-none}
-use Rattle.whole.proofs.Tests.{never, cond-true, cond-false}
+use Rattle.whole.proofs.First.{first-upto, first-holds, first-most}
+use Rattle.whole.proofs.Tests.{never, and-told, cond-true, cond-false}
 use Rattle.paper.specs.Refusals.{Outcome, refused, done}
-use Rattle.paper.specs.Kinds.{about, aboutOf, kindAt, letterOf, isA}
+use Rattle.paper.specs.Kinds.{about, aboutOf, bodies, kindOf, kindAt, letterOf, isA}
 use Rattle.paper.specs.Cards.{before, cards, columns, columnsOf, inRange, orderOf, rank, countsOf, countsAt, rowAt, letter, rows}
-use Rattle.paper.specs.Judge.{stands, clean, rises, ordered, full, asks, trailer, judged}
-use Rattle.paper.specs.Records.{recordKind, recordNumber, recordCard, recordAt, recordCount, inTwelves, recordsFrom, recordsJudged, isMade, firstMade, made, recordRow, early, lastRow, secondRow, secondRows, secondTable, roomJudged, imports}
+use Rattle.paper.specs.Judge.{stands, clean, rises, ordered, full, nameAt, cardNamed, asks, trailer, judged}
+use Rattle.paper.specs.Records.{recordKind, recordNumber, recordCard, recordAt, recordCount, inTwelves, recordsFrom, recordsJudged, isMade, firstMade, made, recordRow, early, lastRow, fixedPlace, secondRow, secondRows, secondTable, roomJudged, imports}
 use Rattle.paper.specs.declared.Answer.the-variants.{Done}
 use Rattle.paper.specs.declared.Refusal.the-variants.{Length, Short, Replacement}
 use Rattle.paper.specs.declared.Counts.{Counts}
 use Rattle.paper.specs.declared.Kind.{Kind}
-use Rattle.paper.specs.declared.Kind.the-variants.{E, «V», F, G}
+use Rattle.paper.specs.declared.Kind.the-variants.{E, «V», F, G, C}
 use Rattle.laws.proofs.Outcomes.{both-done, cond-done, cond-rest}
 use Rattle.laws.proofs.Letters.{letter-of, kind-of}
 use Rattle.laws.proofs.Tables.{row-field, row-length}
@@ -30,8 +31,8 @@ use Rattle.laws.proofs.Spans.{row-kind, nodes-are, materials-are, eleme
 use Rattle.laws.proofs.Judged.{orderBefore, rankBefore, passes, Passed, passed, passing, top-told, top-done, deck}
 use Rattle.laws.proofs.Alike.{column-in}
 use Rattle.laws.proofs.Recorded.{Sort, heat, film, hold, Made, made-card, Loads, loads-of, Taken, taken, follow-told, Fair, few-records, kindBefore, numberBefore, records-each, early-most, early-below, early-stop}
-use Rattle.laws.proofs.Second.{before-five, at-body, at-early, at-edge, at-late, at-last, grown, grown-four, grown-five, grown-stands, body-order, grown-columns, grown-asks}
-use Rattle.laws.proofs.Passing.{edge-kind, stands-load, ordered-one, rank-one, rises-up, full-not, passes-same, trailer-of}
+use Rattle.laws.proofs.Second.{before-five, place-most, place-below, place-here, at-body, at-early, at-edge, at-late, at-change, at-last, edge-kind, change-kind, grown, grown-four, grown-five, grown-stands, body-order, grown-columns, grown-asks}
+use Rattle.laws.proofs.Passing.{stands-load, ordered-one, rank-one, rises-up, full-not, passes-same, trailer-of}
 
 -- ---- what acceptance tells
 
@@ -54,7 +55,7 @@ accepted t bs room e =
 
 -- the row of a record's card
 abbrev pub recordPlace : List ℕ → List ℕ → ℕ → ℕ
-recordPlace t bs k = cond (ltb k (early bs)) (before (countsAt t) 4 + k) (cards (countsAt t) + k)
+recordPlace t bs k = cond (ltb k (early bs)) (before (countsAt t) 4 + k) (fixedPlace (countsAt t) (rowAt t) + k)
 
 -- ---- the whole
 
@@ -79,6 +80,9 @@ module _ (t bs : List ℕ) (room : ℕ) (ok : imports t bs room ≡ Done) where
 
   abbrev row : ℕ → List ℕ
   row = rowAt t
+
+  abbrev place : ℕ
+  place = fixedPlace z row
 
   abbrev row2 : ℕ → List ℕ
   row2 = secondRow z row bs
@@ -129,33 +133,67 @@ module _ (t bs : List ℕ) (room : ℕ) (ok : imports t bs room ≡ Done) where
   old : (i : ℕ) → i < cards z → Passed z row i (orderBefore row i) (rankBefore row i)
   old i h = passed z row i (orderBefore row i) (rankBefore row i) (top-told t (acc .fine) .each i (omega (arith, rows-is)))
 
-  edge-at : (j : ℕ) → base ≤ j → j < cards z → kindAt (row j) ≡ G
+  place-cards : place ≤ cards z
+  place-cards = place-most z row
+
+  -- what comes after the fixed nodes stands among the loads
+  pub place-up : before (countsAt t) 4 ≤ fixedPlace (countsAt t) (rowAt t)
+  place-up = go (decLt place base)
+    where
+      go : Dec (place < base) → base ≤ place
+      go (no l) = let l′ : place < base → ⊥ = l in omega arith
+      go (yes l) =
+          let s = dk .stands place (omega (arith, rows-is, all-is)) in
+          omega (arith, place-here z row (omega (arith, all-is)), ap (λ (k : Kind). about k .order) (row-kind t place), body-order z place (kindIn t place) l (s .0))
+
+  load-section : (j : ℕ) → base ≤ j → j < cards z → about (kindAt (row j)) .section ≡ 4
+  load-section j l h = ap (λ (k : Kind). about k .section) (row-kind t j) ∙ section-at t dk j 4 (omega (arith, rows-is)) (l, h)
+
+  edge-at : (j : ℕ) → base ≤ j → j < place → kindAt (row j) ≡ G
   unfolding firstMade
   edge-at j l h =
-      edge-kind (row j) (ap (λ (k : Kind). about k .section) (row-kind t j) ∙ section-at t dk j 4 (omega (arith, rows-is)) (l, h))
-      (first-none (rows t - 1) 0 (λ (r : ℕ). isMade (row r)) (acc .bare) j (omega arith) (omega (arith, rows-is)))
+      edge-kind (row j) (load-section j l (omega (arith, place-cards)))
+      (first-none (rows t - 1) 0 (λ (r : ℕ). isMade (row r)) (acc .bare) j (omega arith) (omega (arith, rows-is, place-cards))) (place-below z row j h)
 
-  edge-letter : (j : ℕ) → base ≤ j → j < cards z → getD (row j) 0 0 ≡ 71
-  unfolding about
-  edge-letter j l h = letter-of (getD (row j) 0 0) G (edge-at j l h) (omega arith)
-
-  -- the judge lets no more than 160 of them pass
-  few-edges : z .loads ≤ 160
-  unfolding full about
-  few-edges = go (decLt 160 (z .loads))
+  -- kinds do not fall, so all from that place on are changes
+  late-order : (j : ℕ) → place ≤ j → j < cards z → 8 < orderOf (row j)
+  late-order j l h = go (decLt place j)
     where
-      go : Dec (160 < z .loads) → z .loads ≤ 160
-      go (no l) = let l′ : 160 < z .loads → ⊥ = l in omega arith
+      go : Dec (place < j) → 8 < orderOf (row j)
+      go (yes m) =
+          omega (arith, place-here z row (omega arith), dk .order place j m (omega (arith, rows-is)), ap (λ (k : Kind). about k .order) (row-kind t place), ap (λ (k : Kind). about k .order) (row-kind t j))
+      go (no m) =
+          let m′ : place < j → ⊥ = m in
+          let e : place ≡ j = omega arith in
+          subst (λ (r : ℕ). 8 < orderOf (row r)) e (place-here z row (omega arith))
+
+  change-at : (j : ℕ) → place ≤ j → j < cards z → kindAt (row j) ≡ C
+  change-at j l h = change-kind (kindAt (row j)) (load-section j (omega (arith, place-up)) h) (late-order j l h)
+
+  -- the judge lets no more of a kind pass than there may be
+  few-of : (q : Kind) (first last : ℕ) → ((j : ℕ) → first ≤ j → j < last → kindAt (row j) ≡ q) → last ≤ cards z → about q .order < 11 → last ≤ first + about q .most
+  unfolding full
+  few-of q first last is u o = go (decLt (first + about q .most) last)
+    where
+      go : Dec (first + about q .most < last) → last ≤ first + about q .most
+      go (no l) = let l′ : first + about q .most < last → ⊥ = l in omega arith
       go (yes l) =
-          let i = base + 160 in
-          let h : i < cards z = omega (arith, all-is) in
-          let spare : full row i (about G) ≡ false = ap (λ (k : Kind). full row i (about k)) (sym (edge-at i (omega arith) h)) ∙ old i h .spare in
-          let q : i - 160 ≡ base = omega arith in
-          let e : getD (row (i - 160)) 0 0 ≡ 71 = ap (λ (j : ℕ). getD (row j) 0 0) q ∙ edge-letter base (omega arith) (omega (arith, all-is)) in
-          let x : false ≡ true = sym spare ∙ (λ j. le-leb 160 i (omega arith) j && eq-eqb (getD (row (i - 160)) 0 0) 71 e j) in
+          let i = first + about q .most in
+          let spare : full row i (about q) ≡ false = ap (λ (k : Kind). full row i (about k)) (sym (is i (omega arith) l)) ∙ old i (omega arith) .spare in
+          let e : i - about q .most ≡ first = omega arith in
+          let same : getD (row (i - about q .most)) 0 0 ≡ about q .letter = ap (λ (j : ℕ). getD (row j) 0 0) e ∙ letter-of (getD (row first) 0 0) q (is first (omega arith) (omega arith)) o in
+          let x : false ≡ true = sym spare ∙ (λ j. le-leb (about q .most) i (omega arith) j && eq-eqb (getD (row (i - about q .most)) 0 0) (about q .letter) same j) in
           never x
 
-  -- before the loads no card is an edge, and each is of a kind before theirs
+  few-edges : place ≤ base + 160
+  unfolding about
+  few-edges = few-of G base place edge-at place-cards (omega arith)
+
+  few-changes : cards z ≤ place + 64
+  unfolding about
+  few-changes = few-of C place (cards z) change-at (omega arith) (omega arith)
+
+  -- before the loads each card is of a kind before theirs
   body-low : (i : ℕ) → i < base → orderOf (row2 i) ≤ 4
   body-low i h =
       let s = dk .stands i (omega (arith, rows-is, all-is)) in
@@ -166,8 +204,8 @@ module _ (t bs : List ℕ) (room : ℕ) (ok : imports t bs room ≡ Done) where
   early-row : (i : ℕ) → base ≤ i → (h : i - base < n) → i < base + f → row2 i ≡ each (i - base) h .card
   early-row i l h u = at-early z row bs i l u ∙ card-at (i - base) h
 
-  late-row : (i : ℕ) → cards z + f ≤ i → (h : i - cards z < n) → row2 i ≡ each (i - cards z) h .card
-  late-row i l h = at-late z row bs i l (omega arith) ∙ card-at (i - cards z) h
+  late-row : (i : ℕ) → place + f ≤ i → (h : i - place < n) → row2 i ≡ each (i - place) h .card
+  late-row i l h = at-late z row bs i place-up l (omega arith) ∙ card-at (i - place) h
 
   early-low : (i : ℕ) → i < base + f → orderOf (row2 i) ≤ 6
   early-low i u = go (decLt i base)
@@ -180,32 +218,51 @@ module _ (t bs : List ℕ) (room : ℕ) (ok : imports t bs room ≡ Done) where
           let b : recordKind (recordAt bs (i - base)) < 3 = early-below bs n 0 (i - base) (omega arith) (omega arith) in
           omega (arith, ap orderOf (early-row i (omega arith) k u), load-at (i - base) k .order)
 
-  edge-order : (i : ℕ) → base + f ≤ i → i < cards z + f → orderOf (row2 i) ≡ 7
+  edge-low : (i : ℕ) → i < place + f → orderOf (row2 i) ≤ 7
   unfolding about
-  edge-order i l u = ap orderOf (at-edge z row bs i l u) ∙ ap (λ (k : Kind). about k .order) (edge-at (i - f) (omega arith) (omega arith))
-
-  edge-low : (i : ℕ) → i < cards z + f → orderOf (row2 i) ≤ 7
   edge-low i u = go (decLt i (base + f))
     where
       go : Dec (i < base + f) → orderOf (row2 i) ≤ 7
       go (yes l) = omega (arith, early-low i l)
-      go (no l) = let l′ : i < base + f → ⊥ = l in omega (arith, edge-order i (omega arith) u)
+      go (no l) =
+          let l′ : i < base + f → ⊥ = l in
+          omega (arith, ap orderOf (at-edge z row bs i (omega arith) u), ap (λ (k : Kind). about k .order) (edge-at (i - f) (omega arith) (omega arith)))
+
+  late-low : (i : ℕ) → i < place + n → orderOf (row2 i) ≤ 8
+  late-low i u = go (decLt i (place + f))
+    where
+      go : Dec (i < place + f) → orderOf (row2 i) ≤ 8
+      go (yes l) = omega (arith, edge-low i l)
+      go (no l) =
+          let l′ : i < place + f → ⊥ = l in
+          let k : i - place < n = omega arith in
+          omega (arith, ap orderOf (late-row i (omega arith) k), load-at (i - place) k .order, load-at (i - place) k .some)
+
+  change-low : (i : ℕ) → i < cards z + n → orderOf (row2 i) ≤ 9
+  unfolding about
+  change-low i u = go (decLt i (place + n))
+    where
+      go : Dec (i < place + n) → orderOf (row2 i) ≤ 9
+      go (yes l) = omega (arith, late-low i l)
+      go (no l) =
+          let l′ : i < place + n → ⊥ = l in
+          omega (arith, ap orderOf (at-change z row bs i place-up (omega arith) u), ap (λ (k : Kind). about k .order) (change-at (i - n) (omega arith) (omega arith)))
 
   -- ---- a record's card passes
 
-  asked-at : (k : ℕ) (h : k < n) → asks z2 row2 (each k h .card) (kindAt (each k h .card)) ≡ true
+  asked-at : (i k : ℕ) (h : k < n) → asks z2 row2 i (each k h .card) (kindAt (each k h .card)) ≡ true
   unfolding asks columns
-  asked-at k h = go (made-at k h .sort)
+  asked-at i k h = go (made-at k h .sort)
     where
-      go : Sort (recordKind (recordAt bs k)) (each k h .card) → asks z2 row2 (each k h .card) (kindAt (each k h .card)) ≡ true
-      go (heat e q) = ap (asks z2 row2 (each k h .card)) q
+      go : Sort (recordKind (recordAt bs k)) (each k h .card) → asks z2 row2 i (each k h .card) (kindAt (each k h .card)) ≡ true
+      go (heat e q) = ap (asks z2 row2 i (each k h .card)) q
       go (film e q) =
           let w = column-in z (each k h .card) F 0 q (each k h .range) (omega arith) in
           let at = before z 3 + getD (each k h .card) 1 0 - 1 in
           let low : at < base = omega (arith, begins t .atE, begins t .atLoads, elements-are t, w .0, w .1) in
-          ap (asks z2 row2 (each k h .card)) q ∙ grown-asks z n row2 (each k h .card) F
-          ∙ ap (isA E) (at-body z row bs at low) ∙ sym (ap (asks z row (each k h .card)) q) ∙ each k h .asked
-      go (hold e q) = ap (asks z2 row2 (each k h .card)) q
+          ap (asks z2 row2 i (each k h .card)) q ∙ grown-asks z n row2 i (each k h .card) F
+          ∙ ap (isA E) (at-body z row bs at low) ∙ sym (ap (asks z row 0 (each k h .card)) q) ∙ each k h .asked
+      go (hold e q) = ap (asks z2 row2 i (each k h .card)) q
 
   record-passes : (i k : ℕ) (h : k < n) → row2 (suc i) ≡ each k h .card → base ≤ suc i → suc i < cards z + n
       → orderOf (row2 i) ≤ orderOf (each k h .card) → (orderOf (row2 i) ≡ orderOf (each k h .card) → rank (row2 i) < recordNumber (recordAt bs k)) → passes z2 row2 (suc i) ≡ Done
@@ -221,7 +278,7 @@ module _ (t bs : List ℕ) (room : ℕ) (ok : imports t bs room ≡ Done) where
     rise = ap (λ (c : List ℕ). rises (orderOf (row2 i)) (rank (row2 i)) (aboutOf c) c) e
         ∙ rises-up (orderOf (row2 i)) (rank (row2 i)) (aboutOf (each k h .card)) (each k h .card)
         (λ q. omega (arith, up q, rank-one (aboutOf (each k h .card)) (each k h .card) (load-at k h .keys), made-at k h .key));
-    asked = ap (λ (c : List ℕ). asks z2 row2 c (kindAt c)) e ∙ asked-at k h;
+    asked = ap (λ (c : List ℕ). asks z2 row2 (suc i) c (kindAt c)) e ∙ asked-at (suc i) k h;
   })
 
   -- after the record before it
@@ -263,78 +320,124 @@ module _ (t bs : List ℕ) (room : ℕ) (ok : imports t bs room ≡ Done) where
           let q : i - base ≡ k = omega arith in
           next-passes i k h g (at-early z row bs i (omega arith) (omega arith) ∙ ap (recordRow bs) q ∙ card-at k g) (at-early z row bs (suc i) l u ∙ ap (recordRow bs) e ∙ card-at (suc k) h) l (omega (arith, all-is, few-early))
 
-  late-passes : (i : ℕ) → cards z + f ≤ suc i → suc i < cards z + n → passes z2 row2 (suc i) ≡ Done
-  late-passes i l u = go (decLt i (cards z + f))
+  late-passes : (i : ℕ) → place + f ≤ suc i → suc i < place + n → passes z2 row2 (suc i) ≡ Done
+  late-passes i l u = go (decLt i (place + f))
     where
-      go : Dec (i < cards z + f) → passes z2 row2 (suc i) ≡ Done
+      go : Dec (i < place + f) → passes z2 row2 (suc i) ≡ Done
       go (yes m) =
-          let e : suc i - cards z ≡ f = omega arith in
+          let e : suc i - place ≡ f = omega arith in
           let h : f < n = omega arith in
           let o : 0 + f ≡ f = omega arith in
           let s : 3 ≤ recordKind (recordAt bs f) = subst (λ (j : ℕ). 3 ≤ recordKind (recordAt bs j)) o (early-stop bs n 0 h) in
           let a = load-at f h .order in
           let low = edge-low i m in
-          record-passes i f h (at-late z row bs (suc i) l u ∙ ap (recordRow bs) e ∙ card-at f h) (omega (arith, all-is)) u (omega (arith, a)) (λ q. absurd (omega (arith, a)))
+          record-passes i f h (at-late z row bs (suc i) place-up l u ∙ ap (recordRow bs) e ∙ card-at f h) (omega (arith, place-up)) (omega (arith, place-cards)) (omega (arith, a)) (λ q. absurd (omega (arith, a)))
       go (no m) =
-          let m′ : i < cards z + f → ⊥ = m in
-          let j = i - cards z in
+          let m′ : i < place + f → ⊥ = m in
+          let j = i - place in
           let h : suc j < n = omega arith in
           let g : j < n = omega arith in
-          let e : suc i - cards z ≡ suc j = omega arith in
-          next-passes i j h g (at-late z row bs i (omega arith) (omega arith) ∙ card-at j g) (at-late z row bs (suc i) l u ∙ ap (recordRow bs) e ∙ card-at (suc j) h) (omega (arith, all-is)) u
+          let e : suc i - place ≡ suc j = omega arith in
+          next-passes i j h g (at-late z row bs i place-up (omega arith) (omega arith) ∙ card-at j g) (at-late z row bs (suc i) place-up l u ∙ ap (recordRow bs) e ∙ card-at (suc j) h) (omega (arith, place-up)) (omega (arith, place-cards))
 
-  -- ---- an edge passes as it passed
+  -- ---- an edge and a change pass as they passed
 
-  -- 160 rows before an edge no edge stands
-  not-edge : (i : ℕ) → i < base + f → getD (row2 i) 0 0 ≡ 71 → ⊥
-  unfolding about
-  not-edge i u e = go (decLt i base)
-    where
-      kind : kindAt (row2 i) ≡ G
-      kind = kind-of (getD (row2 i) 0 0) G e
+  not-kind : (i : ℕ) (q : Kind) → orderOf (row2 i) < about q .order → getD (row2 i) 0 0 ≡ about q .letter → ⊥
+  not-kind i q l e = omega (arith, ap (λ (k : Kind). about k .order) (kind-of (getD (row2 i) 0 0) q e))
 
-      go : Dec (i < base) → ⊥
-      go (yes l) = omega (arith, body-low i l, ap (λ (k : Kind). about k .order) kind)
-      go (no l) =
-          let l′ : i < base → ⊥ = l in
-          let k : i - base < n = omega (arith, few-early) in
-          let g : kindAt (each (i - base) k .card) ≡ G = sym (ap kindAt (early-row i (omega arith) k u)) ∙ kind in
-          omega (arith, load-at (i - base) k .keys, ap (λ (q : Kind). about q .keys) g)
+  -- the first of its group, or after the card that it came after
+  abbrev Next : ℕ → ℕ → Kind → Type 0
+  Next i s q = (orderOf (row2 i) < about q .order) ⊎ ((s ≤ i) × (row2 i ≡ row (i - s)))
 
-  edge-passes : (i : ℕ) → base + f ≤ suc i → suc i < cards z + f → passes z2 row2 (suc i) ≡ Done
-  unfolding about asks
-  edge-passes i l u = passing z2 row2 (suc i) (orderOf (row2 i)) (rank (row2 i)) (record {
-    place = ap (λ (c : List ℕ). stands z2 (suc i) (orderOf (row2 i)) (aboutOf c)) e ∙ ap (λ (q : Kind). stands z2 (suc i) (orderOf (row2 i)) (about q)) g
-        ∙ stands-load z2 (suc i) (orderOf (row2 i)) (about G) refl (omega (arith, grown-four z n)) (omega (arith, grown-five z n, few-early)) (edge-low i (omega arith));
-    spare = ap (λ (c : List ℕ). full row2 (suc i) (aboutOf c)) e ∙ ap (λ (q : Kind). full row2 (suc i) (about q)) g
-        ∙ full-not row2 (suc i) (about G) (λ m. not-edge (suc i - 160) (omega (arith, all-is, few-edges)));
+  -- the deck's own card of a kind among the loads, s rows further on
+  own-passes : (i s : ℕ) (q : Kind) → row2 (suc i) ≡ row (suc i - s) → kindAt (row (suc i - s)) ≡ q → about q .section ≡ 4 → base ≤ suc i → suc i < cards z + n → suc i - s < cards z
+      → orderOf (row2 i) ≤ about q .order → (about q .most ≤ suc i → orderOf (row2 (suc i - about q .most)) < about q .order) → Next i s q
+      → asks z2 row2 (suc i) (row (suc i - s)) q ≡ true → passes z2 row2 (suc i) ≡ Done
+  own-passes i s q e g four l u v low few-before next asked = passing z2 row2 (suc i) (orderOf (row2 i)) (rank (row2 i)) (record {
+    place = ap (λ (c : List ℕ). stands z2 (suc i) (orderOf (row2 i)) (aboutOf c)) e ∙ ap (λ (k : Kind). stands z2 (suc i) (orderOf (row2 i)) (about k)) g
+        ∙ stands-load z2 (suc i) (orderOf (row2 i)) (about q) four (omega (arith, grown-four z n)) (omega (arith, grown-five z n)) low;
+    spare = ap (λ (c : List ℕ). full row2 (suc i) (aboutOf c)) e ∙ ap (λ (k : Kind). full row2 (suc i) (about k)) g
+        ∙ full-not row2 (suc i) (about q) (λ m. not-kind (suc i - about q .most) q (few-before m));
     clear = ap clean e ∙ was .clear;
     range = ap (λ (c : List ℕ). inRange (columnsOf z2 c) c 5 0) e
-        ∙ ap (λ cs. inRange cs (row (suc i - f)) 5 0) (grown-columns z n (kindAt (row (suc i - f))) (λ s. omega (arith, ap (λ (q : Kind). about q .section) g))) ∙ was .range;
+        ∙ ap (λ cs. inRange cs (row (suc i - s)) 5 0) (grown-columns z n (kindAt (row (suc i - s))) (λ five. omega (arith, four, ap (λ (k : Kind). about k .section) g))) ∙ was .range;
     order = ap (λ (c : List ℕ). ordered (aboutOf c) c) e ∙ was .order;
-    rise = ap (λ (c : List ℕ). rises (orderOf (row2 i)) (rank (row2 i)) (aboutOf c) c) e ∙ up (decLt i (base + f));
-    asked = ap (λ (c : List ℕ). asks z2 row2 c (kindAt c)) e ∙ ap (asks z2 row2 (row (suc i - f))) g;
+    rise = ap (λ (c : List ℕ). rises (orderOf (row2 i)) (rank (row2 i)) (aboutOf c) c) e ∙ up next;
+    asked = ap (λ (c : List ℕ). asks z2 row2 (suc i) c (kindAt c)) e ∙ ap (asks z2 row2 (suc i) (row (suc i - s))) g ∙ asked;
   })
     where
-      e : row2 (suc i) ≡ row (suc i - f)
-      e = at-edge z row bs (suc i) l u
+      was : Passed z row (suc i - s) (orderBefore row (suc i - s)) (rankBefore row (suc i - s))
+      was = old (suc i - s) v
 
-      g : kindAt (row (suc i - f)) ≡ G
-      g = edge-at (suc i - f) (omega arith) (omega arith)
+      up : Next i s q → rises (orderOf (row2 i)) (rank (row2 i)) (aboutOf (row (suc i - s))) (row (suc i - s)) ≡ true
+      up (inl m) =
+          rises-up (orderOf (row2 i)) (rank (row2 i)) (aboutOf (row (suc i - s))) (row (suc i - s))
+          (λ x. absurd (omega (arith, m, ap (λ (k : Kind). about k .order) g)))
+      up (inr (m, d)) =
+          let x : suc i - s ≡ suc (i - s) = omega arith in
+          (λ j. rises (orderOf (d j)) (rank (d j)) (aboutOf (row (suc i - s))) (row (suc i - s)))
+          ∙ (λ j. rises (orderBefore row (sym x j)) (rankBefore row (sym x j)) (aboutOf (row (suc i - s))) (row (suc i - s))) ∙ was .rise
 
-      was : Passed z row (suc i - f) (orderBefore row (suc i - f)) (rankBefore row (suc i - f))
-      was = old (suc i - f) (omega arith)
+  edge-passes : (i : ℕ) → base + f ≤ suc i → suc i < place + f → passes z2 row2 (suc i) ≡ Done
+  unfolding about asks
+  edge-passes i l u =
+      own-passes i f G (at-edge z row bs (suc i) l u) (edge-at (suc i - f) (omega arith) (omega arith)) refl (omega arith) (omega (arith, place-cards, few-early)) (omega (arith, place-cards))
+      (edge-low i (omega arith)) (λ m. omega (arith, early-low (suc i - 160) (omega (arith, few-edges, base-some)))) (after (decLt i (base + f))) refl
+    where
+      after : Dec (i < base + f) → Next i f G
+      after (yes m) = inl (omega (arith, early-low i m))
+      after (no m) = let m′ : i < base + f → ⊥ = m in inr (omega arith, at-edge z row bs i (omega arith) (omega arith))
 
-      up : Dec (i < base + f) → rises (orderOf (row2 i)) (rank (row2 i)) (aboutOf (row (suc i - f))) (row (suc i - f)) ≡ true
-      up (yes m) =
-          rises-up (orderOf (row2 i)) (rank (row2 i)) (aboutOf (row (suc i - f))) (row (suc i - f))
-          (λ q. absurd (omega (arith, early-low i m, ap (λ (k : Kind). about k .order) g)))
-      up (no m) =
-          let m′ : i < base + f → ⊥ = m in
-          let s : suc i - f ≡ suc (i - f) = omega arith in
-          let d : row2 i ≡ row (i - f) = at-edge z row bs i (omega arith) (omega arith) in
-          (λ j. rises (orderOf (d j)) (rank (d j)) (aboutOf (row (suc i - f))) (row (suc i - f)))
-          ∙ (λ j. rises (orderBefore row (sym s j)) (rankBefore row (sym s j)) (aboutOf (row (suc i - f))) (row (suc i - f))) ∙ was .rise
+  -- the card that a change names is an element: the deck has no heat, no film and no fixed node
+  named-body : (j code : ℕ) → j < cards z → getD (row j) 0 0 ≡ code → 1 ≤ about (kindOf code) .gives → j < base
+  unfolding about
+  named-body j code h e g = go (decLt j base) (decLt j place)
+    where
+      is : about (kindAt (row j)) .gives ≡ about (kindOf code) .gives
+      is = ap (λ (l : ℕ). about (kindOf l) .gives) e
+
+      go : Dec (j < base) → Dec (j < place) → j < base
+      go (yes l) m = l
+      go (no l) (yes m) = let l′ : j < base → ⊥ = l in absurd (omega (arith, is, ap (λ (k : Kind). about k .gives) (edge-at j (omega arith) m)))
+      go (no l) (no m) = let m′ : j < place → ⊥ = m in absurd (omega (arith, is, ap (λ (k : Kind). about k .gives) (change-at j (omega arith) h)))
+
+  -- and stands where it stood
+  named-still : (i j code name : ℕ) → j ≤ i → j ≤ cards z → 1 ≤ about (kindOf code) .gives → 1 ≤ cardNamed z row j code name → 1 ≤ cardNamed z row2 i code name
+  unfolding cardNamed nameAt
+  named-still i j code name l h g some =
+      let at = cardNamed z row j code name - 1 in
+      let holds = first-holds j 0 (names row) some in
+      let most = first-most j 0 (names row) in
+      let low : at < base = named-body at code (omega arith) (eqb-true (getD (row at) 0 0) code (and-told (eqb (getD (row at) 0 0) code) (eqb (nameAt z row at) name) holds .0)) g in
+      let b = at-body z row bs at low in
+      first-upto i 0 at (names row2) (omega arith) (omega arith)
+      ((λ k. eqb (getD (b k) 0 0) code && eqb (cond (eqb (aboutOf (b k) .section) bodies) (suc at - before z bodies) (getD (b k) 1 0)) name) ∙ holds) .0
+    where
+      names : (ℕ → List ℕ) → ℕ → Bool
+      names r k = eqb (getD (r k) 0 0) code && eqb (nameAt z r k) name
+
+  asked-change : (i j : ℕ) (card : List ℕ) → j ≤ i → j ≤ cards z → asks z row j card C ≡ true → asks z2 row2 i card C ≡ true
+  unfolding asks
+  asked-change i j card l h e =
+      let code = getD card 2 0 in
+      let name = getD card 3 0 in
+      let (g, c) = and-told (leb 1 (about (kindOf code) .gives)) (leb 1 (cardNamed z row j code name)) e in
+      let some = named-still i j code name l h (leb-true 1 (about (kindOf code) .gives) g) (leb-true 1 (cardNamed z row j code name) c) in
+      grown-asks z n row2 i card C ∙ (λ k. g k && le-leb 1 (cardNamed z row2 i code name) some k)
+
+  change-passes : (i : ℕ) → place + n ≤ suc i → suc i < cards z + n → passes z2 row2 (suc i) ≡ Done
+  unfolding about
+  change-passes i l u =
+      own-passes i n C (at-change z row bs (suc i) place-up l u) kind refl (omega (arith, place-up)) u (omega arith)
+      (change-low i (omega arith)) (λ m. omega (arith, late-low (suc i - 64) (omega (arith, few-changes, place-up, base-some)))) (after (decLt i (place + n)))
+      (asked-change (suc i) (suc i - n) (row (suc i - n)) (omega arith) (omega arith) (sym (ap (asks z row (suc i - n) (row (suc i - n))) kind) ∙ old (suc i - n) (omega arith) .asked))
+    where
+      kind : kindAt (row (suc i - n)) ≡ C
+      kind = change-at (suc i - n) (omega arith) (omega arith)
+
+      after : Dec (i < place + n) → Next i n C
+      after (yes m) = inl (omega (arith, late-low i m))
+      after (no m) = let m′ : i < place + n → ⊥ = m in inr (omega arith, at-change z row bs i place-up (omega arith) (omega arith))
 
   -- ---- and a card before the loads
 
@@ -348,7 +451,7 @@ module _ (t bs : List ℕ) (room : ℕ) (ok : imports t bs room ≡ Done) where
         range = ap (λ cs. inRange cs (row i) 5 0) (grown-columns z n (kindAt (row i)) not-last) ∙ was .range;
         order = was .order;
         rise = was .rise;
-        asked = grown-asks z n row (row i) (kindAt (row i)) ∙ was .asked;
+        asked = grown-asks z n row i (row i) (kindAt (row i)) ∙ was .asked;
       })
     where
       was : Passed z row i (orderBefore row i) (rankBefore row i)
@@ -362,17 +465,18 @@ module _ (t bs : List ℕ) (room : ℕ) (ok : imports t bs room ≡ Done) where
           omega (arith, all-is)
 
   second-passes : (i : ℕ) → i < cards z + n → passes z2 row2 i ≡ Done
-  second-passes i h = go (decLt i base) (decLt i (base + f)) (decLt i (cards z + f))
+  second-passes i h = go (decLt i base) (decLt i (base + f)) (decLt i (place + f)) (decLt i (place + n))
     where
-      later : (q : ℕ) → i ≡ q → base ≤ q → Dec (q < base + f) → Dec (q < cards z + f) → passes z2 row2 q ≡ Done
-      later zero e l b c = absurd (omega (arith, base-some))
-      later (suc q) e l (yes b) c = early-passes q l b
-      later (suc q) e l (no b) (yes c) = let b′ : suc q < base + f → ⊥ = b in edge-passes q (omega arith) c
-      later (suc q) e l (no b) (no c) = let c′ : suc q < cards z + f → ⊥ = c in late-passes q (omega arith) (omega arith)
+      later : (q : ℕ) → q < cards z + n → base ≤ q → Dec (q < base + f) → Dec (q < place + f) → Dec (q < place + n) → passes z2 row2 q ≡ Done
+      later zero u l b c d = absurd (omega (arith, base-some))
+      later (suc q) u l (yes b) c d = early-passes q l b
+      later (suc q) u l (no b) (yes c) d = let b′ : suc q < base + f → ⊥ = b in edge-passes q (omega arith) c
+      later (suc q) u l (no b) (no c) (yes d) = let c′ : suc q < place + f → ⊥ = c in late-passes q (omega arith) d
+      later (suc q) u l (no b) (no c) (no d) = let d′ : suc q < place + n → ⊥ = d in change-passes q (omega arith) u
 
-      go : Dec (i < base) → Dec (i < base + f) → Dec (i < cards z + f) → passes z2 row2 i ≡ Done
-      go (yes a) b c = body-passes i a
-      go (no a) b c = let a′ : i < base → ⊥ = a in later i refl (omega arith) b c
+      go : Dec (i < base) → Dec (i < base + f) → Dec (i < place + f) → Dec (i < place + n) → passes z2 row2 i ≡ Done
+      go (yes a) b c d = body-passes i a
+      go (no a) b c d = let a′ : i < base → ⊥ = a in later i h (omega arith) b c d
 
   -- ---- the table
 
@@ -389,16 +493,19 @@ module _ (t bs : List ℕ) (room : ℕ) (ok : imports t bs room ≡ Done) where
 
   wide : (i : ℕ) → length (row2 i) ≡ 6
   unfolding lastRow
-  wide i = go (decLt i base) (decLt i (base + f)) (decLt i (cards z + f)) (decLt i (cards z + n))
+  wide i = go (decLt i base) (decLt i (base + f)) (decLt i (place + f)) (decLt i (place + n)) (decLt i (cards z + n))
     where
-      go : Dec (i < base) → Dec (i < base + f) → Dec (i < cards z + f) → Dec (i < cards z + n) → length (row2 i) ≡ 6
-      go (yes a) b c d = ap length (at-body z row bs i a) ∙ row-length t i (omega (arith, dk .whole, rows-is, all-is))
-      go (no a) (yes b) c d = let a′ : i < base → ⊥ = a in ap length (at-early z row bs i (omega arith) b) ∙ recordRow-six (i - base)
-      go (no a) (no b) (yes c) d =
+      go : Dec (i < base) → Dec (i < base + f) → Dec (i < place + f) → Dec (i < place + n) → Dec (i < cards z + n) → length (row2 i) ≡ 6
+      go (yes a) b c d x = ap length (at-body z row bs i a) ∙ row-length t i (omega (arith, dk .whole, rows-is, all-is))
+      go (no a) (yes b) c d x = let a′ : i < base → ⊥ = a in ap length (at-early z row bs i (omega arith) b) ∙ recordRow-six (i - base)
+      go (no a) (no b) (yes c) d x =
           let b′ : i < base + f → ⊥ = b in
-          ap length (at-edge z row bs i (omega arith) c) ∙ row-length t (i - f) (omega (arith, dk .whole, rows-is))
-      go (no a) (no b) (no c) (yes d) = let c′ : i < cards z + f → ⊥ = c in ap length (at-late z row bs i (omega arith) d) ∙ recordRow-six (i - cards z)
-      go (no a) (no b) (no c) (no d) = let d′ : i < cards z + n → ⊥ = d in ap length (at-last z row bs i (omega arith))
+          ap length (at-edge z row bs i (omega arith) c) ∙ row-length t (i - f) (omega (arith, dk .whole, rows-is, place-cards))
+      go (no a) (no b) (no c) (yes d) x = let c′ : i < place + f → ⊥ = c in ap length (at-late z row bs i place-up (omega arith) d) ∙ recordRow-six (i - place)
+      go (no a) (no b) (no c) (no d) (yes x) =
+          let d′ : i < place + n → ⊥ = d in
+          ap length (at-change z row bs i place-up (omega arith) x) ∙ row-length t (i - n) (omega (arith, dk .whole, rows-is))
+      go (no a) (no b) (no c) (no d) (no x) = let x′ : i < cards z + n → ⊥ = x in ap length (at-last z row bs i place-up (omega arith))
 
   pub second-long : length second ≡ (rows t + n) * 6
   unfolding secondTable
@@ -415,7 +522,7 @@ module _ (t bs : List ℕ) (room : ℕ) (ok : imports t bs room ≡ Done) where
   z-row =
       let k = cards z + n in
       let e : rows second - 1 ≡ k = omega (arith, rows-second, rows-is) in
-      ap (rowAt second) e ∙ row-second k (omega (arith, rows-is)) ∙ at-last z row bs k (omega arith)
+      ap (rowAt second) e ∙ row-second k (omega (arith, rows-is)) ∙ at-last z row bs k place-up (omega arith)
 
   -- the letter of the last element is the old one's
   letter-second : (k : ℕ) → k < base → letter second k ≡ letter t k
@@ -440,7 +547,7 @@ module _ (t bs : List ℕ) (room : ℕ) (ok : imports t bs room ≡ Done) where
       let e = elements-are t in
       ap trailer z-row
       ∙ trailer-of (42 * (cards z + n)) (z .nodes) (z .materials) (z .elements) (z .loads + n) (omega (arith, all-is, begins t .atLoads))
-      (omega (arith, dk .someN)) (omega (arith, dk .someN)) (omega (arith, dk .someM)) (omega (arith, dk .someM)) (omega (arith, dk .someE)) (omega (arith, dk .someE)) (omega (arith, few, few-edges))
+      (omega (arith, dk .someN)) (omega (arith, dk .someN)) (omega (arith, dk .someM)) (omega (arith, dk .someM)) (omega (arith, dk .someE)) (omega (arith, dk .someE)) (omega (arith, few, few-edges, few-changes, all-is))
 
   z-back : getD (rowAt second (rows second - 1)) 1 0 ≡ 42 * (rows second - 1)
   unfolding lastRow
@@ -453,7 +560,7 @@ module _ (t bs : List ℕ) (room : ℕ) (ok : imports t bs room ≡ Done) where
   second-judged = top-done second (record {
     sixes = omega (arith, second-long);
     least = omega (arith, second-long, rows-is, all-is, base-some);
-    most = omega (arith, second-long, dk .all, few, few-edges, loads-are t, dk .someN .1, dk .someM .1, dk .someE .1);
+    most = omega (arith, second-long, dk .all, few, few-edges, few-changes, all-is, loads-are t, dk .someN .1, dk .someM .1, dk .someE .1);
     zed = z-fine;
     back = z-back;
     each = λ k h. ap (λ (c : Counts). passes c (rowAt second) k) counts-second
@@ -468,22 +575,28 @@ module _ (t bs : List ℕ) (room : ℕ) (ok : imports t bs room ≡ Done) where
   body-rows k h = row-second k (omega (arith, rows-is, all-is)) ∙ at-body z row bs k h
 
   -- so are the edges, each so many rows further on as records stand before them,
-  pub edge-rows : (k : ℕ) → before (countsAt t) 4 ≤ k → k < cards (countsAt t) → rowAt (secondTable t bs) (k + early bs) ≡ rowAt t k
+  pub edge-rows : (k : ℕ) → before (countsAt t) 4 ≤ k → k < fixedPlace (countsAt t) (rowAt t) → rowAt (secondTable t bs) (k + early bs) ≡ rowAt t k
   edge-rows k l h =
       let e : k + f - f ≡ k = omega arith in
-      row-second (k + f) (omega (arith, rows-is, few-early)) ∙ at-edge z row bs (k + f) (omega arith) (omega arith) ∙ ap row e
+      row-second (k + f) (omega (arith, rows-is, few-early, place-cards)) ∙ at-edge z row bs (k + f) (omega arith) (omega arith) ∙ ap row e
+
+  -- and the changes, behind all the records' cards,
+  pub change-rows : (k : ℕ) → fixedPlace (countsAt t) (rowAt t) ≤ k → k < cards (countsAt t) → rowAt (secondTable t bs) (k + recordCount bs) ≡ rowAt t k
+  change-rows k l h =
+      let e : k + n - n ≡ k = omega arith in
+      row-second (k + n) (omega (arith, rows-is)) ∙ at-change z row bs (k + n) place-up (omega arith) (omega arith) ∙ ap row e
 
   -- and each of the others is its record's.
   pub record-rows : (k : ℕ) → k < recordCount bs → recordCard (suc k) (recordAt bs k) ≡ done (rowAt (secondTable t bs) (recordPlace t bs k))
-  record-rows k h = each k h .got ∙ ap done (sym (place (decLt k f)))
+  record-rows k h = each k h .got ∙ ap done (sym (found (decLt k f)))
     where
-      place : Dec (k < f) → rowAt second (recordPlace t bs k) ≡ each k h .card
-      place (yes l) =
+      found : Dec (k < f) → rowAt second (recordPlace t bs k) ≡ each k h .card
+      found (yes l) =
           let e : base + k - base ≡ k = omega arith in
-          ap (rowAt second) (cond-true (ltb k f) (base + k) (cards z + k) (lt-ltb k f l))
+          ap (rowAt second) (cond-true (ltb k f) (base + k) (place + k) (lt-ltb k f l))
           ∙ row-second (base + k) (omega (arith, rows-is, all-is)) ∙ at-early z row bs (base + k) (omega arith) (omega arith) ∙ ap (recordRow bs) e ∙ card-at k h
-      place (no l) =
+      found (no l) =
           let l′ : k < f → ⊥ = l in
-          let e : cards z + k - cards z ≡ k = omega arith in
-          ap (rowAt second) (cond-false (ltb k f) (base + k) (cards z + k) (le-ltb k f (omega arith)))
-          ∙ row-second (cards z + k) (omega (arith, rows-is)) ∙ at-late z row bs (cards z + k) (omega arith) (omega arith) ∙ ap (recordRow bs) e ∙ card-at k h
+          let e : place + k - place ≡ k = omega arith in
+          ap (rowAt second) (cond-false (ltb k f) (base + k) (place + k) (le-ltb k f (omega arith)))
+          ∙ row-second (place + k) (omega (arith, rows-is, place-cards)) ∙ at-late z row bs (place + k) place-up (omega arith) (omega arith) ∙ ap (recordRow bs) e ∙ card-at k h

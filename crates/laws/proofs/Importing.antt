@@ -7,11 +7,11 @@ use lib.Seq.{take-at, drop-at}
 use Rattle.paper.specs.Refusals.{done}
 use Rattle.paper.specs.Cards.{before, cards, countsAt, rowAt}
 use Rattle.paper.specs.Judge.{judged}
-use Rattle.paper.specs.Records.{recordCard, recordAt, recordCount, early, secondRows, secondTable, imports, importCall}
+use Rattle.paper.specs.Records.{recordCard, recordAt, recordCount, early, fixedPlace, secondRows, secondTable, imports, importCall}
 use Rattle.paper.specs.declared.Answer.{Answer}
 use Rattle.paper.specs.declared.Answer.the-variants.{Done, Refused}
 use Rattle.paper.specs.declared.Refusal.{Refusal}
-use Rattle.laws.proofs.Imported.{recordPlace, second-long, second-judged, body-rows, edge-rows, record-rows}
+use Rattle.laws.proofs.Imported.{recordPlace, second-long, second-judged, body-rows, edge-rows, change-rows, record-rows}
 
 module _ (t bs s : List ℕ) where
   pub import-refused : (r : Refusal) → importCall t bs s .answer ≡ Refused r → importCall t bs s .second ≡ s
@@ -45,8 +45,11 @@ module _ (t bs s : List ℕ) where
     pub import-bodies : (k : ℕ) → k < before (countsAt t) 4 → rowAt new k ≡ rowAt t k
     import-bodies k h = ap (λ (u : List ℕ). rowAt u k) (import-new ok) ∙ body-rows t bs (length s) ok k h
 
-    pub import-edges : (k : ℕ) → before (countsAt t) 4 ≤ k → k < cards (countsAt t) → rowAt new (k + early bs) ≡ rowAt t k
+    pub import-edges : (k : ℕ) → before (countsAt t) 4 ≤ k → k < fixedPlace (countsAt t) (rowAt t) → rowAt new (k + early bs) ≡ rowAt t k
     import-edges k l h = ap (λ (u : List ℕ). rowAt u (k + early bs)) (import-new ok) ∙ edge-rows t bs (length s) ok k l h
+
+    pub import-changes : (k : ℕ) → fixedPlace (countsAt t) (rowAt t) ≤ k → k < cards (countsAt t) → rowAt new (k + recordCount bs) ≡ rowAt t k
+    import-changes k l h = ap (λ (u : List ℕ). rowAt u (k + recordCount bs)) (import-new ok) ∙ change-rows t bs (length s) ok k l h
 
     pub import-records : (k : ℕ) → k < recordCount bs → recordCard (suc k) (recordAt bs k) ≡ done (rowAt new (recordPlace t bs k))
     import-records k h = record-rows t bs (length s) ok k h ∙ ap (λ (u : List ℕ). done (rowAt u (recordPlace t bs k))) (sym (import-new ok))

@@ -99,7 +99,7 @@ pub record Passed (z : Counts) (row : ℕ → List ℕ) (i p key : ℕ) : Type 0
   pub range : inRange (columnsOf z (row i)) (row i) 5 0 ≡ true
   pub order : ordered (aboutOf (row i)) (row i) ≡ true
   pub rise : rises p key (aboutOf (row i)) (row i) ≡ true
-  pub asked : asks z row (row i) (kindAt (row i)) ≡ true
+  pub asked : asks z row i (row i) (kindAt (row i)) ≡ true
 
 pub passed : (z : Counts) (row : ℕ → List ℕ) (i p key : ℕ) → judgeCard z row i p key ≡ Done → Passed z row i p key
 unfolding judgeCard
@@ -137,6 +137,42 @@ rises-told p key a card e h o =
 ordered-told : (a : About) (card : List ℕ) → ordered a card ≡ true → edge a ≡ true → getD card 1 0 < getD card 2 0
 unfolding ordered
 ordered-told a card e h = ltb-true (getD card 1 0) (getD card 2 0) (rw h at e)
+
+-- ---- rows that have passed: no group comes before an earlier one, and keys rise within a group
+
+pub record Up (row : ℕ → List ℕ) (r s : ℕ) : Type 0 where
+  pub order : orderOf (row r) ≤ orderOf (row s)
+  pub key : 1 ≤ aboutOf (row r) .keys → orderOf (row r) ≡ orderOf (row s) → rank (row r) < rank (row s)
+
+module _ (z : Counts) (row : ℕ → List ℕ) (n : ℕ) (past : (k : ℕ) → k < n → passes z row k ≡ Done) where
+  next-up : (r : ℕ) → suc r < n → Up row r (suc r)
+  next-up r h =
+      let q = passed z row (suc r) (orderOf (row r)) (rank (row r)) (past (suc r) h) in
+      record {
+        order = stands-told z (suc r) (orderOf (row r)) (aboutOf (row (suc r))) (q .place) .up;
+        key = λ k e.
+            rises-told (orderOf (row r)) (rank (row r)) (aboutOf (row (suc r))) (row (suc r)) (q .rise)
+            (subst (λ (x : Kind). 1 ≤ about x .keys) (same-order (kindAt (row r)) (kindAt (row (suc r))) e) k)
+            e;
+      }
+
+  up-by : (r m : ℕ) → r + suc m < n → Up row r (r + suc m)
+  up-by r zero h = let e : suc r ≡ r + 1 = omega arith in subst (Up row r) e (next-up r (omega arith))
+  up-by r (suc m) h =
+      let e : suc (r + suc m) ≡ r + suc (suc m) = omega arith in
+      let a = up-by r m (omega arith) in
+      let b = next-up (r + suc m) (omega arith) in
+      subst (Up row r) e
+      (record {
+        order = omega (arith, a .order, b .order);
+        key = λ k q.
+            let o : orderOf (row r) ≡ orderOf (row (r + suc m)) = omega (arith, a .order, b .order) in
+            let k′ = subst (λ (x : Kind). 1 ≤ about x .keys) (same-order (kindAt (row r)) (kindAt (row (r + suc m))) o) k in
+            omega (arith, a .key k o, b .key k′ (omega arith));
+      })
+
+  pub rise-past : (r s : ℕ) → r < s → s < n → Up row r s
+  rise-past r s h l = let q : r + suc (s - suc r) ≡ s = omega arith in subst (Up row r) q (up-by r (s - suc r) (rw q l))
 
 -- ---- the whole table
 
@@ -250,49 +286,15 @@ module _ (t : List ℕ) (ok : judged t ≡ Done) where
           (p .lo, p .hi)
 
   -- ---- keys rise
-  orderAt : ℕ → ℕ
-  orderAt row = about (kindIn t row) .order
-
-  -- from a row of a kind that rises to a later one
-  record Up (r s : ℕ) : Type 0 where
-    order : orderAt r ≤ orderAt s
-    key : 1 ≤ about (kindIn t r) .keys → orderAt r ≡ orderAt s → rank (rowAt t r) < rank (rowAt t s)
-
-  next-up : (row : ℕ) → suc (suc row) < rows t → Up row (suc row)
-  unfolding orderAt
-  next-up row h = record {
-    order = omega (arith, place-of (suc row) h .up, was);
-    key = λ k q.
-        rises-told (orderOf (rowAt t row)) (rank (rowAt t row)) (aboutOf (rowAt t (suc row))) (rowAt t (suc row)) (told (suc row) h .rise)
-        (subst (λ (x : Kind). 1 ≤ about x .keys) (same-order (kindIn t row) (kindIn t (suc row)) q ∙ sym (kind-row (suc row))) k)
-        (was ∙ q ∙ ap (λ (x : Kind). about x .order) (sym (kind-row (suc row))));
-  }
-    where
-      was : orderOf (rowAt t row) ≡ orderAt row
-      was = ap (λ (x : Kind). about x .order) (kind-row row)
-
-  up : (row n : ℕ) → suc (row + suc n) < rows t → Up row (row + suc n)
-  unfolding orderAt
-  up row zero h = let e : suc row ≡ row + 1 = omega arith in subst (Up row) e (next-up row (omega arith))
-  up row (suc n) h =
-      let e : suc (row + suc n) ≡ row + suc (suc n) = omega arith in
-      let a = up row n (omega arith) in
-      let b = next-up (row + suc n) (omega arith) in
-      subst (Up row) e
-      (record {
-        order = omega (arith, a .order, b .order);
-        key = λ k q.
-            let o : orderAt row ≡ orderAt (row + suc n) = omega (arith, a .order, b .order) in
-            let k′ = subst (λ (x : Kind). 1 ≤ about x .keys) (same-order (kindIn t row) (kindIn t (row + suc n)) o) k in
-            omega (arith, a .key k o, b .key k′ (omega arith));
-      })
+  up : (r s : ℕ) → r < s → suc s < rows t → Up (rowAt t) r s
+  up = λ r s h i. rise-past z (rowAt t) (rows t - 1) (λ k l. tp .each k (omega arith)) r s h (omega arith)
 
   rise : (r s : ℕ) → r < s → s < rows t → 1 ≤ about (kindIn t r) .keys → letter t r ≡ letter t s → rank (rowAt t r) < rank (rowAt t s)
-  unfolding orderAt about
+  unfolding about
   rise r s h k l e =
-      let q : r + suc (s - suc r) ≡ s = omega arith in
-      let i : suc s < rows t = inner (ℕ-discrete s (rows t - 1)) in
-      subst (Up r) q (up r (s - suc r) (rw q i)) .key l (ap (λ (x : ℕ). about (kindOf x) .order) e)
+      up r s h (inner (ℕ-discrete s (rows t - 1))) .key
+      (subst (λ (x : Kind). 1 ≤ about x .keys) (sym (kind-row r)) l)
+      (ap (λ (x : Kind). about x .order) (kind-row r ∙ ap kindOf e ∙ sym (kind-row s)))
     where
       last : (s ≡ rows t - 1) → about (kindIn t r) .keys ≡ 0
       last q = ap (λ (x : ℕ). about (kindOf x) .keys) e ∙ ap (λ (x : ℕ). about (kindIn t x) .keys) q ∙ ap (λ (x : Kind). about x .keys) is-Z
@@ -302,8 +304,9 @@ module _ (t : List ℕ) (ok : judged t ≡ Done) where
       inner (no q) = let q′ : s ≡ rows t - 1 → ⊥ = q in omega arith
 
   orders : (r s : ℕ) → r < s → suc s < rows t → about (kindIn t r) .order ≤ about (kindIn t s) .order
-  unfolding orderAt
-  orders r s h i = let q : r + suc (s - suc r) ≡ s = omega arith in subst (Up r) q (up r (s - suc r) (rw q i)) .order
+  orders r s h i =
+      let e : (x : ℕ) → orderOf (rowAt t x) ≡ about (kindIn t x) .order = λ x. ap (λ (k : Kind). about k .order) (kind-row x) in
+      omega (arith, up r s h i .order, e r, e s)
 
   lower : (row : ℕ) → row < rows t → edge (about (kindIn t row)) ≡ true → field t row 1 < field t row 2
   unfolding about
@@ -330,5 +333,5 @@ module _ (t : List ℕ) (ok : judged t ≡ Done) where
     rising = rise;
     lower = lower;
     order = orders;
-    asked = λ row h. ap (asks z (rowAt t) (rowAt t row)) (sym (kind-row row)) ∙ told row h .asked;
+    asked = λ row h. ap (asks z (rowAt t) row (rowAt t row)) (sym (kind-row row)) ∙ told row h .asked;
   }

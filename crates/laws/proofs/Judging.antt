@@ -9,7 +9,7 @@ use borrow.Author.Tests.{eq-eqb, ne-eqb, lt-ltb, le-ltb}
 use lib.Dec.{eqb, leb}
 use lib.ListN.{length, getD}
 use Rattle.paper.specs.Kinds.{kindAt, aboutOf}
-use Rattle.paper.specs.Cards.{used, columnsOf, zeros, inRange, orderOf, rank, countsAt, mostRows, rowAt, rows}
+use Rattle.paper.specs.Cards.{usedBy, columnsOf, zeros, inRange, orderOf, rank, countsAt, mostRows, rowAt, rows}
 use Rattle.paper.specs.Judge.{stands, rises, ordered, full, clean, formed, ranged, judgeOne, asks, judgeCard, judgeFrom, trailer, judgeRows, judged}
 use Rattle.paper.specs.declared.About.{About}
 use Rattle.paper.specs.declared.Answer.{Answer}
@@ -20,7 +20,7 @@ use Rattle.paper.specs.declared.Counts.{Counts}
 
 -- unused fields, number by number
 module _ (card : List ℕ) where
-  pub clean-start : (u : ℕ) → u ≡ used (kindAt card) → u ≤ 5 → clean card ≡ zeros card (6 - (1 + u)) (1 + u)
+  pub clean-start : (u : ℕ) → u ≡ usedBy (kindAt card) (getD card 2 0) → u ≤ 5 → clean card ≡ zeros card (6 - (1 + u)) (1 + u)
   unfolding clean
   clean-start u e l =
       let s : 6 - (1 + u) ≡ 5 - u = omega arith in
@@ -91,11 +91,11 @@ module _ (z : Counts) (row : ℕ → List ℕ) (i p key : ℕ) where
   unfolding judgeCard
   alone-refused r h = simp h
 
-  pub asked-not : alone ≡ Done → asks z row (row i) (kindAt (row i)) ≡ false → Refused (Range (i + 1)) ≡ judgeCard z row i p key
+  pub asked-not : alone ≡ Done → asks z row i (row i) (kindAt (row i)) ≡ false → Refused (Range (i + 1)) ≡ judgeCard z row i p key
   unfolding judgeCard
   asked-not h a = rw add-one (simp (h, a))
 
-  pub asked-done : alone ≡ Done → asks z row (row i) (kindAt (row i)) ≡ true → Done ≡ judgeCard z row i p key
+  pub asked-done : alone ≡ Done → asks z row i (row i) (kindAt (row i)) ≡ true → Done ≡ judgeCard z row i p key
   unfolding judgeCard
   asked-done h a = simp (h, a)
 

@@ -47,7 +47,7 @@ wide-ready z =
     let far : (ks : List ℤ) → roomy n (wideOf (z .table) ks) ≡ true = λ ks. le-leb (tri n) (length (wideOf (z .table) ks)) (omega (arith, length-expand (firstOf (z .table)) n ks)) in
     rw (far (z .slices .p), far (z .slices .a), far (z .slices .factor), far (z .work)) refl
 
-long-of : (t t″ : List ℕ) → SameRows t t″ → keptLong t″ ≡ keptLong t
+pub long-of : (t t″ : List ℕ) → SameRows t t″ → keptLong t″ ≡ keptLong t
 long-of t t″ h = ap (starts (firstOf t″)) (h .count) ∙ starts-ext (firstOf t″) (firstOf t) (nodes t) (λ i l. h .first i)
 
 -- what is lent is as long as it was
@@ -81,15 +81,19 @@ lengths-ready z e = cond-done (keptReady z) Done Short e .0
 
 -- ---- slices that are a deck's own
 
-pub holds-starts : (z : Kept) → KeptHolds z → startsJudged z ≡ Done
+-- starts that are the deck's pass 17
+pub own-pass : (z : Kept) → take (nodes (z .lent .table)) (z .starts) ≡ rowStarts (firstOf (z .lent .table)) (nodes (z .lent .table)) → startsJudged z ≡ Done
 unfolding strayRow
-holds-starts z h =
+own-pass z own =
     let t = z .lent .table in
     let n = nodes t in
     stray-pass z
     (first-absent n 0 (λ i. not (eqb (getD (z .starts) i 0) (starts (firstOf t) i))) (λ i l m.
-    let at : getD (z .starts) i 0 ≡ starts (firstOf t) i = sym (getD-take n (z .starts) i 0 (omega arith)) ∙ ap (λ (st : List ℕ). getD st i 0) (h .own-starts) ∙ starts-at (firstOf t) n i 0 (omega arith) in
+    let at : getD (z .starts) i 0 ≡ starts (firstOf t) i = sym (getD-take n (z .starts) i 0 (omega arith)) ∙ ap (λ (st : List ℕ). getD st i 0) own ∙ starts-at (firstOf t) n i 0 (omega arith) in
     ap not (eq-eqb (getD (z .starts) i 0) (starts (firstOf t) i) at)))
+
+pub holds-starts : (z : Kept) → KeptHolds z → startsJudged z ≡ Done
+holds-starts z h = own-pass z (h .own-starts)
 
 -- THEOREM. They are so where their packed triangles are, the lengths do and the starts are the deck's.
 pub holds-wide : (z : Kept) → KeptHolds z → Holds (widened (z .lent))
@@ -265,6 +269,15 @@ deck-after z (q ∷ qs) h =
     deck-after (keptReplace z (q .card) (q .new) .kept) qs (replace-holds z (q .card) (q .new) (q .six) h)
     ∙ ap (λ (t : List ℕ). deckAfter t qs) (replace-table z (q .card) (q .new) (q .six) h)
 
+-- THEOREM. A build of a deck whose own slices are held, over any fresh slices that are long enough, is accepted and gives the very same P, A, factor and starts.
+pub fresh-is : (z fresh : Kept) → KeptHolds z → keptReady (keptOn (z .lent .table) fresh) ≡ true → let built = keptBuild (keptOn (z .lent .table) fresh) in
+    (built .answer ≡ Done) × (keptPresent (built .kept) ≡ keptPresent z) × (take (nodes (z .lent .table)) (built .kept .starts) ≡ take (nodes (z .lent .table)) (z .starts))
+fresh-is z fresh h far =
+    let x = keptOn (z .lent .table) fresh in
+    let done = builds-as x (h .judge) far ∙ ap answerOf (h .built) in
+    let (p, s) = holds-one z (keptBuild x .kept) h (build-holds x done) (build-table x) in
+    (done, p, s)
+
 -- from an accepted build on
 module _ (z : Kept) (qs : List Asked) (ok : keptBuild z .answer ≡ Done) where
   abbrev now : Kept
@@ -276,11 +289,7 @@ module _ (z : Kept) (qs : List Asked) (ok : keptBuild z .answer ≡ Done) where
   -- THEOREM (demand 3). A build of the present deck, over any fresh slices that are long enough, is accepted and gives the present P, A, factor and starts.
   pub present-is : (fresh : Kept) → keptReady (keptOn (now .lent .table) fresh) ≡ true → let built = keptBuild (keptOn (now .lent .table) fresh) in
       (built .answer ≡ Done) × (keptPresent (built .kept) ≡ keptPresent now) × (take (nodes (now .lent .table)) (built .kept .starts) ≡ take (nodes (now .lent .table)) (now .starts))
-  present-is fresh far =
-      let x = keptOn (now .lent .table) fresh in
-      let done = builds-as x (now-holds .judge) far ∙ ap answerOf (now-holds .built) in
-      let (p, s) = holds-one now (keptBuild x .kept) now-holds (build-holds x done) (build-table x) in
-      (done, p, s)
+  present-is fresh far = fresh-is now fresh now-holds far
 
   -- THEOREM. The present deck.
   pub present-deck : now .lent .table ≡ deckAfter (z .lent .table) qs

@@ -9,24 +9,24 @@ use lib.ListN.{getD}
 use borrow.Author.Tests.{eqb-true}
 use Rattle.paper.specs.Kinds.{about, letterOf, kindOf}
 use Rattle.paper.specs.declared.Kind.{Kind}
-use Rattle.paper.specs.declared.Kind.the-variants.{D, N, M, E, «V», H, F, G, T, Z, Other}
+use Rattle.paper.specs.declared.Kind.the-variants.{D, N, M, E, «V», H, F, G, T, C, Z, Other}
 
 -- ---- a letter by its kind
 
-named : (l : ℕ) (k rest : Kind) → (about rest .order < 10 → letterOf rest ≡ l) → about (cond (eqb l (letterOf k)) k rest) .order < 10 → letterOf (cond (eqb l (letterOf k)) k rest) ≡ l
+named : (l : ℕ) (k rest : Kind) → (about rest .order < 11 → letterOf rest ≡ l) → about (cond (eqb l (letterOf k)) k rest) .order < 11 → letterOf (cond (eqb l (letterOf k)) k rest) ≡ l
 named l k rest f h = go (eqb l (letterOf k)) refl h
   where
-    go : (b : Bool) → eqb l (letterOf k) ≡ b → about (cond b k rest) .order < 10 → letterOf (cond b k rest) ≡ l
+    go : (b : Bool) → eqb l (letterOf k) ≡ b → about (cond b k rest) .order < 11 → letterOf (cond b k rest) ≡ l
     go true e h = sym (eqb-true l (letterOf k) e)
     go false e h = f h
 
 -- THEOREM. Every letter but Other's is its kind's.
-pub known : (l : ℕ) → about (kindOf l) .order < 10 → letterOf (kindOf l) ≡ l
+pub known : (l : ℕ) → about (kindOf l) .order < 11 → letterOf (kindOf l) ≡ l
 unfolding kindOf about
 known l =
-    named l D _ (named l N _ (named l M _ (named l E _ (named l «V» _ (named l H _ (named l F _ (named l G _ (named l T _ (named l Z Other (λ h. absurd (omega arith)))))))))))
+    named l D _ (named l N _ (named l M _ (named l E _ (named l «V» _ (named l H _ (named l F _ (named l G _ (named l T _ (named l C _ (named l Z Other (λ h. absurd (omega arith))))))))))))
 
-pub letter-of : (l : ℕ) (k : Kind) → kindOf l ≡ k → about k .order < 10 → l ≡ letterOf k
+pub letter-of : (l : ℕ) (k : Kind) → kindOf l ≡ k → about k .order < 11 → l ≡ letterOf k
 letter-of l k e h = sym (known l (rw e h)) ∙ ap letterOf e
 
 pub kind-letter : (k : Kind) → kindOf (letterOf k) ≡ k
@@ -40,6 +40,7 @@ kind-letter H = refl
 kind-letter F = refl
 kind-letter G = refl
 kind-letter T = refl
+kind-letter C = refl
 kind-letter Z = refl
 kind-letter Other = refl
 
@@ -59,6 +60,7 @@ node-kind H e = absurd (omega arith)
 node-kind F e = absurd (omega arith)
 node-kind G e = absurd (omega arith)
 node-kind T e = absurd (omega arith)
+node-kind C e = absurd (omega arith)
 node-kind Z e = absurd (omega arith)
 node-kind Other e = absurd (omega arith)
 
@@ -78,6 +80,7 @@ body-kind H e = absurd (omega arith)
 body-kind F e = absurd (omega arith)
 body-kind G e = absurd (omega arith)
 body-kind T e = absurd (omega arith)
+body-kind C e = absurd (omega arith)
 body-kind Z e = absurd (omega arith)
 body-kind Other e = absurd (omega arith)
 
@@ -98,6 +101,7 @@ replaced-section H h = (omega arith, omega arith)
 replaced-section F h = (omega arith, omega arith)
 replaced-section G h = (omega arith, omega arith)
 replaced-section T h = (omega arith, omega arith)
+replaced-section C h = absurd (omega arith)
 replaced-section Z h = absurd (omega arith)
 replaced-section Other h = absurd (omega arith)
 
@@ -113,11 +117,12 @@ rising-section H h = refl
 rising-section F h = refl
 rising-section G h = refl
 rising-section T h = refl
+rising-section C h = refl
 rising-section Z h = absurd (omega arith)
 rising-section Other h = absurd (omega arith)
 
--- THEOREM. What a kind rises by, a replacement keeps.
-pub keys-kept : (k : Kind) → 1 ≤ about k .keys → about k .keys ≤ about k .keeps
+-- THEOREM. What a kind that is replaced rises by, a replacement keeps.
+pub keys-kept : (k : Kind) → 1 ≤ about k .keeps → about k .keys ≤ about k .keeps
 unfolding about
 keys-kept D h = omega arith
 keys-kept N h = omega arith
@@ -128,8 +133,40 @@ keys-kept H h = omega arith
 keys-kept F h = omega arith
 keys-kept G h = omega arith
 keys-kept T h = omega arith
+keys-kept C h = omega arith
 keys-kept Z h = omega arith
 keys-kept Other h = omega arith
+
+-- THEOREM. What a change may name is an element, or rises by one key; and its letter is a kind's.
+pub given-one : (k : Kind) → 1 ≤ about k .gives → (about k .section ≡ 3 → ⊥) → about k .keys ≡ 1
+unfolding about
+given-one D h n = absurd (omega arith)
+given-one N h n = absurd (omega arith)
+given-one M h n = absurd (omega arith)
+given-one E h n = absurd (n refl)
+given-one «V» h n = absurd (omega arith)
+given-one H h n = refl
+given-one F h n = refl
+given-one G h n = absurd (omega arith)
+given-one T h n = refl
+given-one C h n = absurd (omega arith)
+given-one Z h n = absurd (omega arith)
+given-one Other h n = absurd (omega arith)
+
+pub given-real : (k : Kind) → 1 ≤ about k .gives → about k .order < 11
+unfolding about
+given-real D h = omega arith
+given-real N h = omega arith
+given-real M h = omega arith
+given-real E h = omega arith
+given-real «V» h = omega arith
+given-real H h = omega arith
+given-real F h = omega arith
+given-real G h = omega arith
+given-real T h = omega arith
+given-real C h = omega arith
+given-real Z h = omega arith
+given-real Other h = absurd (omega arith)
 
 -- what stands first, and what stands among the materials
 pub first-kind : (k : Kind) → about k .section ≡ 0 → k ≡ D
@@ -143,6 +180,7 @@ first-kind H e = absurd (omega arith)
 first-kind F e = absurd (omega arith)
 first-kind G e = absurd (omega arith)
 first-kind T e = absurd (omega arith)
+first-kind C e = absurd (omega arith)
 first-kind Z e = absurd (omega arith)
 first-kind Other e = absurd (omega arith)
 
@@ -157,13 +195,29 @@ material-kind H e = absurd (omega arith)
 material-kind F e = absurd (omega arith)
 material-kind G e = absurd (omega arith)
 material-kind T e = absurd (omega arith)
+material-kind C e = absurd (omega arith)
 material-kind Z e = absurd (omega arith)
 material-kind Other e = absurd (omega arith)
+
+pub change-kind : (k : Kind) → about k .keys ≡ 3 → k ≡ C
+unfolding about
+change-kind D e = absurd (omega arith)
+change-kind N e = absurd (omega arith)
+change-kind M e = absurd (omega arith)
+change-kind E e = absurd (omega arith)
+change-kind «V» e = absurd (omega arith)
+change-kind H e = absurd (omega arith)
+change-kind F e = absurd (omega arith)
+change-kind G e = absurd (omega arith)
+change-kind T e = absurd (omega arith)
+change-kind C e = refl
+change-kind Z e = absurd (omega arith)
+change-kind Other e = absurd (omega arith)
 
 -- ---- a kind by its order
 
 abbrev inOrder : List Kind
-inOrder = D ∷ N ∷ M ∷ E ∷ «V» ∷ H ∷ F ∷ G ∷ T ∷ Z ∷ Other ∷ []
+inOrder = D ∷ N ∷ M ∷ E ∷ «V» ∷ H ∷ F ∷ G ∷ T ∷ C ∷ Z ∷ Other ∷ []
 
 by-order : (k : Kind) → getD inOrder (about k .order) Other ≡ k
 unfolding about
@@ -176,6 +230,7 @@ by-order H = refl
 by-order F = refl
 by-order G = refl
 by-order T = refl
+by-order C = refl
 by-order Z = refl
 by-order Other = refl
 

@@ -35,6 +35,7 @@ pub mod Lent
 pub mod Reading
 pub mod Printing
 pub mod Past
+pub mod Named
 pub mod RoundTrip
 pub mod Changed
 pub mod Least
@@ -65,3 +66,10 @@ pub mod Second
 pub mod Passing
 pub mod Imported
 pub mod Importing
+pub mod ByHand
+pub mod Stretches
+pub mod Changes
+pub mod Targets
+pub mod Cursor
+pub mod Turns
+pub mod Unchanging

@@ -1,6 +1,6 @@
 -- What refusals 3, 13 and 4 of a new card tell, and that the deck with it in its place is accepted as well.
 use mathlib.Core.Path.{_≡_, refl, sym, ap, subst, _∙_}
-use mathlib.Core.Bool.{Bool, true, false, not, _&&_, _||_}
+use mathlib.Core.Bool.{Bool, true, false, not, cond, _&&_, _||_}
 use mathlib.Core.List.{List}
 use Prim.Native.Nat.{ℕ, zero, suc, _+_, _-_, _*_, _≤_, _<_}
 use native.Mathlib.Decide.{ℕ-discrete}
@@ -9,13 +9,14 @@ use borrow.Author.Tests.{leb-true, eqb-true}
 use lib.Dec.{eqb, leb, ltb}
 use lib.ListN.{length, getD}
 use Rattle.whole.proofs.Tests.{and-told}
+use Rattle.whole.proofs.Sums.{first-ext}
 use Rattle.paper.specs.Kinds.{about, letterOf, kindOf, kindAt, isA, bodies, edge}
-use Rattle.paper.specs.Cards.{before, columns, nodes, columnsOf, inRange, agree, orderOf, ranked, rank, countsAt, rowAt, field, rows, put}
-use Rattle.paper.specs.Judge.{clean, stands, rises, ordered, full, asks, judged, answers, newJudged}
+use Rattle.paper.specs.Cards.{before, columns, nodes, columnsOf, inRange, agree, orderOf, triple, ranked, rank, countsAt, rowAt, field, rows, put}
+use Rattle.paper.specs.Judge.{clean, stands, rises, ordered, full, nameAt, cardNamed, asks, judged, answers, newJudged}
 use Rattle.paper.specs.declared.Answer.the-variants.{Done}
 use Rattle.paper.specs.declared.Refusal.the-variants.{Form, Range, Replacement}
 use Rattle.paper.specs.declared.Kind.{Kind}
-use Rattle.paper.specs.declared.Kind.the-variants.{D, N, M, E, «V», H, F, G, T, Z, Other}
+use Rattle.paper.specs.declared.Kind.the-variants.{D, N, M, E, «V», H, F, G, T, C, Z, Other}
 use Rattle.laws.proofs.Outcomes.{cond-done}
 use Rattle.laws.proofs.Letters.{keys-kept}
 use Rattle.laws.proofs.Tables.{row-field, length-put, row-here}
@@ -60,7 +61,7 @@ accepted t card new e =
 pub new-place : (t : List ℕ) (card : ℕ) (new : List ℕ) → newJudged t card new ≡ Done → (1 ≤ card) × (card ≤ rows t)
 new-place t card new e = let q = accepted t card new e in (q .lo, q .hi)
 
-keeps-few : (k : Kind) → about k .keeps ≤ 4
+pub keeps-few : (k : Kind) → about k .keeps ≤ 4
 unfolding about
 keeps-few D = omega arith
 keeps-few N = omega arith
@@ -71,6 +72,7 @@ keeps-few H = omega arith
 keeps-few F = omega arith
 keeps-few G = omega arith
 keeps-few T = omega arith
+keeps-few C = omega arith
 keeps-few Z = omega arith
 keeps-few Other = omega arith
 
@@ -114,21 +116,37 @@ module _ (t : List ℕ) (card : ℕ) (new : List ℕ) (six : length new ≡ 6) (
   first-same : (r : ℕ) → getD (rowAt t′ r) 1 0 ≡ getD (rowAt t r) 1 0
   first-same r = field-same r 1 (omega arith) (key-same t c new dk change r)
 
-  -- of an edge, the second node too
-  second-same : (r : ℕ) → edge (about (kindAt (rowAt t r))) ≡ true → getD (rowAt t′ r) 2 0 ≡ getD (rowAt t r) 2 0
-  second-same r e =
-      let q = eqb-true (about (kindAt (rowAt t r)) .keys) 2 e in
-      let k = kindAt (rowAt t r) in
-      field-same r 2 (omega arith)
-      (kind-keeps t c new dk change r 2 k (sym (ap kindOf (row-field t r 0 (omega arith)))) (omega arith) (omega (arith, keys-kept k (omega arith))))
+  -- whatever its kind rises by
+  keys-same : (r k : ℕ) → k < 6 → k ≤ about (kindAt (rowAt t r)) .keys → getD (rowAt t′ r) k 0 ≡ getD (rowAt t r) k 0
+  keys-same r k h l = field-same r k h (go (ℕ-discrete r c))
+    where
+      is : kindIn t r ≡ kindAt (rowAt t r)
+      is = sym (ap kindOf (row-field t r 0 (omega arith)))
+
+      go : Dec (r ≡ c) → field t′ r k ≡ field t r k
+      go (yes q) =
+          let some : 1 ≤ about (kindAt (rowAt t r)) .keeps = subst (λ (x : Kind). 1 ≤ about x .keeps) (ap (kindIn t) (sym q) ∙ is) (change .some) in
+          kind-keeps t c new dk change r k (kindAt (rowAt t r)) is h (omega (arith, keys-kept (kindAt (rowAt t r)) some))
+      go (no q) = other t c new dk change r k h q
 
   rank-same : (r : ℕ) → rank (rowAt t′ r) ≡ rank (rowAt t r)
   unfolding ranked
   rank-same r = ap (λ (k : Kind). ranked (about k) (rowAt t′ r)) (kinds-same r) ∙ by-edge _ refl
     where
       by-edge : (b : Bool) → edge (about (kindAt (rowAt t r))) ≡ b → ranked (about (kindAt (rowAt t r))) (rowAt t′ r) ≡ rank (rowAt t r)
-      by-edge true e = rw e (λ j. 128 * first-same r j + second-same r e j)
-      by-edge false e = rw e (first-same r)
+      by-edge true e =
+          let q = eqb-true (about (kindAt (rowAt t r)) .keys) 2 e in
+          rw e (λ j. 128 * first-same r j + keys-same r 2 (omega arith) (omega arith) j)
+      by-edge false e = rw e (by-change _ refl)
+        where
+          by-change : (b : Bool) → eqb (about (kindAt (rowAt t r)) .keys) 3 ≡ b
+              → cond b (triple (rowAt t′ r)) (getD (rowAt t′ r) 1 0) ≡ cond b (triple (rowAt t r)) (getD (rowAt t r) 1 0)
+          by-change true e =
+              let q = eqb-true (about (kindAt (rowAt t r)) .keys) 3 e in
+              let a = keys-same r 2 (omega arith) (omega arith) in
+              let b = keys-same r 3 (omega arith) (omega arith) in
+              λ j. (16 * first-same r j + about (kindOf (a j)) .order) * 134217728 + b j
+          by-change false e = first-same r
 
   ordered-same : (r : ℕ) → ordered (about (kindAt (rowAt t′ r))) (rowAt t′ r) ≡ ordered (about (kindAt (rowAt t r))) (rowAt t r)
   unfolding ordered
@@ -136,7 +154,9 @@ module _ (t : List ℕ) (card : ℕ) (new : List ℕ) (six : length new ≡ 6) (
     where
       by-edge : (b : Bool) → edge (about (kindAt (rowAt t r))) ≡ b
           → ordered (about (kindAt (rowAt t r))) (rowAt t′ r) ≡ ordered (about (kindAt (rowAt t r))) (rowAt t r)
-      by-edge true e = rw e (λ j. ltb (first-same r j) (second-same r e j))
+      by-edge true e =
+          let q = eqb-true (about (kindAt (rowAt t r)) .keys) 2 e in
+          rw e (λ j. ltb (first-same r j) (keys-same r 2 (omega arith) (omega arith) j))
       by-edge false e = rw e
 
   crowd-same : (r : ℕ) → full (rowAt t′) r (about (kindAt (rowAt t′ r))) ≡ full (rowAt t) r (about (kindAt (rowAt t r)))
@@ -185,7 +205,21 @@ module _ (t : List ℕ) (card : ℕ) (new : List ℕ) (six : length new ≡ 6) (
       corner (suc (suc (suc zero))) lo hi e = omega (arith, nodes-are t, field-in t r 2 E dk h e (omega arith))
       corner (suc (suc (suc (suc k)))) lo hi e = absurd (omega arith)
 
-  asks-same : (r : ℕ) → suc r < rows t → (kind : Kind) → kindAt (rowAt t r) ≡ kind → asks (countsAt t) (rowAt t′) (rowAt t′ r) kind ≡ asks (countsAt t) (rowAt t) (rowAt t r) kind
+  -- no replacement moves a change, nor a card's letter and name
+  pub still-C : (r : ℕ) → suc r < rows t → kindAt (rowAt t r) ≡ C → rowAt t′ r ≡ rowAt t r
+  unfolding about
+  still-C r h e =
+      other-row t c new dk change r (omega arith) (λ q.
+      omega (arith, change .some, ap (λ (k : Kind). about k .keeps) (ap (kindIn t) (sym q) ∙ ap kindOf (sym (row-field t r 0 (omega arith))) ∙ e)))
+
+  pub named-same : (n letter name : ℕ) → cardNamed (countsAt t) (rowAt t′) n letter name ≡ cardNamed (countsAt t) (rowAt t) n letter name
+  unfolding cardNamed nameAt
+  named-same n letter name =
+      first-ext n 0 _ _ (λ r lo hi.
+      let l : getD (rowAt t′ r) 0 0 ≡ getD (rowAt t r) 0 0 = field-same r 0 (omega arith) (letter-same t c new dk change r) in
+      λ j. eqb (l j) letter && eqb (cond (eqb (about (kindOf (l j)) .section) bodies) (suc r - before (countsAt t) bodies) (first-same r j)) name)
+
+  asks-same : (r : ℕ) → suc r < rows t → (kind : Kind) → kindAt (rowAt t r) ≡ kind → asks (countsAt t) (rowAt t′) r (rowAt t′ r) kind ≡ asks (countsAt t) (rowAt t) r (rowAt t r) kind
   unfolding asks
   asks-same r h D e = refl
   asks-same r h N e = refl
@@ -203,6 +237,10 @@ module _ (t : List ℕ) (card : ℕ) (new : List ℕ) (six : length new ≡ 6) (
       ∙ ap (λ (l : ℕ). eqb l (letterOf E)) (field-same x 0 (omega arith) (letter-same t c new dk change x))
   asks-same r h G e = refl
   asks-same r h T e = refl
+  asks-same r h C e =
+      let same = still-C r h e in
+      ap (λ (c : List ℕ). leb 1 (about (kindOf (getD c 2 0)) .gives) && leb 1 (cardNamed (countsAt t) (rowAt t′) r (getD c 2 0) (getD c 3 0))) same
+      ∙ ap (λ (n : ℕ). leb 1 (about (kindOf (getD (rowAt t r) 2 0)) .gives) && leb 1 n) (named-same r (getD (rowAt t r) 2 0) (getD (rowAt t r) 3 0))
   asks-same r h Z e = refl
   asks-same r h Other e = refl
 
@@ -219,7 +257,7 @@ module _ (t : List ℕ) (card : ℕ) (new : List ℕ) (six : length new ≡ 6) (
         range = alone r i (λ x. inRange (columnsOf z x) x 5 0 ≡ true) (ac .range) (q .range);
         order = ordered-same r ∙ q .order;
         rise = rises-same r ∙ q .rise;
-        asked = ap (asks z (rowAt t′) (rowAt t′ r)) (kinds-same r) ∙ asks-same r h (kindAt (rowAt t r)) refl ∙ q .asked;
+        asked = ap (asks z (rowAt t′) r (rowAt t′ r)) (kinds-same r) ∙ asks-same r h (kindAt (rowAt t r)) refl ∙ q .asked;
       })
 
   -- THEOREM. The deck with the new card in its place is accepted.

@@ -17,37 +17,10 @@ use Rattle.paper.specs.Records.{isMade}
 use Rattle.paper.specs.declared.About.{About}
 use Rattle.paper.specs.declared.Counts.{Counts}
 use Rattle.paper.specs.declared.Kind.{Kind}
-use Rattle.paper.specs.declared.Kind.the-variants.{D, N, M, E, «V», H, F, G, T, Z, Other}
+use Rattle.paper.specs.declared.Kind.the-variants.{D, N, M, E, «V», H, F, G, T, C, Z, Other}
 use Rattle.laws.proofs.Letters.{letter-of}
 use Rattle.laws.proofs.Judged.{passes}
 use Rattle.laws.proofs.Alike.{card-same}
-
-not-letter : (card : List ℕ) (k : Kind) → isA k card ≡ false → kindAt card ≡ k → about k .order < 10 → ⊥
-not-letter card k h e l = let x : false ≡ true = sym h ∙ eq-eqb (getD card 0 0) (letterOf k) (letter-of (getD card 0 0) k e l) in never x
-
--- a load that is none of H, F and T is a G
-pub edge-kind : (card : List ℕ) → about (kindAt card) .section ≡ 4 → isMade card ≡ false → kindAt card ≡ G
-unfolding about
-edge-kind card s m = go (kindAt card) refl s
-  where
-    told : (isA H card ≡ false) × (isA F card ≡ false) × (isA T card ≡ false)
-    told =
-        let (a, c) = nor-told (isA H card || isA F card) (isA T card) m in
-        let (x, y) = nor-told (isA H card) (isA F card) a in
-        (x, y, c)
-
-    go : (k : Kind) → kindAt card ≡ k → about k .section ≡ 4 → k ≡ G
-    go D e h = absurd (omega arith)
-    go N e h = absurd (omega arith)
-    go M e h = absurd (omega arith)
-    go E e h = absurd (omega arith)
-    go «V» e h = absurd (omega arith)
-    go H e h = absurd (not-letter card H (told .0) e (omega arith))
-    go F e h = absurd (not-letter card F (told .1) e (omega arith))
-    go G e h = refl
-    go T e h = absurd (not-letter card T (told .2) e (omega arith))
-    go Z e h = absurd (omega arith)
-    go Other e h = absurd (omega arith)
 
 pub stands-load : (z : Counts) (i p : ℕ) (a : About) → a .section ≡ 4 → before z 4 ≤ i → i < before z 5 → p ≤ a .order → stands z i p a ≡ true
 unfolding stands
@@ -88,7 +61,7 @@ passes-same z f g (suc i) e =
     (λ j. judgeCard z f (suc i) (orderOf (e i (omega arith) j)) (rank (e i (omega arith) j))) ∙ card-same z f g (suc i) (orderOf (g i)) (rank (g i)) e
 
 -- Z with counts in their bounds
-pub trailer-of : (x a m e n : ℕ) → x ≡ 42 * (1 + a + m + e + n) → 3 ≤ a → a ≤ 96 → 1 ≤ m → m ≤ 8 → 1 ≤ e → e ≤ 160 → n ≤ 576 → trailer (90 ∷ x ∷ a ∷ m ∷ e ∷ n ∷ []) ≡ true
+pub trailer-of : (x a m e n : ℕ) → x ≡ 42 * (1 + a + m + e + n) → 3 ≤ a → a ≤ 96 → 1 ≤ m → m ≤ 8 → 1 ≤ e → e ≤ 160 → n ≤ 640 → trailer (90 ∷ x ∷ a ∷ m ∷ e ∷ n ∷ []) ≡ true
 unfolding trailer columns inRange before sumN kindOf about
 trailer-of x a m e n q p1 p2 p3 p4 p5 p6 p7 =
     rw (
@@ -101,5 +74,5 @@ trailer-of x a m e n q p1 p2 p3 p4 p5 p6 p7 =
       le-leb 1 e p5,
       le-leb e 160 p6,
       le-leb 0 n (omega arith),
-      le-leb n 576 p7,
+      le-leb n 640 p7,
     )

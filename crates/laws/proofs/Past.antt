@@ -74,12 +74,12 @@ module _ (z : Counts) (row : ℕ → List ℕ) where
     film-in r = in-told (getD (columns z F) 0 (0 ⋯ 0)) (getD card 1 0) (range-each (columns z F) card 5 0 0 r (omega arith) (omega arith))
 
     -- THEOREM. In a flat deck the nodes of an E have one height.
-    pub level-flat : inRange (columns z E) card 5 0 ≡ true → Past z row (before z bodies) → z .solid ≡ false → true ≡ asks z row card E
+    pub level-flat : inRange (columns z E) card 5 0 ≡ true → Past z row (before z bodies) → z .solid ≡ false → (i : ℕ) → true ≡ asks z row i card E
     unfolding asks before sumN
-    level-flat r past f =
+    level-flat r past f i =
         let at : (n : ℕ) → n < 3 → 0 ≡ getD (row (getD card (suc n) 0)) 3 0 =
         λ n l. let h = node-in r n l in sym (flat-height (getD card (suc n) 0) f h (past (getD card (suc n) 0) (omega (arith, h .1)))) in
         let a = at 0 (omega arith) in
         let b = at 1 (omega arith) in
         let c = at 2 (omega arith) in
-        λ i. eqb (a i) (b i) && eqb (a i) (c i)
+        λ j. eqb (a j) (b j) && eqb (a j) (c j)

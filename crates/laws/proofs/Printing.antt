@@ -1,4 +1,4 @@
--- What the judge accepts can be printed: a letter of the ten, no field of more than eight digits, unused fields 0.
+-- What the judge accepts can be printed: a letter of a kind, no field of more than eight digits, unused fields 0.
 use mathlib.Core.Path.{_≡_, refl, sym, ap, subst, _∙_}
 use mathlib.Core.Bool.{Bool, true, false, cond}
 use mathlib.Core.List.{List, [], _∷_}
@@ -10,14 +10,14 @@ use lib.ListN.{length, getD}
 use Rattle.whole.proofs.Tests.{and-told}
 use Rattle.whole.specs.Sums.{sumN}
 use Rattle.paper.specs.Kinds.{about, kindOf, kindAt}
-use Rattle.paper.specs.Cards.{Column, _⋯_, blankOr, before, cards, columns, used, zeros, inRange, countsOf, mostRows}
+use Rattle.paper.specs.Cards.{Column, _⋯_, blankOr, before, cards, columns, used, usedBy, zeros, inRange, countsOf, mostRows}
 use Rattle.paper.specs.Judge.{stands, clean, judgeCard, trailer}
 use Rattle.paper.specs.declared.Answer.the-variants.{Done}
 use Rattle.paper.specs.declared.Counts.{Counts}
 use Rattle.paper.specs.declared.Kind.{Kind}
-use Rattle.paper.specs.declared.Kind.the-variants.{D, N, M, E, «V», H, F, G, T, Z, Other}
+use Rattle.paper.specs.declared.Kind.the-variants.{D, N, M, E, «V», H, F, G, T, C, Z, Other}
 use Rattle.laws.proofs.Judged.{passed, stands-told, range-each}
-use Rattle.laws.proofs.CardText.{Printable}
+use Rattle.laws.proofs.CardText.{Printable, usedOf, used-kind}
 use Rattle.laws.proofs.Reading.{trailer-told}
 
 -- ---- no place allows a letter that is none
@@ -33,6 +33,7 @@ other-of H e = absurd (omega arith)
 other-of F e = absurd (omega arith)
 other-of G e = absurd (omega arith)
 other-of T e = absurd (omega arith)
+other-of C e = absurd (omega arith)
 other-of Z e = absurd (omega arith)
 other-of Other e = refl
 
@@ -70,6 +71,7 @@ all-small z h H = (omega arith, (omega arith, tt))
 all-small z h F = (omega arith, (omega arith, (omega arith, tt)))
 all-small z h G = (omega arith, (omega arith, (omega arith, (omega arith, (omega arith, tt)))))
 all-small z h T = (omega arith, (omega arith, tt))
+all-small z h C = (omega arith, (omega arith, (omega arith, (omega arith, (omega arith, tt)))))
 all-small z h Z = (omega arith, (omega arith, (omega arith, (omega arith, (omega arith, tt)))))
 all-small z h Other = tt
 
@@ -105,7 +107,7 @@ letter-known z row i p key h e = none-stands z i p (subst (λ (k : Kind). stands
 pub prints : (z : Counts) → cards z < mostRows → (row : ℕ → List ℕ) (i p key : ℕ) → length (row i) ≡ 6 → judgeCard z row i p key ≡ Done → Printable (row i)
 unfolding clean
 prints z few row i p key six h =
-    let u = used (kindAt (row i)) in
+    let u = usedOf (row i) in
     let s = passed z row i p key h in
     record {
       six = six;
@@ -114,14 +116,15 @@ prints z few row i p key six h =
       unused = λ k l m. zeros-at (row i) (5 - u) (1 + u) (s .clear) (suc k) (omega arith) (omega arith);
     }
 
-used-Z : used Z ≡ 5
-unfolding used columns
-used-Z = refl
+used-Z : (code : ℕ) → (used Z ≡ 5) × (usedBy Z code ≡ 5)
+unfolding used columns about
+used-Z code = (refl, used-kind Z code refl)
 
 pub prints-Z : (card : List ℕ) → length card ≡ 6 → trailer card ≡ true → Printable card
 prints-Z card six h =
     let s = trailer-told card (λ i. 0) h in
-    let u : used (kindAt card) ≡ 5 = ap used (s .kind) ∙ used-Z in
+    let u : used (kindAt card) ≡ 5 = ap used (s .kind) ∙ used-Z 0 .0 in
+    let v : usedOf card ≡ 5 = ap (λ (k : Kind). usedBy k (getD card 2 0)) (s .kind) ∙ used-Z (getD card 2 0) .1 in
     record {
       six = six;
       letter = λ e. omega arith;

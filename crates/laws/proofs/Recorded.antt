@@ -12,7 +12,7 @@ use borrow.Author.Tests.{eqb-true, ltb-true, ltb-false}
 use Rattle.whole.proofs.Tests.{and-told, or-told}
 use Rattle.paper.specs.Refusals.{Outcome, refused, done, when, then, answerOf}
 use Rattle.paper.specs.Kinds.{about, kindOf, kindAt}
-use Rattle.paper.specs.Cards.{columns, columnsOf, used, zeros, inRange, orderOf}
+use Rattle.paper.specs.Cards.{columns, columnsOf, used, usedBy, zeros, inRange, orderOf}
 use Rattle.paper.specs.Judge.{clean, asks}
 use Rattle.paper.specs.Singles.{finite}
 use Rattle.paper.specs.Records.{recordKind, recordNumber, firstBits, secondBits, heatCard, filmCard, fixedCard, oneUsed, bothUsed, recordCard, recordAt, follows, fitting, recordJudged, recordsFrom, earlyFrom}
@@ -40,15 +40,15 @@ pub record Made (kind number : ℕ) (card : List ℕ) : Type 0 where
   pub key : getD card 1 0 ≡ number
 
 heat-made : (kind number : ℕ) → kind ≡ 1 → (x : ℕ) → Made kind number (heatCard number x)
-unfolding about kindOf clean used columns zeros
+unfolding about kindOf clean used usedBy columns zeros
 heat-made kind number e x = record { sort = heat e refl; six = refl; clear = refl; key = refl }
 
 film-made : (kind number : ℕ) → kind ≡ 2 → (x y : ℕ) → Made kind number (filmCard number x y)
-unfolding about kindOf clean used columns zeros
+unfolding about kindOf clean used usedBy columns zeros
 film-made kind number e x y = record { sort = film e refl; six = refl; clear = refl; key = refl }
 
 fixed-made : (kind number : ℕ) → kind ≡ 3 → (x : ℕ) → Made kind number (fixedCard number x)
-unfolding about kindOf clean used columns zeros
+unfolding about kindOf clean used usedBy columns zeros
 fixed-made kind number e x = record { sort = hold e refl; six = refl; clear = refl; key = refl }
 
 one-made : (kind number place : ℕ) (card : ℕ → List ℕ) → ((x : ℕ) → Made kind number (card x)) → (x y : ℕ) (c : List ℕ) → oneUsed place card x y ≡ done c → Made kind number c
@@ -117,7 +117,7 @@ pub record Taken (z : Counts) (row : ℕ → List ℕ) (kind number place : ℕ)
   pub card : List ℕ
   pub got : recordCard place bs ≡ done card
   pub range : inRange (columnsOf z card) card 5 0 ≡ true
-  pub asked : asks z row card (kindAt card) ≡ true
+  pub asked : asks z row 0 card (kindAt card) ≡ true
   pub after : follows kind number bs ≡ true
 
 test-told : (b : Bool) (r : Refusal) (c : List ℕ) → answerOf (when b r (done c)) ≡ Done → b ≡ true
@@ -132,7 +132,7 @@ taken z row kind number place bs = go (recordCard place bs) refl
     go (refused r) q h = done-refused h
     go (done c) q h =
         let (a, b) = and-told (fitting z row c) (follows kind number bs) (test-told (fitting z row c && follows kind number bs) (Range place) c h) in
-        let (r, s) = and-told (inRange (columnsOf z c) c 5 0) (asks z row c (kindAt c)) a in
+        let (r, s) = and-told (inRange (columnsOf z c) c 5 0) (asks z row 0 c (kindAt c)) a in
         record { card = c; got = q; range = r; asked = s; after = b }
 
 pub follow-told : (kind number : ℕ) (bs : List ℕ) → follows kind number bs ≡ true → (kind < recordKind bs) ⊎ ((kind ≡ recordKind bs) × (number < recordNumber bs))

@@ -45,7 +45,7 @@ unfolding judgeCard judgeOne
 card-plain z row i p key =
     plain-and (judgeOne z i p key (full row i (aboutOf (row i))) (row i)) _
     (plain-cond (formed z i p (full row i (aboutOf (row i))) (row i)) _ _ (plain-cond (ranged z p key (row i)) _ _ tt refl) refl)
-    (plain-cond (asks z row (row i) (kindAt (row i))) _ _ tt refl)
+    (plain-cond (asks z row i (row i) (kindAt (row i))) _ _ tt refl)
 
 cards-plain : (z : Counts) (row : ℕ → List ℕ) (n i p key : ℕ) → Plain (judgeFrom z row n i p key)
 unfolding judgeFrom

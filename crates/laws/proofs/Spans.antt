@@ -21,7 +21,7 @@ use Rattle.paper.specs.Elements.{bodyOf, flatOf, tetrahedronOf, solidOf, elemen
 use Rattle.paper.specs.Parts.{namedRow, namedShape, partOf, partAt}
 use Rattle.paper.specs.declared.Counts.{Counts}
 use Rattle.paper.specs.declared.Kind.{Kind}
-use Rattle.paper.specs.declared.Kind.the-variants.{D, N, M, E, «V», H, F, G, T, Z, Other}
+use Rattle.paper.specs.declared.Kind.the-variants.{D, N, M, E, «V», H, F, G, T, C, Z, Other}
 use Rattle.laws.proofs.Letters.{letter-of, kind-of, first-kind, node-kind, material-kind, Body, flat, solid, body-kind, body-section, rising-section}
 use Rattle.laws.proofs.Tables.{row-field}
 use Rattle.laws.proofs.Decks.{In, kindIn, loads, Within, Deck}
@@ -180,7 +180,8 @@ module _ (t : List ℕ) (d : Deck t) where
   key-rank : (r : ℕ) → about (kindIn t r) .keys ≡ 1 → rank (rowAt t r) ≡ field t r 1
   unfolding ranked
   key-rank r k =
-      rw (ne-eqb (about (kindAt (rowAt t r)) .keys) 2 (λ q. omega (arith, ap (λ (x : Kind). about x .keys) (row-kind t r)))) (row-field t r 1 (omega arith))
+      let is : about (kindAt (rowAt t r)) .keys ≡ 1 = ap (λ (x : Kind). about x .keys) (row-kind t r) ∙ k in
+      rw (ne-eqb (about (kindAt (rowAt t r)) .keys) 2 (λ q. omega arith), ne-eqb (about (kindAt (rowAt t r)) .keys) 3 (λ q. omega arith)) (row-field t r 1 (omega arith))
 
   -- THEOREM. Two cards of a kind that rises by one key have two keys.
   pub once : (r s : ℕ) → r < rows t → s < rows t → about (kindIn t r) .keys ≡ 1 → letter t r ≡ letter t s → field t r 1 ≡ field t s 1 → r ≡ s
@@ -337,7 +338,7 @@ module _ (t : List ℕ) (d : Deck t) where
     unfolding asks about
     film-flat e =
         let card = rowAt t row in
-        let q : asks (countsAt t) (rowAt t) card F ≡ true = subst (λ (k : Kind). asks (countsAt t) (rowAt t) card k ≡ true) e (d .asked row (load-inner (rw e))) in
+        let q : asks (countsAt t) (rowAt t) row card F ≡ true = subst (λ (k : Kind). asks (countsAt t) (rowAt t) row card k ≡ true) e (d .asked row (load-inner (rw e))) in
         let at : before (countsAt t) 3 + getD card 1 0 - 1 ≡ namedRow t card = omega (arith, begins t .atE) in
         sym (row-kind t (namedRow t card)) ∙ kind-of (getD (rowAt t (namedRow t card)) 0 0) E (eqb-true _ _ (subst (λ (r : ℕ). isA E (rowAt t r) ≡ true) at q))
 
@@ -423,6 +424,7 @@ module _ (t : List ℕ) (d : Deck t) where
   corners-by row F h e = named-at row (names-F t d row h e)
   corners-by row G h e = rw (row-field t row 1 (omega arith), row-field t row 2 (omega arith)) (ends-G t d row h e)
   corners-by row T h e = tt
+  corners-by row C h e = tt
   corners-by row Z h e = tt
   corners-by row Other h e = tt
 

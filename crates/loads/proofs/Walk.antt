@@ -24,7 +24,7 @@ use Rattle.paper.specs.Elements.{elementAt}
 use Rattle.paper.specs.Parts.{Part, heatShare, namedRow, namedShape, edgeSpace, partOf, partFor, partAt}
 use Rattle.paper.specs.Matrices.{addsLoad, loadOf}
 use Rattle.paper.specs.declared.Kind.{Kind}
-use Rattle.paper.specs.declared.Kind.the-variants.{D, N, M, E, «V», H, F, G, T, Z, Other}
+use Rattle.paper.specs.declared.Kind.the-variants.{D, N, M, E, «V», H, F, G, T, C, Z, Other}
 use Rattle.laws.proofs.Decks.{In, kindIn, Deck}
 use Rattle.laws.proofs.Tables.{row-field}
 use Rattle.laws.proofs.Spans.{Inside, row-kind, few-corners, three-corners, part-corners, heat-in, film-in, film-flat, ambient-in, edge-ambient-in, names-F, in-loads}
@@ -118,6 +118,7 @@ module _ {t : List ℕ} (d : Deck t) (row : ℕ) (l : row < rows t) where
     all = omega arith;
   }
   light-by T e = weightless (partOf t (rowAt t row) T) (omega arith) (λ a. omega arith)
+  light-by C e = weightless (partOf t (rowAt t row) C) (omega arith) (λ a. omega arith)
   light-by Z e = weightless (partOf t (rowAt t row) Z) (omega arith) (λ a. omega arith)
   light-by Other e = weightless (partOf t (rowAt t row) Other) (omega arith) (λ a. omega arith)
 

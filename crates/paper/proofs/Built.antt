@@ -10,7 +10,7 @@ use Rattle.whole.specs.Sums.{sum, sumN, any, table}
 use Rattle.whole.specs.Packed.{tri, place, lower}
 use Rattle.paper.specs.Refusals.{told}
 use Rattle.paper.specs.Kinds.{about, kindOf, letterOf}
-use Rattle.paper.specs.Cards.{before, columns, used, zeros, inRange, ranked, field, nodes, materials, elements}
+use Rattle.paper.specs.Cards.{before, columns, used, usedBy, zeros, inRange, ranked, field, nodes, materials, elements}
 use Rattle.paper.specs.Judge.{stands, clean, rises, ordered, full, formed, ranged, judgeOne, asks, judgeCard, judgeFrom, trailer, judgeRows, judged}
 use Rattle.paper.specs.Corners.{square, mass, spread, shapeOf, area}
 use Rattle.paper.specs.Triangle.{b, c, S, side², longest², thin, pair, u}
@@ -58,7 +58,7 @@ cases =
     ∷ []
 
 run : same (same eqZ) (map (λ (x : Made). x .got) cases) (map (λ (x : Made). x .want) cases) ≡ true
-unfolding cases same eqZ nearestN nearest sum sumN any table tri place lower told about kindOf before columns used zeros inRange ranked field nodes materials elements stands clean rises ordered full formed ranged judgeOne asks judgeCard judgeFrom trailer judgeRows judged square mass spread shapeOf area b c S side² longest² thin pair u bodyOf flatOf elementOf fair areaOf formJudged elementJudged partOf addsP addsA P A fixed cleared w l rowFrom rowsFrom elementsFrom build enough closed leaves buildCall
+unfolding cases same eqZ nearestN nearest sum sumN any table tri place lower told about kindOf before columns used usedBy zeros inRange ranked field nodes materials elements stands clean rises ordered full formed ranged judgeOne asks judgeCard judgeFrom trailer judgeRows judged square mass spread shapeOf area b c S side² longest² thin pair u bodyOf flatOf elementOf fair areaOf formJudged elementJudged partOf addsP addsA P A fixed cleared w l rowFrom rowsFrom elementsFrom build enough closed leaves buildCall
 run = refl
 
 pub as-made : map (λ (x : Made). x .got) cases ≡ map (λ (x : Made). x .want) cases

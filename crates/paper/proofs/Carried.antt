@@ -10,7 +10,7 @@ use Rattle.whole.specs.Sums.{sum, sumN, any, firstFrom, table}
 use Rattle.whole.specs.Packed.{tri, place, lower}
 use Rattle.paper.specs.Refusals.{toldStep, packed}
 use Rattle.paper.specs.Kinds.{about, kindOf, letterOf}
-use Rattle.paper.specs.Cards.{before, columns, used, zeros, inRange, ranked, field, nodes, materials, elements}
+use Rattle.paper.specs.Cards.{before, columns, used, usedBy, zeros, inRange, ranked, field, nodes, materials, elements}
 use Rattle.paper.specs.Judge.{stands, clean, rises, ordered, full, formed, ranged, judgeOne, asks, judgeCard, judgeFrom, trailer, judgeRows, judged}
 use Rattle.paper.specs.Corners.{square, mass, spread, share, shapeOf, area}
 use Rattle.paper.specs.Triangle.{b, c, S, side², longest², thin, pair, u}
@@ -85,7 +85,7 @@ cases =
     ∷ []
 
 run : same (same eqZ) (map (λ (k : Case). k .got) cases) (map (λ (k : Case). k .want) cases) ≡ true
-unfolding cases same eqZ nearestN nearest sum sumN any firstFrom table tri place lower toldStep packed about kindOf before columns used zeros inRange ranked field nodes materials elements stands clean rises ordered full formed ranged judgeOne asks judgeCard judgeFrom trailer judgeRows judged square mass spread share shapeOf area b c S side² longest² thin pair u bodyOf flatOf elementOf fair areaOf formJudged elementJudged heatShare partOf addsP addsA addsLoad P A loadOf fixed held cleared w l rowFrom rowsFrom elementsFrom build rowSize heavy badRow noFactor foreign laden enough opened lentJudged boardOf rightSide residual residuals rowBound yAt forwardFrom xAt backFrom warmed addFrom correct unsettled attempts stepped carriedOn offScale closed leaves buildCall stepCall stored carriedIn power stepOn stepsOn
+unfolding cases same eqZ nearestN nearest sum sumN any firstFrom table tri place lower toldStep packed about kindOf before columns used usedBy zeros inRange ranked field nodes materials elements stands clean rises ordered full formed ranged judgeOne asks judgeCard judgeFrom trailer judgeRows judged square mass spread share shapeOf area b c S side² longest² thin pair u bodyOf flatOf elementOf fair areaOf formJudged elementJudged heatShare partOf addsP addsA addsLoad P A loadOf fixed held cleared w l rowFrom rowsFrom elementsFrom build rowSize heavy badRow noFactor foreign laden enough opened lentJudged boardOf rightSide residual residuals rowBound yAt forwardFrom xAt backFrom warmed addFrom correct unsettled attempts stepped carriedOn offScale closed leaves buildCall stepCall stored carriedIn power stepOn stepsOn
 run = refl
 
 pub all-checked : map (λ (k : Case). k .got) cases ≡ map (λ (k : Case). k .want) cases

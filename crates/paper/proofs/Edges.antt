@@ -9,7 +9,7 @@ use Rattle.whole.specs.Nearest.{nearestN, nearest}
 use Rattle.whole.specs.Sums.{sum, sumN, any, firstFrom, table}
 use Rattle.whole.specs.Packed.{tri, place, lower}
 use Rattle.paper.specs.Kinds.{about, kindOf}
-use Rattle.paper.specs.Cards.{before, columns, used, zeros, inRange, ranked, field, nodes, materials, elements}
+use Rattle.paper.specs.Cards.{before, columns, used, usedBy, zeros, inRange, ranked, field, nodes, materials, elements}
 use Rattle.paper.specs.Judge.{stands, clean, rises, ordered, full, formed, ranged, judgeOne, asks, judgeCard, judgeFrom, trailer, judgeRows, judged}
 use Rattle.paper.specs.Corners.{square, mass, spread, share, shapeOf, area}
 use Rattle.paper.specs.Triangle.{b, c, S, side², longest², thin, pair, u}
@@ -108,7 +108,7 @@ edges =
     ∷ []
 
 run : same (same eqb) (map (λ (e : Edge). e .passes ∷ e .fails ∷ []) edges) (map (λ (e : Edge). 0 ∷ e .number ∷ []) edges) ≡ true
-unfolding edges same about kindOf before columns used zeros inRange ranked stands clean rises ordered full formed ranged judgeOne asks judgeCard judgeFrom trailer judgeRows judged nearestN nearest sum sumN any firstFrom table tri place lower field nodes materials elements square mass spread share shapeOf area b c S pair u bodyOf flatOf elementOf fair formJudged elementJudged w l rowFrom rowsFrom rowSize heavy badRow noFactor laden side² longest² thin areaOf
+unfolding edges same about kindOf before columns used usedBy zeros inRange ranked stands clean rises ordered full formed ranged judgeOne asks judgeCard judgeFrom trailer judgeRows judged nearestN nearest sum sumN any firstFrom table tri place lower field nodes materials elements square mass spread share shapeOf area b c S pair u bodyOf flatOf elementOf fair formJudged elementJudged w l rowFrom rowsFrom rowSize heavy badRow noFactor laden side² longest² thin areaOf
 run = refl
 
 pub at-the-edges : map (λ (e : Edge). e .passes ∷ e .fails ∷ []) edges ≡ map (λ (e : Edge). 0 ∷ e .number ∷ []) edges

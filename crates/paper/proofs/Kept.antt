@@ -13,7 +13,7 @@ use Rattle.whole.specs.Kept.{starts, rowStarts, keptLower, keptCell, keptEntry,
 use Rattle.whole.specs.Largest.{climb}
 use Rattle.paper.specs.Refusals.{told, toldStep, toldRun, Told}
 use Rattle.paper.specs.Kinds.{about, kindOf, letterOf}
-use Rattle.paper.specs.Cards.{before, columns, used, zeros, inRange, agree, ranked, field, nodes, materials, elements, put}
+use Rattle.paper.specs.Cards.{before, columns, used, usedBy, zeros, inRange, agree, ranked, field, nodes, materials, elements, put}
 use Rattle.paper.specs.Judge.{stands, clean, rises, ordered, full, nameAt, formed, ranged, judgeOne, asks, judgeCard, judgeFrom, trailer, judgeRows, judged, answers, newJudged}
 use Rattle.paper.specs.Corners.{square, mass, spread, shapeOf, area}
 use Rattle.paper.specs.Triangle.{b, c, S, side², longest², thin, pair, u}
@@ -103,7 +103,7 @@ figures =
     ∷ []
 
 runFigures : same (same eqZ) (map (λ (x : Figure). x .got) figures) (map (λ (x : Figure). x .want) figures) ≡ true
-unfolding figures same eqZ nearestN nearest sum sumN any firstFrom table tri place lower starts rowStarts keptLower keptCell keptEntry expand shrink climb told about kindOf before columns used zeros inRange agree ranked field nodes materials elements put stands clean rises ordered full nameAt formed ranged judgeOne asks judgeCard judgeFrom trailer judgeRows judged answers newJudged square mass spread shapeOf spaceOf area b c S side² longest² thin pair u length² reaches edgeFilm bodyOf flatOf elementOf fair areaOf formJudged elementJudged partOf least addsP addsA P A fixed cleared w l rowFrom rowsFrom elementsFrom build formOf moved redone replaced rowSize heavy badRow noFactor foreign enough opened lentJudged closed leaves buildCall replaceCall corner coupled firstOf strayRow widened narrowed keptEnough lengthsJudged startsJudged keptBuild keptReplace
+unfolding figures same eqZ nearestN nearest sum sumN any firstFrom table tri place lower starts rowStarts keptLower keptCell keptEntry expand shrink climb told about kindOf before columns used usedBy zeros inRange agree ranked field nodes materials elements put stands clean rises ordered full nameAt formed ranged judgeOne asks judgeCard judgeFrom trailer judgeRows judged answers newJudged square mass spread shapeOf spaceOf area b c S side² longest² thin pair u length² reaches edgeFilm bodyOf flatOf elementOf fair areaOf formJudged elementJudged partOf least addsP addsA P A fixed cleared w l rowFrom rowsFrom elementsFrom build formOf moved redone replaced rowSize heavy badRow noFactor foreign enough opened lentJudged closed leaves buildCall replaceCall corner coupled firstOf strayRow widened narrowed keptEnough lengthsJudged startsJudged keptBuild keptReplace
 runFigures = refl
 
 pub as-kept : map (λ (x : Figure). x .got) figures ≡ map (λ (x : Figure). x .want) figures
@@ -163,7 +163,7 @@ orders =
     ∷ []
 
 runOrders : same (same eqb) (map (λ (x : Order). x .got) orders) (map (λ (x : Order). x .want) orders) ≡ true
-unfolding orders same nearestN nearest sum sumN any firstFrom table tri place lower starts rowStarts keptLower keptCell keptEntry expand shrink climb told toldStep toldRun about kindOf before columns used zeros inRange agree ranked field nodes materials elements put stands clean rises ordered full nameAt formed ranged judgeOne asks judgeCard judgeFrom trailer judgeRows judged answers newJudged square mass spread shapeOf spaceOf area b c S side² longest² thin pair u length² reaches edgeFilm bodyOf flatOf elementOf fair areaOf formJudged elementJudged partOf least addsP addsA P A fixed cleared w l rowFrom rowsFrom elementsFrom build formOf moved redone replaced rowSize heavy badRow noFactor foreign laden enough opened lentJudged offScale closed leaves buildCall replaceCall stepCall runFrom runCall corner coupled firstOf strayRow widened narrowed keptEnough lengthsJudged startsJudged keptBuild keptReplace keptStep keptRun
+unfolding orders same nearestN nearest sum sumN any firstFrom table tri place lower starts rowStarts keptLower keptCell keptEntry expand shrink climb told toldStep toldRun about kindOf before columns used usedBy zeros inRange agree ranked field nodes materials elements put stands clean rises ordered full nameAt formed ranged judgeOne asks judgeCard judgeFrom trailer judgeRows judged answers newJudged square mass spread shapeOf spaceOf area b c S side² longest² thin pair u length² reaches edgeFilm bodyOf flatOf elementOf fair areaOf formJudged elementJudged partOf least addsP addsA P A fixed cleared w l rowFrom rowsFrom elementsFrom build formOf moved redone replaced rowSize heavy badRow noFactor foreign laden enough opened lentJudged offScale closed leaves buildCall replaceCall stepCall runFrom runCall corner coupled firstOf strayRow widened narrowed keptEnough lengthsJudged startsJudged keptBuild keptReplace keptStep keptRun
 runOrders = refl
 
 pub kept-in-order : map (λ (x : Order). x .got) orders ≡ map (λ (x : Order). x .want) orders

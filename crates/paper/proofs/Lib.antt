@@ -10,3 +10,4 @@ pub mod Redone
 pub mod Solids
 pub mod Recorded
 pub mod Kept
+pub mod Changed

@@ -11,8 +11,8 @@ use Rattle.whole.specs.Sums.{sum, sumN, any, firstFrom, table}
 use Rattle.whole.specs.Packed.{tri, place, lower}
 use Rattle.paper.specs.Refusals.{told, toldStep, Told, answerOf}
 use Rattle.paper.specs.Kinds.{about, kindOf, letterOf}
-use Rattle.paper.specs.Cards.{before, columns, used, zeros, inRange, agree, ranked, field, nodes, materials, elements, put}
-use Rattle.paper.specs.Judge.{stands, clean, rises, ordered, full, nameAt, formed, ranged, judgeOne, asks, judgeCard, judgeFrom, trailer, judgeRows, judged, answers, newJudged}
+use Rattle.paper.specs.Cards.{before, columns, used, usedBy, zeros, inRange, agree, ranked, field, nodes, materials, elements, put}
+use Rattle.paper.specs.Judge.{stands, clean, rises, ordered, full, nameAt, cardNamed, formed, ranged, judgeOne, asks, judgeCard, judgeFrom, trailer, judgeRows, judged, answers, newJudged}
 use Rattle.paper.specs.Corners.{square, mass, spread, share, shapeOf, area}
 use Rattle.paper.specs.Triangle.{b, c, S, side², longest², thin, pair, u, faceFilm}
 use Rattle.paper.specs.Elements.{bodyOf, flatOf, elementOf, fair, areaOf, formJudged, elementJudged}
@@ -26,7 +26,7 @@ use Rattle.paper.specs.Step.{offScale}
 use Rattle.paper.specs.Calls.{closed, leaves, buildCall, replaceCall, stepCall, Lent, lent}
 use Rattle.paper.specs.declared.Answer.{Answer}
 use Rattle.paper.specs.declared.Stepped.{Stepped}
-use Rattle.paper.specs.declared.Kind.the-variants.{D, N, M, H, F, Z}
+use Rattle.paper.specs.declared.Kind.the-variants.{D, N, M, E, «V», H, F, C, Z}
 use Rattle.paper.proofs.Cases.{same, numbers-told}
 use Rattle.paper.proofs.Checked.{deck, node, element, right, rim, base, heated, point, material, tetra, cube, counted}
 use Rattle.paper.proofs.Edges.{sliver}
@@ -96,6 +96,14 @@ low = element 1 2 3 1000
 abbrev film : ℕ → List ℕ
 film e = letterOf F ∷ e ∷ 1 ∷ 0 ∷ 0 ∷ 0 ∷ []
 
+-- C: increment, letter, key, new values
+abbrev alter : ℕ → ℕ → ℕ → ℕ → ℕ → List ℕ
+alter k letter key v v′ = letterOf C ∷ k ∷ letter ∷ key ∷ v ∷ v′ ∷ []
+
+-- the solid deck with heat and film on its triangle, and these changes
+abbrev altered : List ℕ → List ℕ
+altered changes = block low (heat 1 3 0 ++ film 1 ++ changes)
+
 -- a flat deck of the first node's z and of kz
 abbrev risen : ℕ → ℕ → List ℕ
 risen z kz = counted 1000 (point 0 0 z ++ node 100 0 ++ node 0 100) (material 1 1 kz 1) low []
@@ -128,6 +136,23 @@ cases =
     ∷ both (says (judged (block low (heat 2 3 0)))) 0 0
     ∷ both (says (judged (block low (film 1)))) 0 0
     ∷ both (builds (block low (film 2)) 0) 4 9
+    -- a change names a card that may be changed: an E, and no V, an H that is there, no other letter
+    ∷ both (says (judged (altered (alter 1 (letterOf E) 1 1 1000)))) 0 0
+    ∷ both (says (judged (altered (alter 1 (letterOf E) 2 1 1000)))) 4 11
+    ∷ both (says (judged (altered (alter 1 (letterOf «V») 2 1 1000)))) 4 11
+    ∷ both (says (judged (altered (alter 1 (letterOf H) 1 5 0)))) 0 0
+    ∷ both (says (judged (altered (alter 1 (letterOf H) 2 5 0)))) 4 11
+    ∷ both (says (judged (altered (alter 1 88 1 5 0)))) 4 11
+    -- the last field of an H's is blank
+    ∷ both (says (judged (altered (alter 1 (letterOf H) 1 5 7)))) 3 11
+    -- increment, letter in deck order and key rise
+    ∷ both (says (judged (altered (alter 1 (letterOf H) 1 5 0 ++ alter 1 (letterOf F) 1 1 1)))) 0 0
+    ∷ both (says (judged (altered (alter 1 (letterOf F) 1 1 1 ++ alter 1 (letterOf H) 1 5 0)))) 4 12
+    ∷ both (says (judged (altered (alter 1 (letterOf F) 1 1 1 ++ alter 2 (letterOf H) 1 5 0)))) 0 0
+    ∷ both (says (judged (altered (alter 1 (letterOf H) 1 5 0 ++ alter 1 (letterOf H) 1 6 0)))) 4 12
+    -- a change is not replaced; before that its own form
+    ∷ both (says (newJudged (altered (alter 1 (letterOf H) 1 5 0)) 11 (alter 1 (letterOf H) 1 6 0))) 13 11
+    ∷ both (says (newJudged (altered (alter 1 (letterOf H) 1 5 0)) 11 (alter 1 (letterOf H) 1 6 7))) 3 11
     -- an E whose nodes differ in z, and one after a V
     ∷ both (builds (block (element 1 2 4 1000) []) 0) 4 7
     ∷ both (builds (block (element 1 4 2 1000) []) 0) 4 7
@@ -169,7 +194,7 @@ cases =
     ∷ []
 
 run : same (same eqb) (map (λ (x : Both). x .got) cases) (map (λ (x : Both). x .want) cases) ≡ true
-unfolding cases same nearestN nearest sum sumN any firstFrom table tri place lower told toldStep about kindOf before columns used zeros inRange agree ranked field nodes materials elements put stands clean rises ordered full nameAt formed ranged judgeOne asks judgeCard judgeFrom trailer judgeRows judged answers newJudged square mass spread share shapeOf area b c S pair u faceFilm bodyOf flatOf elementOf fair formJudged elementJudged partOf least addsP addsA P A fixed cleared w l rowFrom rowsFrom elementsFrom build formOf moved redone replaced rowSize heavy badRow noFactor foreign laden enough opened lentJudged offScale closed leaves buildCall replaceCall stepCall side² longest² thin areaOf
+unfolding cases same nearestN nearest sum sumN any firstFrom table tri place lower told toldStep about kindOf before columns used usedBy zeros inRange agree ranked field nodes materials elements put stands clean rises ordered full nameAt cardNamed formed ranged judgeOne asks judgeCard judgeFrom trailer judgeRows judged answers newJudged square mass spread share shapeOf area b c S pair u faceFilm bodyOf flatOf elementOf fair formJudged elementJudged partOf least addsP addsA P A fixed cleared w l rowFrom rowsFrom elementsFrom build formOf moved redone replaced rowSize heavy badRow noFactor foreign laden enough opened lentJudged offScale closed leaves buildCall replaceCall stepCall side² longest² thin areaOf
 run = refl
 
 pub in-order : map (λ (x : Both). x .got) cases ≡ map (λ (x : Both). x .want) cases

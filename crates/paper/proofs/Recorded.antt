@@ -10,12 +10,12 @@ use Rattle.whole.specs.Nearest.{nearestN, nearest}
 use Rattle.whole.specs.Sums.{sumN, firstFrom}
 use Rattle.paper.specs.Refusals.{told}
 use Rattle.paper.specs.Kinds.{about, kindOf, letterOf}
-use Rattle.paper.specs.Cards.{before, columns, used, zeros, inRange, ranked, field, outside}
-use Rattle.paper.specs.Judge.{stands, clean, rises, ordered, full, formed, ranged, judgeOne, asks, judgeCard, judgeFrom, trailer, judgeRows, judged}
+use Rattle.paper.specs.Cards.{before, columns, used, usedBy, zeros, inRange, ranked, field, outside}
+use Rattle.paper.specs.Judge.{stands, clean, rises, ordered, full, nameAt, cardNamed, formed, ranged, judgeOne, asks, judgeCard, judgeFrom, trailer, judgeRows, judged}
 use Rattle.paper.specs.Calls.{joined}
 use Rattle.paper.specs.Singles.{finite, mantissa, shift, size, value, toNearest, asField, scaled}
-use Rattle.paper.specs.Records.{halfAt, wordAt, oneUsed, bothUsed, recordCard, inTwelves, isTail, follows, fitting, recordJudged, recordsFrom, recordsJudged, firstMade, recordRow, earlyFrom, lastRow, secondRow, secondTable, roomJudged, imports, importCall}
-use Rattle.paper.specs.declared.Kind.the-variants.{D, N, M, «V», H, F, T, Z}
+use Rattle.paper.specs.Records.{halfAt, wordAt, oneUsed, bothUsed, recordCard, inTwelves, isTail, follows, fitting, recordJudged, recordsFrom, recordsJudged, firstMade, recordRow, earlyFrom, lastRow, fixedPlace, secondRow, secondTable, roomJudged, imports, importCall}
+use Rattle.paper.specs.declared.Kind.the-variants.{D, N, M, E, «V», H, F, T, C, Z}
 use Rattle.paper.proofs.Cases.{same, same-told, eqZ, eqZ-told, numbers-told}
 use Rattle.paper.proofs.Checked.{deck, element, right, rim, base, heated}
 
@@ -97,6 +97,10 @@ end n = one 0 n nought nought
 abbrev rimmed : List ℕ → ℕ → List ℕ
 rimmed loads n = deck 1000 right 1000 2400 (element 1 2 3 1000) loads n
 
+-- and a change of its element in the first increment
+abbrev thinner : List ℕ
+thinner = letterOf C ∷ 1 ∷ letterOf E ∷ 1 ∷ 1 ∷ 500 ∷ []
+
 -- a solid deck of a triangle and a tetrahedron
 abbrev high : ℕ → ℕ → ℕ → List ℕ
 high x y z = letterOf N ∷ x ∷ y ∷ z ∷ 0 ∷ 0 ∷ []
@@ -134,6 +138,9 @@ lines =
     -- H and F before G, T after it
     ∷ line (into 66 (rimmed (rim 1 2 1800 1000) 1) all)
     (refusal 0 0 ++ rimmed ((letterOf H ∷ 1 ∷ 5000000 ∷ 0 ∷ 0 ∷ 0 ∷ []) ++ (letterOf F ∷ 1 ∷ 100000 ∷ 19660800 ∷ 0 ∷ 0 ∷ []) ++ rim 1 2 1800 1000 ++ (letterOf T ∷ 2 ∷ 1 ∷ 0 ∷ 0 ∷ 0 ∷ [])) 4)
+    -- and C, of an element's card, after T
+    ∷ line (into 72 (rimmed (rim 1 2 1800 1000 ++ thinner) 2) all)
+    (refusal 0 0 ++ rimmed ((letterOf H ∷ 1 ∷ 5000000 ∷ 0 ∷ 0 ∷ 0 ∷ []) ++ (letterOf F ∷ 1 ∷ 100000 ∷ 19660800 ∷ 0 ∷ 0 ∷ []) ++ rim 1 2 1800 1000 ++ (letterOf T ∷ 2 ∷ 1 ∷ 0 ∷ 0 ∷ 0 ∷ []) ++ thinner) 5)
     -- no record but the last: the deck as it was
     ∷ line (into 48 (rimmed (rim 1 2 1800 1000) 1) (end 0)) (refusal 0 0 ++ rimmed (rim 1 2 1800 1000) 1)
     -- negative zeros, as a film's ambient too
@@ -157,7 +164,7 @@ lines =
     ∷ line (says solid (one 2 1 hundred warm ++ end 1)) (refusal 0 0) ∷ line (says solid (one 1 2 few nought ++ one 2 2 hundred warm ++ end 2)) (refusal 4 2) ∷ []
 
 run : same (same eqb) (map (λ (l : Line). l .got) lines) (map (λ (l : Line). l .want) lines) ≡ true
-unfolding lines same nearestN nearest sumN firstFrom told about kindOf before columns used zeros inRange ranked field stands clean rises ordered full formed ranged judgeOne asks judgeCard judgeFrom trailer judgeRows judged joined finite mantissa shift size value toNearest asField halfAt wordAt oneUsed bothUsed recordCard inTwelves isTail follows fitting recordJudged recordsFrom recordsJudged firstMade recordRow earlyFrom lastRow secondRow secondTable roomJudged imports
+unfolding lines same nearestN nearest sumN firstFrom told about kindOf before columns used usedBy zeros inRange ranked field stands clean rises ordered full nameAt cardNamed formed ranged judgeOne asks judgeCard judgeFrom trailer judgeRows judged joined finite mantissa shift size value toNearest asField halfAt wordAt oneUsed bothUsed recordCard inTwelves isTail follows fitting recordJudged recordsFrom recordsJudged firstMade recordRow earlyFrom lastRow fixedPlace secondRow secondTable roomJudged imports
 run = refl
 
 pub all-imported : map (λ (l : Line). l .got) lines ≡ map (λ (l : Line). l .want) lines

@@ -11,7 +11,7 @@ use Rattle.whole.specs.Packed.{tri, place, lower}
 use Rattle.whole.specs.Largest.{climb}
 use Rattle.paper.specs.Refusals.{told}
 use Rattle.paper.specs.Kinds.{about, kindOf, letterOf}
-use Rattle.paper.specs.Cards.{before, columns, used, zeros, inRange, agree, ranked, field, nodes, materials, elements, put}
+use Rattle.paper.specs.Cards.{before, columns, used, usedBy, zeros, inRange, agree, ranked, field, nodes, materials, elements, put}
 use Rattle.paper.specs.Judge.{stands, clean, rises, ordered, full, nameAt, formed, ranged, judgeOne, asks, judgeCard, judgeFrom, trailer, judgeRows, judged, answers, newJudged}
 use Rattle.paper.specs.Corners.{square, mass, spread, share, shapeOf, area}
 use Rattle.paper.specs.Triangle.{b, c, S, side², longest², thin, pair, u, faceFilm}
@@ -82,7 +82,7 @@ changes =
     ∷ []
 
 run : same (same eqZ) (map (λ (x : Change). x .got) changes) (map (λ (x : Change). x .want) changes) ≡ true
-unfolding changes same eqZ nearestN nearest sum sumN any table tri place lower about kindOf before columns used zeros inRange agree ranked field nodes materials elements put stands clean rises ordered full nameAt formed ranged judgeOne asks judgeCard judgeFrom trailer judgeRows judged answers newJudged square mass spread share shapeOf spaceOf area b c S pair u faceFilm face solid.b solid.c d sixfold solid.S solid.pair solid.u climb length² reaches edgeFilm bodyOf flatOf tetrahedronOf elementOf fair formJudged elementJudged partOf least addsP addsA P A fixed cleared w l rowFrom rowsFrom elementsFrom build formOf moved redone replaced rowSize heavy badRow noFactor foreign enough opened lentJudged closed leaves buildCall replaceCall told side² longest² thin areaOf
+unfolding changes same eqZ nearestN nearest sum sumN any table tri place lower about kindOf before columns used usedBy zeros inRange agree ranked field nodes materials elements put stands clean rises ordered full nameAt formed ranged judgeOne asks judgeCard judgeFrom trailer judgeRows judged answers newJudged square mass spread share shapeOf spaceOf area b c S pair u faceFilm face solid.b solid.c d sixfold solid.S solid.pair solid.u climb length² reaches edgeFilm bodyOf flatOf tetrahedronOf elementOf fair formJudged elementJudged partOf least addsP addsA P A fixed cleared w l rowFrom rowsFrom elementsFrom build formOf moved redone replaced rowSize heavy badRow noFactor foreign enough opened lentJudged closed leaves buildCall replaceCall told side² longest² thin areaOf
 run = refl
 
 pub as-built : map (λ (x : Change). x .got) changes ≡ map (λ (x : Change). x .want) changes

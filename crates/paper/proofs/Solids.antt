@@ -11,7 +11,7 @@ use Rattle.whole.specs.Packed.{tri, place, lower}
 use Rattle.whole.specs.Largest.{climb}
 use Rattle.paper.specs.Refusals.{numberOf, placeOf}
 use Rattle.paper.specs.Kinds.{about, kindOf, letterOf}
-use Rattle.paper.specs.Cards.{before, columns, used, zeros, inRange, ranked, field, nodes, materials, elements}
+use Rattle.paper.specs.Cards.{before, columns, used, usedBy, zeros, inRange, ranked, field, nodes, materials, elements}
 use Rattle.paper.specs.Judge as deck
 use Rattle.paper.specs.Judge.{stands, clean, rises, ordered, full, formed, ranged, judgeOne, asks, judgeCard, judgeFrom, trailer, judgeRows}
 use Rattle.paper.specs.Corners.{square, mass, spread, share, shapeOf, area}
@@ -103,7 +103,7 @@ cases =
     ∷ []
 
 run : same (same eqZ) (map (λ (k : Case). k .got) cases) (map (λ (k : Case). k .want) cases) ≡ true
-unfolding cases same eqZ nearestN nearest sum sumN any table tri place lower climb about kindOf before columns used zeros inRange ranked field nodes materials elements stands clean rises ordered full formed ranged judgeOne asks judgeCard judgeFrom trailer judgeRows deck.judged square mass spread share shapeOf spaceOf area face b c d sixfold S pair u length² reaches edgeFilm tetrahedronOf elementOf fair formJudged elementJudged heatShare partOf addsP addsA addsLoad P A loadOf fixed cleared w l rowFrom rowsFrom elementsFrom build enough closed leaves buildCall areaOf
+unfolding cases same eqZ nearestN nearest sum sumN any table tri place lower climb about kindOf before columns used usedBy zeros inRange ranked field nodes materials elements stands clean rises ordered full formed ranged judgeOne asks judgeCard judgeFrom trailer judgeRows deck.judged square mass spread share shapeOf spaceOf area face b c d sixfold S pair u length² reaches edgeFilm tetrahedronOf elementOf fair formJudged elementJudged heatShare partOf addsP addsA addsLoad P A loadOf fixed cleared w l rowFrom rowsFrom elementsFrom build enough closed leaves buildCall areaOf
 run = refl
 
 pub all-checked : map (λ (k : Case). k .got) cases ≡ map (λ (k : Case). k .want) cases

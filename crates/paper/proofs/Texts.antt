@@ -8,8 +8,8 @@ use lib.ListN.{take, drop, replicate}
 use Rattle.whole.specs.Sums.{sumN}
 use Rattle.paper.specs.Refusals.{told}
 use Rattle.paper.specs.Kinds.{about, kindOf, letterOf}
-use Rattle.paper.specs.Cards.{before, columns, used, mayBlank, zeros, inRange, field}
-use Rattle.paper.specs.Text.{digits, alone, number, blank, spaced, printed, fieldOf, noCard, fieldsFrom, cardOf, textField, textFrom, textOf}
+use Rattle.paper.specs.Cards.{before, columns, used, usedBy, mayBlank, zeros, inRange, field}
+use Rattle.paper.specs.Text.{digits, alone, number, blank, spaced, printed, fieldOf, noCard, fieldsFrom, codeIn, cardOf, textField, textFrom, textOf}
 use Rattle.paper.specs.Judge.{stands, clean, rises, ordered, full, formed, ranged, judgeOne, asks, judgeCard, judgeFrom, trailer, judgeRows, judged}
 use Rattle.paper.specs.Calls.{joined, writes, written, Written, writeCall, readsFrom, reads, readPart, readTable, Read, readCall}
 use Rattle.paper.specs.declared.Kind.the-variants.{T}
@@ -84,7 +84,7 @@ lines =
     ∷ []
 
 run : same (same (same eqb)) (map (λ (x : Line). x .got) lines) (map (λ (x : Line). x .want) lines) ≡ true
-unfolding lines same sumN told about kindOf before columns used mayBlank zeros inRange field digits alone number blank spaced printed fieldOf fieldsFrom cardOf textField textFrom textOf stands clean rises ordered full formed ranged judgeOne asks judgeCard judgeFrom trailer judgeRows judged joined writes written readsFrom reads readPart readTable
+unfolding lines same sumN told about kindOf before columns used usedBy mayBlank zeros inRange field digits alone number blank spaced printed fieldOf fieldsFrom codeIn cardOf textField textFrom textOf stands clean rises ordered full formed ranged judgeOne asks judgeCard judgeFrom trailer judgeRows judged joined writes written readsFrom reads readPart readTable
 run = refl
 
 pub as-text : map (λ (x : Line). x .got) lines ≡ map (λ (x : Line). x .want) lines

@@ -7,10 +7,10 @@ use lib.Dec.{leb, eqb}
 use lib.ListN.{length, getD, take, drop}
 use Rattle.whole.specs.Sums.{sumN}
 use Rattle.paper.specs.Ticks.{top}
-use Rattle.paper.specs.Kinds.{about, letterOf, kindAt, edge, ends}
+use Rattle.paper.specs.Kinds.{about, letterOf, kindOf, kindAt, edge, change, ends}
 use Rattle.paper.specs.declared.About.{About}
 use Rattle.paper.specs.declared.Kind.{Kind}
-use Rattle.paper.specs.declared.Kind.the-variants.{D, N, M, E, «V», H, F, G, T, Z, Other}
+use Rattle.paper.specs.declared.Kind.the-variants.{D, N, M, E, «V», H, F, G, T, C, Z, Other}
 use Rattle.paper.specs.declared.Counts.{Counts}
 
 -- the cards of each section, those before a section, and those before Z
@@ -42,6 +42,10 @@ _⋯_ a b = record { least = a; most = b; blank = false }
 abbrev pub blankOr : ℕ → Column
 blankOr b = record { least = 0; most = b; blank = true }
 
+-- whatever 8 columns hold
+abbrev pub any8 : Column
+any8 = 0 ⋯ 99999999
+
 abbrev pub within : Column → ℕ → Bool
 within c v = leb (c .least) v && leb v (c .most)
 
@@ -56,16 +60,17 @@ columns z H = (1 ⋯ z .elements) ∷ (1 ⋯ 5000000) ∷ []
 columns z F = (1 ⋯ z .elements) ∷ (1 ⋯ 100000) ∷ (0 ⋯ top) ∷ []
 columns z G = (1 ⋯ z .nodes) ∷ (1 ⋯ z .nodes) ∷ (1 ⋯ 100000) ∷ (0 ⋯ top) ∷ (1 ⋯ 4000) ∷ []
 columns z T = (1 ⋯ z .nodes) ∷ (0 ⋯ top) ∷ []
-columns z Z = (back z ⋯ back z) ∷ (3 ⋯ 96) ∷ (1 ⋯ 8) ∷ (1 ⋯ 160) ∷ (0 ⋯ 576) ∷ []
+columns z C = (1 ⋯ 100000) ∷ any8 ∷ any8 ∷ any8 ∷ any8 ∷ []
+columns z Z = (back z ⋯ back z) ∷ (3 ⋯ 96) ∷ (1 ⋯ 8) ∷ (1 ⋯ 160) ∷ (0 ⋯ 640) ∷ []
 columns z Other = []
 
 -- the columns of a card
 abbrev pub columnsOf : Counts → List ℕ → List Column
 columnsOf z card = columns z (kindAt card)
 
--- the rows of the longest table: D, 96 N, 8 M, 160 elements, 576 loads, Z
+-- the rows of the longest table: D, 96 N, 8 M, 160 elements, 640 loads, Z
 abbrev pub mostRows : ℕ
-mostRows = 842
+mostRows = 906
 
 -- no cards, of a solid deck or a flat one: the counts do not tell which fields a kind uses, nor which may be blank
 abbrev pub none : Bool → Counts
@@ -74,6 +79,10 @@ none solid = record { nodes = 0; materials = 0; elements = 0; loads = 0; solid =
 -- the fields that a kind uses, and whether field k may be blank
 unfoldable pub used : Kind → ℕ
 used kind = length (columns (none false) kind)
+
+-- those that a card uses, by its second field, which on a change is the letter of the card to change: one that gives one value leaves the last blank
+unfoldable pub usedBy : Kind → ℕ → ℕ
+usedBy kind code = used kind - cond (change (about kind) && eqb (about (kindOf code) .gives) 1) 1 0
 
 unfoldable pub mayBlank : Bool → Kind → ℕ → Bool
 mayBlank solid kind k = getD (columns (none solid) kind) k (0 ⋯ 0) .blank
@@ -100,9 +109,13 @@ agree x y (suc n) = eqb (getD x n 0) (getD y n 0) && agree x y n
 abbrev pub orderOf : List ℕ → ℕ
 orderOf card = about (kindAt card) .order
 
--- what rises within a group of loads: the key; of an edge the pair, as one number that orders pairs of nodes
+-- a change's increment, letter in deck order and key, as one number that orders such triples: a key has 27 bits, an order 4
+abbrev pub triple : List ℕ → ℕ
+triple card = (16 * getD card 1 0 + about (kindOf (getD card 2 0)) .order) * 134217728 + getD card 3 0
+
+-- what rises within a group of loads: the key; of an edge the pair, as one number that orders pairs of nodes; of a change the triple
 unfoldable pub ranked : About → List ℕ → ℕ
-ranked a card = cond (edge a) (128 * getD card 1 0 + getD card 2 0) (getD card 1 0)
+ranked a card = cond (edge a) (128 * getD card 1 0 + getD card 2 0) (cond (change a) (triple card) (getD card 1 0))
 
 abbrev pub rank : List ℕ → ℕ
 rank card = ranked (about (kindAt card)) card

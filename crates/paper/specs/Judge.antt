@@ -4,13 +4,14 @@ use mathlib.Core.List.{List}
 use Prim.Native.Nat.{ℕ, zero, suc, _+_, _-_, _*_, _%_}
 use lib.Dec.{ltb, leb, eqb}
 use lib.ListN.{length, getD}
+use Rattle.whole.specs.Sums.{firstFrom}
 use Rattle.paper.specs.Refusals.{andThen}
-use Rattle.paper.specs.Kinds.{about, aboutOf, bodies, edge, kindAt, isA}
-use Rattle.paper.specs.Cards.{before, columnsOf, used, zeros, inRange, agree, orderOf, ranked, rank, countsOf, countsAt, mostRows, rowAt, rows}
+use Rattle.paper.specs.Kinds.{about, aboutOf, bodies, edge, kindOf, kindAt, isA}
+use Rattle.paper.specs.Cards.{before, columnsOf, usedBy, zeros, inRange, agree, orderOf, ranked, rank, countsOf, countsAt, mostRows, rowAt, rows}
 use Rattle.paper.specs.declared.Answer.{Answer}
 use Rattle.paper.specs.declared.Answer.the-variants.{Done, Refused}
 use Rattle.paper.specs.declared.Refusal.the-variants.{Length, Trailer, Form, Range, Replacement}
-use Rattle.paper.specs.declared.Kind.the-variants.{D, N, M, E, «V», H, F, G, T, Z, Other}
+use Rattle.paper.specs.declared.Kind.the-variants.{D, N, M, E, «V», H, F, G, T, C, Z, Other}
 use Rattle.paper.specs.declared.Kind.{Kind}
 use Rattle.paper.specs.declared.About.{About}
 use Rattle.paper.specs.declared.Counts.{Counts}
@@ -21,7 +22,7 @@ stands z i p a = leb (before z (a .section)) i && ltb i (before z (suc (a .secti
 
 -- a card's unused fields are 0
 unfoldable pub clean : List ℕ → Bool
-clean card = zeros card (5 - used (kindAt card)) (1 + used (kindAt card))
+clean card = let used = usedBy (kindAt card) (getD card 2 0) in zeros card (5 - used) (1 + used)
 
 -- keys rise strictly within a group
 unfoldable pub rises : ℕ → ℕ → About → List ℕ → Bool
@@ -39,6 +40,10 @@ full row i a = leb (a .most) i && eqb (getD (row (i - a .most)) 0 0) (a .letter)
 unfoldable pub nameAt : Counts → (ℕ → List ℕ) → ℕ → ℕ
 nameAt z row i = cond (eqb (aboutOf (row i) .section) bodies) (suc i - before z bodies) (getD (row i) 1 0)
 
+-- the number of the first card of this letter and name among the first n rows; 0 where there is none
+unfoldable pub cardNamed : Counts → (ℕ → List ℕ) → ℕ → ℕ → ℕ → ℕ
+cardNamed z row n letter name = firstFrom n 0 (λ i. eqb (getD (row i) 0 0) letter && eqb (nameAt z row i) name)
+
 -- refusal 3: letter, and unused fields
 unfoldable pub formed : Counts → ℕ → ℕ → Bool → List ℕ → Bool
 formed z i p crowded card = stands z i p (aboutOf card) && not crowded && clean card
@@ -52,24 +57,25 @@ unfoldable pub judgeOne : Counts → ℕ → ℕ → ℕ → Bool → List ℕ �
 judgeOne z i p key crowded card =
     cond (formed z i p crowded card) (cond (ranged z p key card) Done (Refused (Range (suc i)))) (Refused (Form (suc i)))
 
--- what a card asks of those before it: E nodes of one height, F a triangle
-unfoldable pub asks : Counts → (ℕ → List ℕ) → List ℕ → Kind → Bool
-asks z row card D = true
-asks z row card N = true
-asks z row card M = true
-asks z row card E = let height : ℕ → ℕ = λ k. getD (row (getD card k 0)) 3 0 in eqb (height 1) (height 2) && eqb (height 1) (height 3)
-asks z row card «V» = true
-asks z row card H = true
-asks z row card F = isA E (row (before z bodies + getD card 1 0 - 1))
-asks z row card G = true
-asks z row card T = true
-asks z row card Z = true
-asks z row card Other = true
+-- what a card in row i asks of those before it: E nodes of one height, F a triangle, C a card that it may change
+unfoldable pub asks : Counts → (ℕ → List ℕ) → ℕ → List ℕ → Kind → Bool
+asks z row i card D = true
+asks z row i card N = true
+asks z row i card M = true
+asks z row i card E = let height : ℕ → ℕ = λ k. getD (row (getD card k 0)) 3 0 in eqb (height 1) (height 2) && eqb (height 1) (height 3)
+asks z row i card «V» = true
+asks z row i card H = true
+asks z row i card F = isA E (row (before z bodies + getD card 1 0 - 1))
+asks z row i card G = true
+asks z row i card T = true
+asks z row i card C = leb 1 (about (kindOf (getD card 2 0)) .gives) && leb 1 (cardNamed z row i (getD card 2 0) (getD card 3 0))
+asks z row i card Z = true
+asks z row i card Other = true
 
 -- the card in row i, its own tests first: they all give one number and one place
 unfoldable pub judgeCard : Counts → (ℕ → List ℕ) → ℕ → ℕ → ℕ → Answer
 judgeCard z row i p key =
-    andThen (judgeOne z i p key (full row i (aboutOf (row i))) (row i)) (cond (asks z row (row i) (kindAt (row i))) Done (Refused (Range (suc i))))
+    andThen (judgeOne z i p key (full row i (aboutOf (row i))) (row i)) (cond (asks z row i (row i) (kindAt (row i))) Done (Refused (Range (suc i))))
 
 -- cards in turn, n of them from the i-th on: row gives each one's six numbers
 unfoldable pub judgeFrom : Counts → (ℕ → List ℕ) → ℕ → ℕ → ℕ → ℕ → Answer
@@ -99,7 +105,7 @@ answers t card new =
     let keeps = aboutOf new .keeps in
     leb 1 card && leb card (rows t) && leb 1 keeps && agree new (rowAt t (card - 1)) (1 + keeps)
 
--- 3: a letter that is none of the ten, or an unused field not 0; 13; 4
+-- 3: a letter that is none of a kind, or an unused field not 0; 13; 4
 unfoldable pub newJudged : List ℕ → ℕ → List ℕ → Answer
 newJudged t card new =
     cond (ltb (orderOf new) (about Other .order) && clean new)

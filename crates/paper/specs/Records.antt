@@ -8,7 +8,7 @@ use Rattle.whole.specs.Sums.{firstFrom}
 use Rattle.paper.specs.Ticks.{kelvin}
 use Rattle.paper.specs.Refusals.{Outcome, refused, done, when, then, andThen, answerOf, told, packed}
 use Rattle.paper.specs.Kinds.{about, kindAt, letterOf, isA}
-use Rattle.paper.specs.Cards.{before, cards, columnsOf, inRange, countsAt, rowAt, rows}
+use Rattle.paper.specs.Cards.{before, cards, columnsOf, inRange, orderOf, countsAt, rowAt, rows}
 use Rattle.paper.specs.Text.{noCard}
 use Rattle.paper.specs.Judge.{asks, judged}
 use Rattle.paper.specs.Calls.{joined, whenDone, ToC, gave}
@@ -89,9 +89,9 @@ isTail n bs = eqb (recordKind bs) 0 && eqb (recordNumber bs) n && eqb (firstBits
 unfoldable pub follows : ℕ → ℕ → List ℕ → Bool
 follows kind number bs = ltb kind (recordKind bs) || (eqb kind (recordKind bs) && ltb number (recordNumber bs))
 
--- what 4 asks of a card beside its order, of a deck that counts z: its columns, and the cards before it
+-- what 4 asks of a card beside its order, of a deck that counts z: its columns, and the cards before it; no record is a change, so its row is none
 unfoldable pub fitting : Counts → (ℕ → List ℕ) → List ℕ → Bool
-fitting z row card = inRange (columnsOf z card) card 5 0 && asks z row card (kindAt card)
+fitting z row card = inRange (columnsOf z card) card 5 0 && asks z row 0 card (kindAt card)
 
 -- a record after one of this kind and number: 16, 15, then 4
 unfoldable pub recordJudged : Counts → (ℕ → List ℕ) → ℕ → ℕ → ℕ → List ℕ → Answer
@@ -139,15 +139,25 @@ early bs = earlyFrom bs (recordCount bs) 0
 unfoldable pub lastRow : Counts → ℕ → List ℕ
 lastRow z n = letterOf Z ∷ (42 * (cards z + n)) ∷ z .nodes ∷ z .materials ∷ z .elements ∷ (z .loads + n) ∷ []
 
--- the deck's cards up to its elements, heats and films, the deck's edges, fixed nodes, Z
+-- the rows of a deck before the first of a kind that comes after the fixed nodes
+abbrev pub orAll : ℕ → ℕ → ℕ
+orAll n zero = n
+orAll n (suc i) = i
+
+unfoldable pub fixedPlace : Counts → (ℕ → List ℕ) → ℕ
+fixedPlace z row = orAll (cards z) (firstFrom (cards z) 0 (λ i. ltb (about T .order) (orderOf (row i))))
+
+-- the deck's cards up to its elements, heats and films, the deck's edges, fixed nodes, the deck's changes, Z
 unfoldable pub secondRow : Counts → (ℕ → List ℕ) → List ℕ → ℕ → List ℕ
 secondRow z row bs i =
     let base = before z (about H .section) in
+    let place = fixedPlace z row in
     let n = recordCount bs in
     cond (ltb i base) (row i)
     (cond (ltb i (base + early bs)) (recordRow bs (i - base))
-    (cond (ltb i (cards z + early bs)) (row (i - early bs))
-    (cond (ltb i (cards z + n)) (recordRow bs (i - cards z)) (lastRow z n))))
+    (cond (ltb i (place + early bs)) (row (i - early bs))
+    (cond (ltb i (place + n)) (recordRow bs (i - place))
+    (cond (ltb i (cards z + n)) (row (i - n)) (lastRow z n)))))
 
 abbrev pub secondRows : List ℕ → List ℕ → ℕ
 secondRows t bs = rows t + recordCount bs

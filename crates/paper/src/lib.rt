@@ -44,6 +44,7 @@ pub enum Kind {
     F,
     G,
     T,
+    C,
     Z,
     Other,
 }
@@ -56,6 +57,7 @@ pub struct About {
     pub keeps: usize,
     pub keys: u32,
     pub joins: usize,
+    pub gives: usize,
     pub most: usize,
 }
 

@@ -62,6 +62,7 @@ fn by_kind(k: Kind) -> Does
         Kind::F => line(0, true, false, true, false, 2),
         Kind::G => line(2, false, false, true, false, 3),
         Kind::T => line(0, false, false, false, false, 0),
+        Kind::C => line(0, false, false, false, false, 0),
         Kind::Z => line(0, false, false, false, false, 0),
         Kind::Other => line(0, false, false, false, false, 0),
     }

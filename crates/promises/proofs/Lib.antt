@@ -12,4 +12,5 @@ pub mod Step
 pub mod Book
 pub mod Kept
 pub mod KeptReplacing
+pub mod Changes
 pub mod Records

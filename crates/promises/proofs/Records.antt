@@ -13,7 +13,7 @@ use Rattle.paper.specs.Refusals.{done}
 use Rattle.paper.specs.Cards.{Column, within, before, cards, countsAt, rowAt, outside}
 use Rattle.paper.specs.Judge.{judged}
 use Rattle.paper.specs.Singles.{negative, exponent, size, toNearest, asField}
-use Rattle.paper.specs.Records.{recordCard, recordAt, recordCount, early, secondRows, importCall}
+use Rattle.paper.specs.Records.{recordCard, recordAt, recordCount, early, fixedPlace, secondRows, importCall}
 use Rattle.paper.specs.declared.Answer.the-variants.{Done, Refused}
 use Rattle.paper.specs.declared.Refusal.{Refusal}
 use Rattle.paper.proofs.Recorded as figures
@@ -57,11 +57,16 @@ module _ (table records second : List ℕ) (ok : importCall table records second
   old-cards-stay = below.import-bodies table records second ok
 
   -- so are its edges, after the heats and films
-  pub old-edges-stay : (row : ℕ) → before (countsAt table) 4 ≤ row → row < cards (countsAt table) → rowAt new (row + early records) ≡ rowAt table row
+  pub old-edges-stay : (row : ℕ) → before (countsAt table) 4 ≤ row → row < fixedPlace (countsAt table) (rowAt table) → rowAt new (row + early records) ≡ rowAt table row
   old-edges-stay = below.import-edges table records second ok
 
-  -- each record but the last has its card: before the edges, or after them
-  pub records-are-there : (k : ℕ) → k < recordCount records → recordCard (suc k) (recordAt records k) ≡ done (rowAt new (cond (ltb k (early records)) (before (countsAt table) 4 + k) (cards (countsAt table) + k)))
+  -- and its changes, after all of the records' cards
+  pub old-changes-stay : (row : ℕ) → fixedPlace (countsAt table) (rowAt table) ≤ row → row < cards (countsAt table) → rowAt new (row + recordCount records) ≡ rowAt table row
+  old-changes-stay = below.import-changes table records second ok
+
+  -- each record but the last has its card: before the edges, or between them and the changes
+  pub records-are-there : (k : ℕ) → k < recordCount records
+      → recordCard (suc k) (recordAt records k) ≡ done (rowAt new (cond (ltb k (early records)) (before (countsAt table) 4 + k) (fixedPlace (countsAt table) (rowAt table) + k)))
   records-are-there = below.import-records table records second ok
 
 -- ---- what is left

@@ -1,2 +1,4 @@
--- The laws of a run.
-mod Turns
+-- A change and a turn as the code makes them; a run past its first refusals stays past them.
+pub mod Making
+pub mod Past
+pub mod Turning

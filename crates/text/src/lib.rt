@@ -7,8 +7,8 @@ ghost use mathlib.Core.List.{List, [], _∷_, _++_};
 ghost use Prim.Native.Nat.{ℕ, _+_, _≤_, _<_};
 ghost use lib.Dec.{ltb, eqb};
 ghost use lib.ListN.{length, take, drop, replicate};
-ghost use Rattle.paper.specs.Cards.{used, mayBlank};
-ghost use Rattle.paper.specs.Text.{digits, number, blank, filled, blankElse, spaced, printed, fieldOf, fieldsFrom, cardOf, textFrom, textOf};
+ghost use Rattle.paper.specs.Cards.{used, usedBy, mayBlank};
+ghost use Rattle.paper.specs.Text.{digits, number, blank, filled, blankElse, spaced, printed, fieldOf, fieldsFrom, numberOr0, codeIn, cardOf, textFrom, textOf};
 
 // What a filled 0 is read as where a field may be blank: one more than 8 columns hold, so no column has it within.
 const OUTSIDE: u32 = 100_000_000;
@@ -95,10 +95,10 @@ fn open_of(s: &[u8]) -> Field
     f
 }
 
-// Field k of a card of a kind, which uses u.
+// Field k of a card that uses u.
 fn field_of(solid: bool, kind: Kind, u: usize, s: &[u8], k: usize) -> Field
-    requires { ⌜ (u ≡ used kind) × (length (now s) ≡ 42) × (k < 5) ⌝ }
-    ensures { λ r. ⌜ r ≡ fieldOf solid kind (now (s .entry)) k ⌝ }
+    requires { ⌜ (length (now s) ≡ 42) × (k < 5) ⌝ }
+    ensures { λ r. ⌜ r ≡ fieldOf solid kind u (now (s .entry)) k ⌝ }
 {
     let at = 1 + k * 8;
     let end = at + 8;
@@ -113,8 +113,8 @@ fn field_of(solid: bool, kind: Kind, u: usize, s: &[u8], k: usize) -> Field
 
 // The five fields, into a row that has the letter; six zeros where one is malformed.
 fn fields_of(solid: bool, kind: Kind, u: usize, s: &[u8], row: &mut [u32])
-    requires { ⌜ (u ≡ used kind) × (length (now s) ≡ 42) × (length (now row) ≡ 6) ⌝ }
-    ensures { λ _. ⌜ now (row .exit) ≡ fieldsFrom solid kind (now (s .entry)) 5 0 (now (row .entry)) ⌝ }
+    requires { ⌜ (length (now s) ≡ 42) × (length (now row) ≡ 6) ⌝ }
+    ensures { λ _. ⌜ now (row .exit) ≡ fieldsFrom solid kind u (now (s .entry)) 5 0 (now (row .entry)) ⌝ }
 {
     let mut k = 0;
     while k < 5 {
@@ -126,6 +126,29 @@ fn fields_of(solid: bool, kind: Kind, u: usize, s: &[u8], row: &mut [u32])
         row[k + 1] = v;
         k += 1;
     }
+}
+
+// A field's number; 0 where it has none.
+fn code_of(s: &[u8]) -> u32
+    requires { ⌜ length (now s) ≤ 8 ⌝ }
+    ensures { λ r. ⌜ r ≡ numberOr0 (number (now (s .entry))) ⌝ }
+{
+    let f = number_of(s);
+    let Field::Number(v) = f else {
+        return 0;
+    };
+    v
+}
+
+// The fields that a card uses, where its kind uses u: the code of a change alone is read for them.
+fn used_in(kind: Kind, u: usize, s: &[u8]) -> usize
+    requires { ⌜ (u ≡ used kind) × (length (now s) ≡ 42) ⌝ }
+    ensures { λ r. ⌜ r ≡ usedBy kind (codeIn (now (s .entry))) ⌝ }
+{
+    if !kinds::is_change(kinds::about(kind)) {
+        return u;
+    }
+    kinds::used_by(kind, code_of(&s[9..17]))
 }
 
 // A card's bytes as its six numbers; six zeros where it is malformed. They are written where they are to stand: a card
@@ -146,7 +169,7 @@ pub fn card_of(solid: bool, s: &[u8], row: &mut [u32])
         return;
     }
     kinds::row_to([letter, 0, 0, 0, 0, 0], row);
-    fields_of(solid, kind, u, s, row);
+    fields_of(solid, kind, used_in(kind, u, s), s, row);
 }
 
 // ---- printed
@@ -187,7 +210,7 @@ fn print_to(n: u32, out: &mut [u8])
     digits_to(7, n / 10, out);
 }
 
-// Whether field k of a kind, which uses u, is printed where its number is n.
+// Whether field k of a card that uses u is printed where its number is n.
 fn is_filled(solid: bool, kind: Kind, u: usize, k: usize, n: u32) -> bool
     requires { ⌜ k < 5 ⌝ }
     ensures { λ r. ⌜ r ≡ (ltb k u && not (mayBlank solid kind k && eqb n 0)) ⌝ }
@@ -213,8 +236,8 @@ fn field_to(fills: bool, n: u32, out: &mut [u8])
 
 // The five fields after the letter.
 fn fields_to(solid: bool, kind: Kind, u: usize, card: &[u32], out: &mut [u8])
-    requires { ⌜ (u ≡ used kind) × (length (now card) ≡ 6) × (length (now out) ≡ 42) ⌝ }
-    ensures { λ r. ⌜ take 41 (now (out .exit)) ≡ take 1 (now (out .entry)) ++ textFrom solid kind (now (card .entry)) 5 0 ⌝ }
+    requires { ⌜ (length (now card) ≡ 6) × (length (now out) ≡ 42) ⌝ }
+    ensures { λ r. ⌜ take 41 (now (out .exit)) ≡ take 1 (now (out .entry)) ++ textFrom solid kind u (now (card .entry)) 5 0 ⌝ }
 {
     let mut k = 0;
     while k < 5 {
@@ -233,6 +256,6 @@ pub fn card_to(solid: bool, card: &[u32], out: &mut [u8])
 {
     let kind = kinds::kind(card[0]);
     out[0] = kinds::about(kind).letter as u8;
-    fields_to(solid, kind, kinds::used_of(kind), card, out);
+    fields_to(solid, kind, kinds::used_by(kind, card[2]), card, out);
     out[41] = 10;
 }

@@ -4,6 +4,7 @@ use mathlib.Core.Bool.{Bool, true, false, cond}
 use mathlib.Core.Logic.{⊎-elim}
 use Prim.Native.Nat.{ℕ, zero, suc, _+_, _-_, _≤_, _<_}
 use native.Mathlib.Nat.{eq-or-lt-of-le}
+use native.Mathlib.Decide.{decLt}
 use native.Mathlib.Numerals.{add-one}
 use native.Mathlib.Omega.{arith}
 use Rattle.whole.specs.Sums.{firstFrom}
@@ -49,6 +50,17 @@ first-most (suc n) i f = go (f i) (first-most n (suc i) f)
     go : (b : Bool) → firstFrom n (suc i) f ≤ suc i + n → cond b (suc i) (firstFrom n (suc i) f) ≤ i + suc n
     go true h = omega arith
     go false h = omega arith
+
+-- one that is found is the first among more
+pub first-longer : (n m : ℕ) (f : ℕ → Bool) → n ≤ m → 1 ≤ firstFrom n 0 f → firstFrom m 0 f ≡ firstFrom n 0 f
+first-longer n m f l h =
+    let few = first-most n 0 f in
+    let (lo, hi) = first-upto m 0 (firstFrom n 0 f - 1) f (omega arith) (omega (arith, few)) (first-holds n 0 f h) in
+    go lo hi (decLt (firstFrom m 0 f) (firstFrom n 0 f))
+  where
+    go : 1 ≤ firstFrom m 0 f → firstFrom m 0 f ≤ suc (firstFrom n 0 f - 1) → Dec (firstFrom m 0 f < firstFrom n 0 f) → firstFrom m 0 f ≡ firstFrom n 0 f
+    go lo hi (yes q) = never (sym (first-least n 0 (firstFrom m 0 f - 1) f (omega arith) (omega arith)) ∙ first-holds m 0 f lo)
+    go lo hi (no q) = let q′ : firstFrom m 0 f < firstFrom n 0 f → ⊥ = q in omega arith
 
 -- there is none
 pub first-absent : (n i : ℕ) (f : ℕ → Bool) → ((k : ℕ) → i ≤ k → k < i + n → f k ≡ false) → firstFrom n i f ≡ 0

@@ -196,16 +196,17 @@ impl KeptLent {
     }
 
     pub fn run(&mut self) -> Ran {
-        let (temperatures, carried) = (&mut self.temperatures, &mut self.carried);
-        kept::run(
-            &self.table,
-            &self.p,
-            &self.a,
-            &self.factor,
-            &self.starts,
+        let KeptLent {
+            table,
+            p,
+            a,
+            factor,
+            work,
+            starts,
             temperatures,
             carried,
-        )
+        } = self;
+        kept::run(table, p, a, factor, work, starts, temperatures, carried)
     }
 }
 
@@ -235,6 +236,10 @@ impl Groups {
             card[0] = new(card[0]);
         }
         groups.fixed.sort_by_key(|card| card[0]);
+        for change in groups.changes.iter_mut().filter(|change| change[1] == T) {
+            change[2] = new(change[2]);
+        }
+        groups.sort_changes();
         groups
     }
 

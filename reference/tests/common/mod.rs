@@ -1,10 +1,12 @@
 //! Decks, buffers and chance for the tests.
 #![allow(dead_code, unused_imports)]
 
+mod changes;
 mod kept;
 mod records;
 mod refusing;
 
+pub use changes::*;
 pub use kept::*;
 pub use records::*;
 use reference::{Answer, Card, Ran, Refusal, Stepped};
@@ -19,6 +21,7 @@ pub const H: u32 = b'H' as u32;
 pub const F: u32 = b'F' as u32;
 pub const G: u32 = b'G' as u32;
 pub const T: u32 = b'T' as u32;
+pub const C: u32 = b'C' as u32;
 pub const Z: u32 = b'Z' as u32;
 pub const TOP: u32 = 33_554_432;
 /// The greatest magnitude of a carried residual.
@@ -125,6 +128,8 @@ pub struct Groups {
     pub films: Vec<[u32; 3]>,
     pub edges: Vec<[u32; 5]>,
     pub fixed: Vec<[u32; 2]>,
+    /// Increment, letter, key and both new values; the second is 0 of an H and a T.
+    pub changes: Vec<[u32; 5]>,
 }
 
 impl Groups {
@@ -142,6 +147,7 @@ impl Groups {
             films: vec![],
             edges: vec![],
             fixed: vec![],
+            changes: vec![],
         }
     }
 
@@ -275,7 +281,11 @@ impl Groups {
         self.fixed
             .iter()
             .for_each(|fields| table.extend(card(T, fields)));
+        self.changes
+            .iter()
+            .for_each(|fields| table.extend(card(C, fields)));
         let loads = self.heats.len() + self.films.len() + self.edges.len() + self.fixed.len();
+        let loads = loads + self.changes.len();
         let counts = [
             self.nodes.len(),
             self.materials.len(),
@@ -501,18 +511,19 @@ impl Groups {
         self.edges.truncate(160);
     }
 
-    /// As many cards of every kind as a deck may have: 96 nodes, 160 elements with heat and film on each, 160 edges, and
-    /// every node held. It builds.
+    /// As many cards of every kind as a deck may have: 96 nodes, 160 elements with heat and film on each, 160 edges,
+    /// every node held, and 64 changes. It builds.
     pub fn largest(chance: &mut Chance) -> Groups {
         let mut groups = Groups::sheet(chance, 12, 8);
         let again: Vec<[u32; 5]> = groups.elements[..6].to_vec();
         groups.elements.extend(again);
         groups.fill(chance, 160, &[1, 12]);
+        groups.change_most();
         groups
     }
 
     /// As many cards of every kind as a solid deck may have of 96 nodes: 160 elements with heat on each, ten of them triangles with
-    /// a film, 160 edges, and every node held. It builds.
+    /// a film, 160 edges, every node held, and 64 changes. It builds.
     pub fn largest_block(chance: &mut Chance) -> Groups {
         let mut groups = Groups::block(chance, 16, 3, 2);
         while groups.elements.len() < 10 {
@@ -521,6 +532,7 @@ impl Groups {
         }
         groups.elements.truncate(10);
         groups.fill(chance, 10, &[1, 16, 48]);
+        groups.change_most();
         groups
     }
 
@@ -1060,14 +1072,16 @@ impl Lent {
     }
 
     pub fn run(&mut self) -> Ran {
-        reference::run(
-            &self.table,
-            &self.p,
-            &self.a,
-            &self.factor,
-            &mut self.temperatures,
-            &mut self.carried,
-        )
+        let Lent {
+            table,
+            p,
+            a,
+            factor,
+            work,
+            temperatures,
+            carried,
+        } = self;
+        reference::run(table, p, a, factor, work, temperatures, carried)
     }
 
     /// The work slice as a build or an E, V, F or G replacement must leave it on 0, 7 and 8.
@@ -1092,7 +1106,8 @@ pub fn text_of(table: &[u32]) -> Vec<u8> {
     let solid = is_solid(table);
     for card in table.chunks_exact(6) {
         let used = match card[0] {
-            E | V | G | Z => 5,
+            C if card[2] == H || card[2] == T => 4,
+            E | V | G | C | Z => 5,
             N => 2 + usize::from(solid || card[3] != 0),
             M => 3 + usize::from(solid || card[4] != 0),
             D | F => 3,

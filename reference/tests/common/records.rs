@@ -103,12 +103,14 @@ pub fn field(bits: u32, unit: f64) -> f64 {
 }
 
 impl Groups {
-    /// Without the cards that records become.
+    /// Without the cards that records become, and without the changes of such.
     pub fn bare(&self) -> Groups {
+        let changes = self.changes.iter().copied();
         Groups {
             heats: vec![],
             films: vec![],
             fixed: vec![],
+            changes: changes.filter(|change| change[1] == E).collect(),
             ..self.clone()
         }
     }

@@ -3,6 +3,7 @@
 use crate::case::{Call, Case, Lent, Outcome};
 use crate::face::*;
 use crate::fenced::Fenced;
+use crate::packed_face::gormulast_run;
 
 impl Case {
     pub fn by_archive(&self) -> Outcome {
@@ -93,6 +94,24 @@ pub fn call(call: Call, lent: &mut Lent) -> u64 {
                 a.length(),
                 factor.pointer(),
                 factor.length(),
+                starts.pointer(),
+                starts.length(),
+                temperatures.pointer(),
+                temperatures.length(),
+                carried.pointer(),
+                carried.length(),
+            ),
+            Call::Run => gormulast_run(
+                table.pointer(),
+                table.length(),
+                p.pointer(),
+                p.length(),
+                a.pointer(),
+                a.length(),
+                factor.pointer(),
+                factor.length(),
+                work.pointer(),
+                work.length(),
                 starts.pointer(),
                 starts.length(),
                 temperatures.pointer(),

@@ -10,10 +10,11 @@ pub enum Call {
     Build,
     Replace { card: u32, new: Card },
     Step,
+    Run,
 }
 
 impl Call {
-    pub const NAMES: [&'static str; 5] = ["read", "write", "build", "replace", "step"];
+    pub const NAMES: [&'static str; 6] = ["read", "write", "build", "replace", "step", "run"];
 
     /// Its place in NAMES.
     pub fn index(self) -> usize {
@@ -23,6 +24,7 @@ impl Call {
             Call::Build => 2,
             Call::Replace { .. } => 3,
             Call::Step => 4,
+            Call::Run => 5,
         }
     }
 }
@@ -96,6 +98,9 @@ impl Case {
                 kept::replace(table, p, a, factor, work, starts, card, new).packed()
             }
             Call::Step => kept::step(table, p, a, factor, starts, temperatures, carried).packed(),
+            Call::Run => {
+                kept::run(table, p, a, factor, work, starts, temperatures, carried).packed()
+            }
         };
         Outcome { answer, lent }
     }

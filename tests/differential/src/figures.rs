@@ -1,9 +1,9 @@
 //! The checked numbers, P1 to P12, those of the edge film, of the tetrahedron, of what a step carries and of thin triangles, out of an
-//! archive alone: that of the kept form and that of the packed one. And those of starts.
+//! archive alone: that of the kept form and that of the packed one. And those of starts and of changes.
 
 use crate::archive;
 use crate::case::{Call, Lent};
-use crate::decks::{kept_of, triangle, turned, Groups, E, F, G, V};
+use crate::decks::{kept_of, triangle, turned, Groups, E, F, G, H, V};
 
 /// A call of an archive.
 type Archive = fn(Call, &mut Lent) -> u64;
@@ -389,4 +389,44 @@ pub fn rows() {
             );
         }
     }
+}
+
+/// P6 by hand: a row of A sums to 10,000 and 3 µW are a load of 65,536 a node. Ten times the heat from a step on, P12's thickness
+/// from the second; and a film of 0, which is refused as its replacement is, the thickness of the same increment kept.
+pub fn changes() {
+    let run = |steps: u32, changes: &[[u32; 5]]| {
+        let mut groups = Groups::base();
+        groups.d[2] = steps;
+        groups.heats.push([1, 3]);
+        groups.films.push([1, 1, START as u32]);
+        groups.changes = changes.to_vec();
+        let mut lent = lend(&groups);
+        assert_eq!(archive::call(Call::Build, &mut lent), 0, "changes");
+        let answer = archive::call(Call::Run, &mut lent);
+        (answer, lent)
+    };
+    for (step, ticks, residual) in [
+        (1, 66 + 65 + 66, -3_920),
+        (2, 7 + 65 + 66, -3_744),
+        (3, 7 + 6 + 66, -3_568),
+        (4, 7 + 6 + 7, -3_392),
+    ] {
+        let (answer, lent) = run(3, &[[step, H, 1, 30, 0]]);
+        assert_eq!(answer, 3 * 65_536, "a heat that changes");
+        assert_eq!(lent.temperatures[..3], [START + ticks; 3], "step {step}");
+        assert_eq!(lent.carried[..3], [residual; 3], "step {step}");
+        assert_eq!(lent.table[6 * 6 + 2], if step < 4 { 30 } else { 3 });
+        assert_eq!([lent.temperatures[3], lent.carried[3]], [PAST; 2]);
+    }
+    let thick = [12_000, 4_000, 11_000, 4_000, 5_000, 11_000];
+    let (answer, lent) = run(2, &[[2, E, 1, 1, 2_000]]);
+    assert_eq!(answer, 2 * 65_536, "a thickness that changes");
+    assert_eq!(lent.matrices[1][..6], thick, "P12 in a run");
+    assert_eq!(lent.temperatures[..3], [START + 7 + 3; 3], "P12 in a run");
+    assert_eq!(lent.carried[..3], [1_072; 3], "P12 in a run");
+    let (answer, lent) = run(2, &[[2, E, 1, 1, 2_000], [2, F, 1, 0, 0]]);
+    assert_eq!(answer, 4 + 65_536 * 8, "a film of 0");
+    assert_eq!(lent.matrices[1][..6], thick, "kept");
+    assert_eq!(lent.temperatures[..3], [START + 7; 3], "one step");
+    assert_eq!(lent.carried[..3], [-4_464; 3], "one step");
 }

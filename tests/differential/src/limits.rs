@@ -198,15 +198,15 @@ pub fn lengths(trial: &mut Trial) {
             trial.call(&mut lent, Call::Replace { card, new });
         }
     }
-    for length in [5_046, 5_051, 5_053, 5_058] {
-        let mut other = table[..5_046].to_vec();
-        other.resize(length.max(5_052) - 6, 0);
-        other.extend(&table[5_046..]);
+    for length in [5_430, 5_435, 5_437, 5_442] {
+        let mut other = table[..5_430].to_vec();
+        other.resize(length.max(5_436) - 6, 0);
+        other.extend(&table[5_430..]);
         other.truncate(length);
         each_call(trial, &other);
     }
     // A last count that may be, and one more: so many H cards never rise.
-    for count in [575, 576, 577] {
+    for count in [639, 640, 641] {
         let mut groups = Groups::base();
         groups.heats = vec![[1, 9]; count];
         each_call(trial, &groups.table());

@@ -11,6 +11,7 @@ mod decks;
 mod archive;
 mod carried;
 mod case;
+mod changes;
 mod edges;
 mod face;
 mod fenced;
@@ -19,13 +20,16 @@ mod heats;
 mod limits;
 mod met;
 mod met_carried;
+mod met_changes;
 mod met_rows;
+mod met_runs;
 mod met_solids;
 mod met_thin;
 mod packed;
 mod packed_face;
 mod plan;
 mod rows;
+mod runs;
 mod show;
 mod shrink;
 mod solids;
@@ -51,10 +55,12 @@ fn main() -> ExitCode {
     figures::all(archive::call);
     figures::all(packed::call);
     figures::rows();
-    println!("P1 to P12, the figures of the edge film, the tetrahedron, the residuals, thin triangles and starts out of the archive: as the papers have them");
+    figures::changes();
+    println!("P1 to P12, the figures of the edge film, the tetrahedron, the residuals, thin triangles, starts and changes out of the archive: as the papers have them");
     println!("seed {seed}");
     let mut trial = trial::Trial::new(seed, MOST);
-    for (name, part) in plan::LENT.into_iter().chain(plan::DAMAGED) {
+    let parts = plan::LENT.into_iter().chain(runs::ALL).chain(plan::DAMAGED);
+    for (name, part) in parts {
         let (cases, seconds) = (trial.cases(), trial.seconds());
         part(&mut trial);
         println!(

@@ -1,10 +1,11 @@
-//! What was met of G cards, of heats, of carried residuals, of solid decks, of thin triangles and of starts: counts that must not stay
-//! at zero.
+//! What was met of G cards, of heats, of carried residuals, of solid decks, of thin triangles, of starts and of C cards: counts that must
+//! not stay at zero.
 //! `tests/kernel` takes this file too.
 
 use crate::case::{Call, Lent};
 use crate::decks::{E, G, H, N};
 use crate::met_carried::{Carried, Stepped};
+use crate::met_changes::Changes;
 use crate::met_rows::{Rows, Told};
 use crate::met_solids::{Seen, Solids};
 use crate::met_thin::Thin;
@@ -25,7 +26,7 @@ const WANTED: [[bool; 6]; 5] = [
 const THINGS: [&str; 15] = [
     "decks with 160 G cards accepted",
     "161st G cards refused by 3",
-    "decks of 5,052 numbers accepted",
+    "decks of 5,436 numbers accepted",
     "decks accepted whose pairs rise by the higher node alone",
     "decks accepted whose pairs rise while the higher node falls",
     "pairs refused that rise by no node, with the same lower one",
@@ -54,6 +55,7 @@ pub struct Met {
     solids: Solids,
     thin: Thin,
     rows: Rows,
+    changes: Changes,
 }
 
 impl Met {
@@ -87,6 +89,7 @@ impl Met {
         };
         self.solids.see(&seen);
         self.thin.see(&seen);
+        self.changes.see(&seen);
         if call.index() >= 2 {
             self.rows.see(&Told {
                 call,
@@ -136,7 +139,7 @@ impl Met {
             self.heated(table);
         }
         self.count(0, edges(table).count() == 160);
-        self.count(2, table.len() == 5_052);
+        self.count(2, table.len() == 5_436);
         let pairs = || edges(table).zip(edges(table).skip(1));
         self.count(3, pairs().any(|(before, card)| before[1] == card[1]));
         self.count(4, pairs().any(|(before, card)| before[2] > card[2]));
@@ -203,6 +206,7 @@ impl Met {
         lines.extend(self.solids.lines());
         lines.extend(self.thin.lines());
         lines.extend(self.rows.lines());
+        lines.extend(self.changes.lines());
         lines
     }
 
@@ -231,6 +235,7 @@ impl Met {
         unmet.extend(self.solids.unmet());
         unmet.extend(self.thin.unmet());
         unmet.extend(self.rows.unmet());
+        unmet.extend(self.changes.unmet());
         unmet
     }
 }

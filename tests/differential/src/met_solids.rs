@@ -225,7 +225,7 @@ impl<'a> Seen<'a> {
         cards.filter(move |card| card[0] == letter)
     }
 
-    fn count(&self, letter: u32) -> usize {
+    pub fn count(&self, letter: u32) -> usize {
         self.cards(letter).count()
     }
 
@@ -238,17 +238,17 @@ impl<'a> Seen<'a> {
         self.table.chunks_exact(6).nth(number.wrapping_sub(1))
     }
 
-    fn letter(&self, number: usize) -> u32 {
+    pub fn letter(&self, number: usize) -> u32 {
         self.card(number).map_or(0, |card| card[0])
     }
 
     /// A refusal by that number at a card of that letter.
-    fn at(&self, number: u64, letter: u32) -> bool {
+    pub fn at(&self, number: u64, letter: u32) -> bool {
         self.number == number && self.letter(self.place) == letter
     }
 
     /// A field of the card that is the place.
-    fn field(&self, field: usize) -> u32 {
+    pub fn field(&self, field: usize) -> u32 {
         self.card(self.place).map_or(0, |card| card[field])
     }
 
@@ -293,7 +293,7 @@ impl<'a> Seen<'a> {
     }
 
     /// What the reader found in the columns of a field of the refused card, without the blanks before it.
-    fn spelled(&self, number: u64, letter: u32, field: usize) -> Option<&'a str> {
+    pub fn spelled(&self, number: u64, letter: u32, field: usize) -> Option<&'a str> {
         if self.call != Call::Read || !self.at(number, letter) {
             return None;
         }

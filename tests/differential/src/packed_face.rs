@@ -1,4 +1,4 @@
-//! The calls of the crate gormulast_packed: the packed form, for tests alone.
+//! The calls of the crate gormulast_packed, for tests alone: the packed form, and a run of the kept one.
 
 extern "C" {
     pub fn gormulast_packed_build(
@@ -41,6 +41,25 @@ extern "C" {
         a_length: usize,
         factor: *const i64,
         factor_length: usize,
+        temperatures: *mut i64,
+        temperatures_length: usize,
+        carried: *mut i64,
+        carried_length: usize,
+    ) -> u64;
+    /// Answers number + 65,536·place, or 65,536·steps.
+    pub fn gormulast_run(
+        table: *mut u32,
+        table_length: usize,
+        p: *mut i64,
+        p_length: usize,
+        a: *mut i64,
+        a_length: usize,
+        factor: *mut i64,
+        factor_length: usize,
+        work: *mut i64,
+        work_length: usize,
+        starts: *const u32,
+        starts_length: usize,
         temperatures: *mut i64,
         temperatures_length: usize,
         carried: *mut i64,

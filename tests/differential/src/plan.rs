@@ -2,17 +2,17 @@
 
 use crate::case::{Call, Lent};
 use crate::decks::{
-    bytes_of, firsts, kept_of, nodes_of, starts_of, Chance, Groups, D, E, F, G, H, M, N, T, TOP, V,
-    Z,
+    bytes_of, firsts, kept_of, nodes_of, starts_of, Chance, Groups, C, D, E, F, G, H, M, N, T, TOP,
+    V, Z,
 };
 use crate::trial::Trial;
-use crate::{carried, edges, heats, limits, rows, solids, thin};
+use crate::{carried, changes, edges, heats, limits, rows, solids, thin};
 use reference::Card;
 
 pub type Part = (&'static str, fn(&mut Trial));
 
 /// Decks, own buffers and foreign ones.
-pub const LENT: [Part; 40] = [
+pub const LENT: [Part; 45] = [
     ("decks read and written back", valid_decks),
     ("builds over slices short, exact and long", builds),
     ("the paper's checked decks", checked_decks),
@@ -74,11 +74,26 @@ pub const LENT: [Part; 40] = [
     ),
     ("starts damaged in each row", rows::damaged),
     ("starts from none to more than enough", rows::lengths),
+    ("C cards at their ends and past them", changes::ranges),
+    (
+        "the fifth field of a C, and every code",
+        changes::fifth_fields,
+    ),
+    ("keys with a card to change and without", changes::keys),
+    ("C cards that rise, and that don't", changes::turns),
+    (
+        "C cards where they may stand, and as many as there may be",
+        changes::places,
+    ),
 ];
 
 /// Damages come last, so that a fault in the plain work is met as such.
-pub const DAMAGED: [Part; 5] = [
+pub const DAMAGED: [Part; 6] = [
     ("every single byte of a small deck damaged", each_byte),
+    (
+        "every single byte of its C cards damaged",
+        each_byte_of_changes,
+    ),
     ("decks damaged at random", damaged_bytes),
     ("decks cut at every byte", cuts),
     ("random bytes", random_bytes),
@@ -87,7 +102,7 @@ pub const DAMAGED: [Part; 5] = [
 
 // ---- decks and buffers
 
-/// A deck of any kind: most of them build. One in three numbered by chance.
+/// A deck of any kind: most of them build. One in two with changes, one in three numbered by chance.
 pub fn deck(chance: &mut Chance) -> Vec<u32> {
     let groups = match chance.within(0, 13) {
         0 => Groups::slivers(chance),
@@ -108,6 +123,7 @@ pub fn deck(chance: &mut Chance) -> Vec<u32> {
             Groups::sheet(chance, columns, rows)
         }
     };
+    let groups = groups.varied(chance);
     match chance.one_in(3) {
         true => groups.shuffled(chance).table(),
         false => groups.table(),
@@ -165,7 +181,7 @@ pub fn lend(chance: &mut Chance, table: Vec<u32>) -> Lent {
 }
 
 /// A slice cut short, one time in some.
-fn shorten<A>(chance: &mut Chance, slice: &mut Vec<A>, length: usize) {
+pub fn shorten<A>(chance: &mut Chance, slice: &mut Vec<A>, length: usize) {
     if chance.one_in(12) {
         let less = if chance.one_in(2) {
             1
@@ -177,7 +193,7 @@ fn shorten<A>(chance: &mut Chance, slice: &mut Vec<A>, length: usize) {
 }
 
 /// Temperatures on the scale, near each other or anywhere.
-fn warm(chance: &mut Chance, temperatures: &mut [i64]) {
+pub fn warm(chance: &mut Chance, temperatures: &mut [i64]) {
     let middle = chance.within(0, TOP);
     let spread = chance.pick(&[0, 10, 1_000_000, TOP]);
     for ticks in temperatures {
@@ -252,14 +268,29 @@ fn each_byte(trial: &mut Trial) {
     }
 }
 
+fn each_byte_of_changes(trial: &mut Trial) {
+    let table = changes::each().table();
+    let mut bytes = bytes_of(&table);
+    let first = 42 * (table.len() / 6 - 5);
+    for at in first..bytes.len() - 42 {
+        let right = bytes[at];
+        for value in 0..=255 {
+            bytes[at] = value;
+            read(trial, &bytes, table.len());
+        }
+        bytes[at] = right;
+    }
+}
+
 fn damaged_bytes(trial: &mut Trial) {
     for _ in trial.times(20_000) {
         let chance = &mut trial.chance;
-        let table = match chance.within(0, 5) {
-            0 => Groups::block(chance, 2, 2, 2).table(),
-            1 | 2 => sheet(chance, 4, 3),
-            _ => Groups::wild(chance).table(),
+        let groups = match chance.within(0, 5) {
+            0 => Groups::block(chance, 2, 2, 2),
+            1 | 2 => Groups::sheet(chance, 4, 3),
+            _ => Groups::wild(chance),
         };
+        let table = groups.varied(chance).table();
         let mut bytes = bytes_of(&table);
         for _ in 0..chance.within(1, 3) {
             let at = chance.index(bytes.len());
@@ -272,7 +303,7 @@ fn damaged_bytes(trial: &mut Trial) {
 fn any_byte(chance: &mut Chance) -> u8 {
     match chance.within(0, 2) {
         0 => chance.bits() as u8,
-        _ => chance.pick(b"0123456789 \nDNMEVHFGTZ-+"),
+        _ => chance.pick(b"0123456789 \nDNMEVHFGTCZ-+"),
     }
 }
 
@@ -430,7 +461,7 @@ pub fn replacement(chance: &mut Chance, table: &[u32]) -> Call {
     }
     let mut card = index as u32 + 1;
     match chance.within(0, 40) {
-        0 => new[0] = chance.pick(&[D, N, M, E, V, H, F, G, T, Z, 0, 65]),
+        0 => new[0] = chance.pick(&[D, N, M, E, V, H, F, G, T, C, Z, 0, 65]),
         1 => new[chance.within(1, 5) as usize] = chance.unsigned(),
         2 => card = chance.unsigned(),
         3 => card = chance.pick(&[0, 1, rows as u32, rows as u32 + 1, u32::MAX]),
@@ -530,7 +561,7 @@ fn borrowed(trial: &mut Trial, lent: &mut Lent) {
 }
 
 /// A deck with buffers that are not, or not wholly, its own.
-fn strange(trial: &mut Trial) -> Lent {
+pub fn strange(trial: &mut Trial) -> Lent {
     let table = deck(&mut trial.chance);
     let (n, length) = (nodes_of(&table), kept_of(&table));
     let mut lent = lend(&mut trial.chance, table);
@@ -618,7 +649,7 @@ fn damage(chance: &mut Chance, table: &mut Vec<u32>) {
         }
         2 => table.truncate(chance.index(table.len() + 1)),
         3 => table.extend((0..chance.within(1, 13)).map(|_| 0)),
-        4 => table[row] = chance.pick(&[D, N, M, E, V, H, F, G, T, Z, 0, u32::MAX]),
+        4 => table[row] = chance.pick(&[D, N, M, E, V, H, F, G, T, C, Z, 0, u32::MAX]),
         // The trailer's own numbers.
         5 => {
             let at = table.len() - 1 - chance.index(6);
@@ -637,10 +668,12 @@ fn damage(chance: &mut Chance, table: &mut Vec<u32>) {
 
 /// Another number: beside this one, at a limit of the paper or beside it, or anything.
 fn edge(chance: &mut Chance, number: u32) -> u32 {
-    const LIMITS: [u32; 15] = [
-        0, 1, 3, 8, 96, 160, 576, 1_023, 4_000, 4_095, 5_000, 60_000, 100_000, 500_000, 5_000_000,
+    const LIMITS: [u32; 19] = [
+        0, 1, 3, 8, 69, 70, 72, 84, 96, 160, 640, 1_023, 4_000, 4_095, 5_000, 60_000, 100_000,
+        500_000, 5_000_000,
     ];
-    match chance.within(0, 4) {
+    match chance.within(0, 5) {
+        5 => 99_999_999 + chance.within(0, 1),
         0 => number.wrapping_add(1),
         1 => number.wrapping_sub(1),
         2 => chance
@@ -657,7 +690,7 @@ fn damaged_tables(trial: &mut Trial) {
         let table = if chance.one_in(20) {
             deck(chance)
         } else {
-            Groups::wild(chance).table()
+            Groups::wild(chance).varied(chance).table()
         };
         let new = replacement(chance, &table);
         let mut lent = lend(chance, table);
@@ -669,5 +702,13 @@ fn damaged_tables(trial: &mut Trial) {
         trial.call(&mut lent, Call::Build);
         trial.call(&mut lent, Call::Step);
         trial.call(&mut lent, new);
+        // D's steps may be damaged too, to as many as there may be.
+        if lent
+            .table
+            .get(3)
+            .is_some_and(|steps| !(50..=100_000).contains(steps))
+        {
+            trial.call(&mut lent, Call::Run);
+        }
     }
 }

@@ -1,7 +1,7 @@
 //! Makes a case that disagrees small, by edits after which it still does.
 
 use crate::case::{Call, Case};
-use crate::decks::{expanded, firsts, shrunk, starts_of, triangle, E, F, G, H, M, N, T, V};
+use crate::decks::{expanded, firsts, shrunk, starts_of, triangle, C, E, F, G, H, M, N, T, V};
 use std::time::{Duration, Instant};
 
 const MOST: Duration = Duration::from_secs(20);
@@ -184,7 +184,7 @@ fn without_bytes(case: &mut Case, row: usize) -> Option<()> {
         N => 1,
         M => 2,
         E | V => 3,
-        H | F | G | T => 4,
+        H | F | G | T | C => 4,
         _ => return None,
     };
     fields[count] = fields[count].checked_sub(1)?;
@@ -215,12 +215,16 @@ fn without_all(case: &mut Case, row: usize) -> Option<()> {
     }
     let element = ordinal(table, row);
     take_all(case, |_, card| {
-        (card[0] == H || card[0] == F) && card[1] == element
+        let change = card[0] == C && [E, H, F].contains(&card[2]) && card[3] == element;
+        change || ((card[0] == H || card[0] == F) && card[1] == element)
     })?;
     without(case, row)?;
     let elements = case.lent.table.chunks(6).filter(|card| is_element(card[0]));
     let corners = |card: &[u32]| card[1..4 + usize::from(card[0] == V)].to_vec();
     let used: Vec<u32> = elements.flat_map(corners).collect();
+    take_all(case, |_, card| {
+        card[0] == C && card[2] == T && !used.contains(&card[3])
+    })?;
     take_all(case, |_, card| card[0] == T && !used.contains(&card[1]))?;
     take_all(case, |_, card| {
         card[0] == G && !card[1..3].iter().all(|node| used.contains(node))
@@ -265,7 +269,7 @@ fn without(case: &mut Case, row: usize) -> Option<()> {
             N => 2,
             M => 3,
             E | V => 4,
-            H | F | G | T => 5,
+            H | F | G | T | C => 5,
             _ => return None,
         };
     table[count] = table[count].checked_sub(1)?;
@@ -326,6 +330,8 @@ fn renumber(card: &mut [u32], gone: u32, key: u32) -> Option<()> {
         (N, T) | (E | V, H | F) => &[1],
         (M, E) => &[4],
         (M, V) => &[5],
+        (N, C) if card[2] == T => &[3],
+        (E | V, C) if [E, H, F].contains(&card[2]) => &[3],
         _ => &[],
     };
     for &field in named {

@@ -3,6 +3,7 @@
 use crate::case::{Call, Case, Lent, MATRICES};
 use crate::decks::{kept_of, nodes_of, Chance, NUMBERS};
 use crate::met::Met;
+use crate::met_runs::Runs;
 use crate::show;
 use crate::shrink::shrink;
 use crate::{carried, rows};
@@ -15,8 +16,9 @@ const EFFORT: u32 = 8;
 pub struct Trial {
     pub chance: Chance,
     /// Cases by call and by number: 0 is acceptance.
-    met: [[u64; NUMBERS]; 5],
+    met: [[u64; NUMBERS]; 6],
     things: Met,
+    runs: Runs,
     /// Decks after replacements that were compared with a fresh build.
     fresh: u64,
     began: Instant,
@@ -27,8 +29,9 @@ impl Trial {
     pub fn new(seed: u64, most: Duration) -> Trial {
         Trial {
             chance: Chance::seeded(seed),
-            met: [[0; NUMBERS]; 5],
+            met: [[0; NUMBERS]; 6],
             things: Met::default(),
+            runs: Runs::default(),
             fresh: 0,
             began: Instant::now(),
             most,
@@ -41,7 +44,7 @@ impl Trial {
         (0..EFFORT * count).take_while(move |_| began.elapsed() < most)
     }
 
-    /// Runs one case on both. Where its deck is one, a step also with residuals of any number and size in the place of its own; and
+    /// Runs one case on both. Where its deck is one, a step and a run also with residuals of any number and size in the place of its own; and
     /// in some cases each call that takes starts with others.
     pub fn call(&mut self, lent: &mut Lent, call: Call) -> u64 {
         let other = lent.clone();
@@ -49,7 +52,7 @@ impl Trial {
         if call.index() < 2 || (1..=4).contains(&(answer & 255)) {
             return answer;
         }
-        if call == Call::Step {
+        if call.index() >= 4 {
             let mut other = other.clone();
             other.carried = carried::any(&mut self.chance, &other);
             self.once(&mut other, call);
@@ -79,7 +82,10 @@ impl Trial {
             exit(1);
         }
         self.met[call.index()][(ours.answer & 255) as usize] += 1;
-        self.things.see(call, &case.lent, &ours.lent, ours.answer);
+        match call {
+            Call::Run => self.runs.see(&case.lent, &ours),
+            _ => self.things.see(call, &case.lent, &ours.lent, ours.answer),
+        }
         *lent = ours.lent;
         ours.answer
     }
@@ -115,6 +121,11 @@ impl Trial {
         self.things.as_built(replaced);
     }
 
+    /// A run of that many changes was the same as the evening by fresh builds.
+    pub fn as_by_hand(&mut self, changes: usize) {
+        self.runs.as_by_hand(changes);
+    }
+
     pub fn fresh(&self) -> u64 {
         self.fresh
     }
@@ -132,7 +143,7 @@ impl Trial {
         self.met.iter().flatten().sum()
     }
 
-    /// Prints what was met. Was every refusal, and all of G, of heats, of residuals, of V, of thin triangles and of starts?
+    /// Prints what was met. Was every refusal, and all of G, of heats, of residuals, of V, of thin triangles, of starts, of C and of runs?
     pub fn report(&self) -> bool {
         print!("{:8} {:>8} {:>8}", "call", "cases", "done");
         (1..NUMBERS).for_each(|number| print!(" {number:>6}"));
@@ -154,7 +165,9 @@ impl Trial {
             .lines()
             .iter()
             .for_each(|line| println!("{line}"));
-        let things = self.things.unmet();
+        self.runs.lines().iter().for_each(|line| println!("{line}"));
+        let mut things = self.things.unmet();
+        things.extend(self.runs.unmet());
         things.iter().for_each(|thing| println!("not met: {thing}"));
         unmet.is_empty() && things.is_empty()
     }

@@ -1,7 +1,7 @@
 //! What the cases met. Each thing must be met.
 
 use crate::case::{Case, Outcome};
-use crate::decks::{field, is_solid, kind::*, Record, E, F, G, H, INFINITY, SIGN, T, UNITS, V};
+use crate::decks::{field, is_solid, kind::*, Record, C, E, F, G, H, INFINITY, SIGN, T, UNITS, V};
 
 /// A case with what it answered, taken apart.
 struct Seen<'a> {
@@ -142,7 +142,7 @@ fn is_subnormal(bits: u32) -> bool {
     f32::from_bits(bits).is_subnormal()
 }
 
-const THINGS: [Thing; 66] = [
+const THINGS: [Thing; 70] = [
     ("an exact half of a µW", |s| s.value(0, is_half)),
     ("one just under it", |s| s.value(0, is_under)),
     ("an exact half of a mW", |s| s.value(1, is_half)),
@@ -199,7 +199,18 @@ const THINGS: [Thing; 66] = [
     ("no record but the last", |s| {
         s.done() && s.records.len() == 1
     }),
-    ("842 cards", |s| s.done() && s.wanted() == 5_052),
+    ("906 cards", |s| s.done() && s.wanted() == 5_436),
+    ("changes after new T cards", |s| {
+        s.done() && s.count(C) > 0 && s.records.iter().any(|record| record.kind == HELD)
+    }),
+    ("changes, edges and no new T card", |s| {
+        let held = s.records.iter().any(|record| record.kind == HELD);
+        s.done() && s.count(C) > 0 && s.count(G) > 0 && !held
+    }),
+    ("64 changes", |s| s.done() && s.count(C) == 64),
+    ("4 at a C, whose card only a record would be", |s| {
+        s.number == 4 && s.letter(s.place) == Some(C) && s.count(H) + s.count(F) + s.count(T) == 0
+    }),
     ("just enough room", |s| {
         s.done() && s.case.second.len() == s.wanted()
     }),

@@ -2,7 +2,7 @@
 
 use crate::case::Case;
 use crate::decks::{
-    kind::*, laid, single, with_tail, Chance, Groups, Record, D, E, F, G, H, INFINITY, M, N,
+    kind::*, laid, single, with_tail, Chance, Groups, Record, C, D, E, F, G, H, INFINITY, M, N,
     RECORD_BYTES, SIGN, T, UNITS, V, Z,
 };
 use crate::trial::Trial;
@@ -24,9 +24,9 @@ pub const PARTS: [(&str, fn(&mut Trial)); 14] = [
     ("tables damaged at random", damaged_tables),
 ];
 
-/// A deck of any kind, with loads for records to be of.
+/// A deck of any kind, with loads for records to be of, one in two with changes.
 fn deck(chance: &mut Chance) -> Groups {
-    match chance.within(0, 7) {
+    let groups = match chance.within(0, 7) {
         0 => Groups::one_of_each(),
         1 => Groups::two_solids(),
         2 => {
@@ -38,7 +38,8 @@ fn deck(chance: &mut Chance) -> Groups {
             Groups::sheet(chance, columns, rows)
         }
         _ => Groups::wild(chance),
-    }
+    };
+    groups.varied(chance)
 }
 
 /// With a second table that is one too short, just right, longer or of any length.
@@ -340,10 +341,12 @@ fn loaded(trial: &mut Trial) {
 fn largest(trial: &mut Trial) {
     for _ in 0..60 {
         let chance = &mut trial.chance;
-        let groups = match chance.one_in(2) {
+        let mut groups = match chance.one_in(2) {
             true => Groups::largest(chance),
             false => Groups::largest_block(chance),
         };
+        // Of E alone, which a deck without H, F and T can have.
+        groups.changes = (1..=64).map(|at| [at, E, 1 + at % 10, 1, 900]).collect();
         let mut records = chance.records(&groups);
         match chance.within(0, 4) {
             0 => chance.spoil(&mut records),
@@ -376,7 +379,7 @@ fn damaged_tables(trial: &mut Trial) {
         for _ in 0..chance.within(1, 2) {
             let at = chance.index(table.len());
             table[at] = match (at % 6, chance.one_in(3)) {
-                (0, false) => chance.pick(&[D, N, M, E, V, H, F, G, T, Z]),
+                (0, false) => chance.pick(&[D, N, M, E, V, H, F, G, T, C, Z]),
                 (_, false) => table[at].wrapping_add(chance.pick(&[1, u32::MAX, 42, 6])),
                 _ => chance.unsigned(),
             };

@@ -1,7 +1,9 @@
 //! What is tried, part by part.
 
+use crate::changes::each;
 use crate::decks::{
-    about_thin, bytes_of, text_of, turned, Chance, Groups, D, E, F, G, H, M, N, SIDES, T, TOP, V, Z,
+    about_thin, bytes_of, put, text_of, turned, Chance, Groups, C, D, E, F, G, H, M, N, SIDES, T,
+    TOP, V, Z,
 };
 use crate::plan::LENT;
 use crate::record::Record;
@@ -13,6 +15,7 @@ pub fn all(record: &mut Record) {
     checked_decks(record);
     a_triangle_replaced(record);
     solids(record);
+    changes(record);
     refusing_replacements(record);
     refused_steps(record);
     boards(record);
@@ -202,10 +205,53 @@ fn warmth(chance: &mut Chance) -> u32 {
 fn fault(chance: &mut Chance, card: &mut u32, new: &mut Card, cards: u32) {
     match chance.within(0, 4) {
         0 => *card = chance.pick(&[0, 1, 2, cards, cards + 1, u32::MAX]),
-        1 => new[0] = chance.pick(&[D, N, M, E, V, H, F, G, T, Z, 0, 256 + E, u32::MAX]),
+        1 => new[0] = chance.pick(&[D, N, M, E, V, H, F, G, T, C, Z, 0, 256 + E, u32::MAX]),
         2 => *card = chance.within(1, cards),
         _ => new[chance.within(1, 5) as usize] = chance.unsigned(),
     }
+}
+
+/// Decks with C cards, to which no step pays heed: read back, replaced and stepped past their increments; then each field of a C at
+/// its ends and past them, and the 65th.
+fn changes(record: &mut Record) {
+    tried(record, &each());
+    replaced(record, 20, 2);
+    record.steps(6);
+    record.back();
+    for (row, field, value) in [
+        (10, 1, 0),
+        (10, 1, 100_000),
+        (11, 1, 100_001),
+        (10, 2, V),
+        (10, 2, 0),
+        (10, 3, 0),
+        (10, 3, 2),
+        (11, 3, 2),
+        (12, 3, 1),
+        (11, 5, 0),
+        (12, 1, 4),
+        (13, 4, 99_999_999),
+        (13, 5, 99_999_999),
+        (13, 1, 1),
+    ] {
+        let mut table = each().table();
+        table[6 * row + field] = value;
+        record.deck(&text_of(&table));
+    }
+    for columns in [b"        ", b"       0", b"       7", b"      07"] {
+        for row in [10, 11] {
+            record.deck(&put(&text_of(&each().table()), row, 5, columns));
+        }
+    }
+    record.replace(11, [C, 1, E, 1, 1, 1_100]);
+    record.replace(11, [C, 1, H, 1, 9, 1]);
+    let mut many = each();
+    for count in [64, 65] {
+        many.changes = (1..=count).map(|at| [at, H, 1, 9, 0]).collect();
+        record.deck(&text_of(&many.table()));
+    }
+    record.steps(2);
+    record.back();
 }
 
 /// A second material with which the one element is refused: by 6, by 7 at a row's end, by 8.
@@ -279,7 +325,7 @@ fn largest(record: &mut Record) {
     let groups = Groups::largest(&mut record.chance);
     tried(record, &groups);
     replaced(record, 10, 5);
-    for kind in 0..6 {
+    for kind in 0..7 {
         let mut more = groups.clone();
         match kind {
             0 => more.nodes.push([0, 0]),
@@ -290,6 +336,10 @@ fn largest(record: &mut Record) {
             4 => {
                 more.heats.pop();
                 more.edges.push([95, 96, 1, 1, 1]);
+            }
+            5 => {
+                more.heats.pop();
+                more.changes.push([100_000, E, 1, 1, 1]);
             }
             _ => more.fixed.push([96, 19_000_000]),
         }
@@ -358,7 +408,7 @@ fn edges(record: &mut Record) {
 fn any_byte(chance: &mut Chance) -> u8 {
     match chance.within(0, 2) {
         0 => chance.bits() as u8,
-        _ => chance.pick(b"0123456789 \nDNMEVHFGTZ"),
+        _ => chance.pick(b"0123456789 \nDNMEVHFGTCZ"),
     }
 }
 

@@ -10,6 +10,9 @@ mod carried;
 #[path = "../../differential/src/case.rs"]
 #[allow(dead_code)]
 mod case;
+#[path = "../../differential/src/changes.rs"]
+#[allow(dead_code)]
+mod changes;
 #[path = "../../../reference/tests/common/mod.rs"]
 mod decks;
 #[path = "../../differential/src/edges.rs"]
@@ -24,6 +27,9 @@ mod met;
 #[path = "../../differential/src/met_carried.rs"]
 #[allow(dead_code)]
 mod met_carried;
+#[path = "../../differential/src/met_changes.rs"]
+#[allow(dead_code)]
+mod met_changes;
 #[path = "../../differential/src/met_rows.rs"]
 #[allow(dead_code)]
 mod met_rows;

@@ -26,7 +26,7 @@ number-at-requires-2 : tie.Need-number-at-requires-2
 number-at-requires-2 c κs = (omega (arith, c .shared-slice-known4 .given 2), omega arith)
 
 returns : tie.Need-returns
-returns c = λ z. level-not z (rowAt (c .before .before .before .before .before .before .before .args .t .now)) (c .before .before .before .before .before .before .before .args .card .now) (λ e. c .if1 .taken (c .before .before .before .number-at .ensures ∙ e ∙ sym (c .before .number-at2 .ensures)))
+returns c = λ z i. level-not z (rowAt (c .before .before .before .before .before .before .before .args .t .now)) i (c .before .before .before .before .before .before .before .args .card .now) (λ e. c .if1 .taken (c .before .before .before .number-at .ensures ∙ e ∙ sym (c .before .number-at2 .ensures)))
 
 shared-slice-read-number-at-3 : tie.Need-shared-slice-read-number-at-3
 shared-slice-read-number-at-3 c = search needs
@@ -39,8 +39,8 @@ number-at-requires-3 c κs = (omega (arith, c .shared-slice-known5 .given 3), om
 
 returns-2 : tie.Need-returns-2
 returns-2 c =
-    λ z. (λ i. eqb (c .before .before .before .before .before .number-at .ensures i) (c .number-at3 .ensures i))
-    ∙ level-is z (rowAt (c .before .before .before .before .before .before .before .before .before .args .t .now)) (c .before .before .before .before .before .before .before .before .before .args .card .now) (sym (c .before .before .before .before .before .number-at .ensures) ∙ c .before .before .if1 .left ∙ c .before .before .before .number-at2 .ensures)
+    λ z i. (λ j. eqb (c .before .before .before .before .before .number-at .ensures j) (c .number-at3 .ensures j))
+    ∙ level-is z (rowAt (c .before .before .before .before .before .before .before .before .before .args .t .now)) i (c .before .before .before .before .before .before .before .before .before .args .card .now) (sym (c .before .before .before .before .before .number-at .ensures) ∙ c .before .before .if1 .left ∙ c .before .before .before .number-at2 .ensures)
 
 pub is-level-spec : {M : Type 1} → statement M
 is-level-spec =

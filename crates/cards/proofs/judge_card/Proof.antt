@@ -9,7 +9,7 @@ use Rattle.paper.specs.Kinds.{about}
 use Rattle.paper.specs.Judge.{stands, rises, ordered}
 use Rattle.paper.specs.declared.About.{About}
 use Rattle.kinds.proofs.Sections.{small}
-use Rattle.kinds.proofs.Ranges.{card-range, card-clean, few}
+use Rattle.kinds.proofs.Ranges.{card-range, card-clean}
 use Rattle.cards.proofs.OneCard.{misplaced, one-too-many, unclean, out-of-range, unordered, unrisen, in-order}
 
 about-requires : tie.Need-about-requires
@@ -49,25 +49,14 @@ returns-2 c =
 columns-of-requires : tie.Need-columns-of-requires
 columns-of-requires c κs = search needs
 
+shared-slice-read-used-by : tie.Need-shared-slice-read-used-by
+shared-slice-read-used-by c = search needs
+
+used-by-requires : tie.Need-used-by-requires
+used-by-requires c κs = search needs
+
 is-clean-requires : tie.Need-is-clean-requires
-is-clean-requires c κs = (few (c .before .before .before .before .before .before .args .counts) (c .before .before .before .before .before .before .args .card .now) (c .before .before .before .before .before .before .pre .1) (c .columns-of .ensures), search needs)
-
-add-t18 : tie.Need-add-t18
-add-t18 c = search needs
-
-cast-t19 : tie.Need-cast-t19
-cast-t19 c = search needs
-
-returns-3 : tie.Need-returns-3
-returns-3 c =
-    let a = c .before .before .before .before .before .before .before .before .args in
-    let e = c .before .before .before .before .before .before .about .ensures ∙ ap about (c .before .before .before .before .before .before .before .before .pre .1) in
-    let s = sym (c .before .before .before .before .before .stands-at .ensures ∙ ap (stands (a .counts) (a .i) (a .group)) e) in
-    let q = sym (c .before .is-clean .ensures ∙ card-clean (a .counts) (a .card .now) (c .before .before .before .before .before .before .before .before .pre .1) (c .before .before .columns-of .ensures)) in
-    unclean (a .counts) (a .card .now) (a .i) (a .group) (a .key) (a .crowded) (s ∙ not-false _ (c .before .before .before .before .if1 .left)) (c .before .before .before .if2 .left) (q ∙ not-true _ (c .if3 .taken))
-
-in-range-requires : tie.Need-in-range-requires
-in-range-requires c κs = search needs
+is-clean-requires c κs = (c .used-by .ensures .1, search needs)
 
 add-t21 : tie.Need-add-t21
 add-t21 c = search needs
@@ -75,17 +64,16 @@ add-t21 c = search needs
 cast-t22 : tie.Need-cast-t22
 cast-t22 c = search needs
 
-returns-4 : tie.Need-returns-4
-returns-4 c =
+returns-3 : tie.Need-returns-3
+returns-3 c =
     let a = c .before .before .before .before .before .before .before .before .before .before .args in
     let e = c .before .before .before .before .before .before .before .before .about .ensures ∙ ap about (c .before .before .before .before .before .before .before .before .before .before .pre .1) in
     let s = sym (c .before .before .before .before .before .before .before .stands-at .ensures ∙ ap (stands (a .counts) (a .i) (a .group)) e) in
-    let q = sym (c .before .before .before .is-clean .ensures ∙ card-clean (a .counts) (a .card .now) (c .before .before .before .before .before .before .before .before .before .before .pre .1) (c .before .before .before .before .columns-of .ensures)) in
-    let r = sym (c .before .in-range .ensures ∙ card-range (a .counts) (a .card .now) (c .before .before .before .before .before .before .before .before .before .before .pre .1) (c .before .before .before .before .columns-of .ensures)) in
-    out-of-range (a .counts) (a .card .now) (a .i) (a .group) (a .key) (a .crowded) (s ∙ not-false _ (c .before .before .before .before .before .before .if1 .left)) (c .before .before .before .before .before .if2 .left) (q ∙ not-false _ (c .before .before .if3 .left)) (r ∙ not-true _ (c .if4 .taken))
+    let q = sym (c .before .is-clean .ensures ∙ card-clean (a .card .now) (c .before .before .before .before .before .before .before .before .before .before .pre .1) (c .before .before .used-by .ensures .0) (c .before .before .used-by .ensures .1)) in
+    unclean (a .counts) (a .card .now) (a .i) (a .group) (a .key) (a .crowded) (s ∙ not-false _ (c .before .before .before .before .before .before .if1 .left)) (c .before .before .before .before .before .if2 .left) (q ∙ not-true _ (c .if3 .taken))
 
-is-ordered-requires : tie.Need-is-ordered-requires
-is-ordered-requires c κs = search needs
+in-range-requires : tie.Need-in-range-requires
+in-range-requires c κs = search needs
 
 add-t24 : tie.Need-add-t24
 add-t24 c = search needs
@@ -93,18 +81,17 @@ add-t24 c = search needs
 cast-t25 : tie.Need-cast-t25
 cast-t25 c = search needs
 
-returns-5 : tie.Need-returns-5
-returns-5 c =
+returns-4 : tie.Need-returns-4
+returns-4 c =
     let a = c .before .before .before .before .before .before .before .before .before .before .before .before .args in
     let e = c .before .before .before .before .before .before .before .before .before .before .about .ensures ∙ ap about (c .before .before .before .before .before .before .before .before .before .before .before .before .pre .1) in
     let s = sym (c .before .before .before .before .before .before .before .before .before .stands-at .ensures ∙ ap (stands (a .counts) (a .i) (a .group)) e) in
-    let q = sym (c .before .before .before .before .before .is-clean .ensures ∙ card-clean (a .counts) (a .card .now) (c .before .before .before .before .before .before .before .before .before .before .before .before .pre .1) (c .before .before .before .before .before .before .columns-of .ensures)) in
-    let r = sym (c .before .before .before .in-range .ensures ∙ card-range (a .counts) (a .card .now) (c .before .before .before .before .before .before .before .before .before .before .before .before .pre .1) (c .before .before .before .before .before .before .columns-of .ensures)) in
-    let o = sym (c .before .is-ordered .ensures ∙ ap (λ (b : About). ordered b (a .card .now)) e) in
-    unordered (a .counts) (a .card .now) (a .i) (a .group) (a .key) (a .crowded) (s ∙ not-false _ (c .before .before .before .before .before .before .before .before .if1 .left)) (c .before .before .before .before .before .before .before .if2 .left) (q ∙ not-false _ (c .before .before .before .before .if3 .left)) (r ∙ not-false _ (c .before .before .if4 .left)) (o ∙ not-true _ (c .if5 .taken))
+    let q = sym (c .before .before .before .is-clean .ensures ∙ card-clean (a .card .now) (c .before .before .before .before .before .before .before .before .before .before .before .before .pre .1) (c .before .before .before .before .used-by .ensures .0) (c .before .before .before .before .used-by .ensures .1)) in
+    let r = sym (c .before .in-range .ensures ∙ card-range (a .counts) (a .card .now) (c .before .before .before .before .before .before .before .before .before .before .before .before .pre .1) (c .before .before .before .before .before .before .columns-of .ensures)) in
+    out-of-range (a .counts) (a .card .now) (a .i) (a .group) (a .key) (a .crowded) (s ∙ not-false _ (c .before .before .before .before .before .before .before .before .if1 .left)) (c .before .before .before .before .before .before .before .if2 .left) (q ∙ not-false _ (c .before .before .if3 .left)) (r ∙ not-true _ (c .if4 .taken))
 
-rises-from-requires : tie.Need-rises-from-requires
-rises-from-requires c κs = search needs
+is-ordered-requires : tie.Need-is-ordered-requires
+is-ordered-requires c κs = search needs
 
 add-t27 : tie.Need-add-t27
 add-t27 c = search needs
@@ -112,27 +99,46 @@ add-t27 c = search needs
 cast-t28 : tie.Need-cast-t28
 cast-t28 c = search needs
 
-returns-6 : tie.Need-returns-6
-returns-6 c =
+returns-5 : tie.Need-returns-5
+returns-5 c =
     let a = c .before .before .before .before .before .before .before .before .before .before .before .before .before .before .args in
     let e = c .before .before .before .before .before .before .before .before .before .before .before .before .about .ensures ∙ ap about (c .before .before .before .before .before .before .before .before .before .before .before .before .before .before .pre .1) in
     let s = sym (c .before .before .before .before .before .before .before .before .before .before .before .stands-at .ensures ∙ ap (stands (a .counts) (a .i) (a .group)) e) in
-    let q = sym (c .before .before .before .before .before .before .before .is-clean .ensures ∙ card-clean (a .counts) (a .card .now) (c .before .before .before .before .before .before .before .before .before .before .before .before .before .before .pre .1) (c .before .before .before .before .before .before .before .before .columns-of .ensures)) in
-    let r = sym (c .before .before .before .before .before .in-range .ensures ∙ card-range (a .counts) (a .card .now) (c .before .before .before .before .before .before .before .before .before .before .before .before .before .before .pre .1) (c .before .before .before .before .before .before .before .before .columns-of .ensures)) in
+    let q = sym (c .before .before .before .before .before .is-clean .ensures ∙ card-clean (a .card .now) (c .before .before .before .before .before .before .before .before .before .before .before .before .before .before .pre .1) (c .before .before .before .before .before .before .used-by .ensures .0) (c .before .before .before .before .before .before .used-by .ensures .1)) in
+    let r = sym (c .before .before .before .in-range .ensures ∙ card-range (a .counts) (a .card .now) (c .before .before .before .before .before .before .before .before .before .before .before .before .before .before .pre .1) (c .before .before .before .before .before .before .before .before .columns-of .ensures)) in
+    let o = sym (c .before .is-ordered .ensures ∙ ap (λ (b : About). ordered b (a .card .now)) e) in
+    unordered (a .counts) (a .card .now) (a .i) (a .group) (a .key) (a .crowded) (s ∙ not-false _ (c .before .before .before .before .before .before .before .before .before .before .if1 .left)) (c .before .before .before .before .before .before .before .before .before .if2 .left) (q ∙ not-false _ (c .before .before .before .before .if3 .left)) (r ∙ not-false _ (c .before .before .if4 .left)) (o ∙ not-true _ (c .if5 .taken))
+
+rises-from-requires : tie.Need-rises-from-requires
+rises-from-requires c κs = search needs
+
+add-t30 : tie.Need-add-t30
+add-t30 c = search needs
+
+cast-t31 : tie.Need-cast-t31
+cast-t31 c = search needs
+
+returns-6 : tie.Need-returns-6
+returns-6 c =
+    let a = c .before .before .before .before .before .before .before .before .before .before .before .before .before .before .before .before .args in
+    let e = c .before .before .before .before .before .before .before .before .before .before .before .before .before .before .about .ensures ∙ ap about (c .before .before .before .before .before .before .before .before .before .before .before .before .before .before .before .before .pre .1) in
+    let s = sym (c .before .before .before .before .before .before .before .before .before .before .before .before .before .stands-at .ensures ∙ ap (stands (a .counts) (a .i) (a .group)) e) in
+    let q = sym (c .before .before .before .before .before .before .before .is-clean .ensures ∙ card-clean (a .card .now) (c .before .before .before .before .before .before .before .before .before .before .before .before .before .before .before .before .pre .1) (c .before .before .before .before .before .before .before .before .used-by .ensures .0) (c .before .before .before .before .before .before .before .before .used-by .ensures .1)) in
+    let r = sym (c .before .before .before .before .before .in-range .ensures ∙ card-range (a .counts) (a .card .now) (c .before .before .before .before .before .before .before .before .before .before .before .before .before .before .before .before .pre .1) (c .before .before .before .before .before .before .before .before .before .before .columns-of .ensures)) in
     let o = sym (c .before .before .before .is-ordered .ensures ∙ ap (λ (b : About). ordered b (a .card .now)) e) in
     let u = sym (c .before .rises-from .ensures ∙ ap (λ (b : About). rises (a .group) (a .key) b (a .card .now)) e) in
-    unrisen (a .counts) (a .card .now) (a .i) (a .group) (a .key) (a .crowded) (s ∙ not-false _ (c .before .before .before .before .before .before .before .before .before .before .if1 .left)) (c .before .before .before .before .before .before .before .before .before .if2 .left) (q ∙ not-false _ (c .before .before .before .before .before .before .if3 .left)) (r ∙ not-false _ (c .before .before .before .before .if4 .left)) (o ∙ not-false _ (c .before .before .if5 .left)) (u ∙ not-true _ (c .if6 .taken))
+    unrisen (a .counts) (a .card .now) (a .i) (a .group) (a .key) (a .crowded) (s ∙ not-false _ (c .before .before .before .before .before .before .before .before .before .before .before .before .if1 .left)) (c .before .before .before .before .before .before .before .before .before .before .before .if2 .left) (q ∙ not-false _ (c .before .before .before .before .before .before .if3 .left)) (r ∙ not-false _ (c .before .before .before .before .if4 .left)) (o ∙ not-false _ (c .before .before .if5 .left)) (u ∙ not-true _ (c .if6 .taken))
 
 returns-7 : tie.Need-returns-7
 returns-7 c =
-    let a = c .before .before .before .before .before .before .before .before .before .before .before .before .before .before .args in
-    let e = c .before .before .before .before .before .before .before .before .before .before .before .before .about .ensures ∙ ap about (c .before .before .before .before .before .before .before .before .before .before .before .before .before .before .pre .1) in
-    let s = sym (c .before .before .before .before .before .before .before .before .before .before .before .stands-at .ensures ∙ ap (stands (a .counts) (a .i) (a .group)) e) in
-    let q = sym (c .before .before .before .before .before .before .before .is-clean .ensures ∙ card-clean (a .counts) (a .card .now) (c .before .before .before .before .before .before .before .before .before .before .before .before .before .before .pre .1) (c .before .before .before .before .before .before .before .before .columns-of .ensures)) in
-    let r = sym (c .before .before .before .before .before .in-range .ensures ∙ card-range (a .counts) (a .card .now) (c .before .before .before .before .before .before .before .before .before .before .before .before .before .before .pre .1) (c .before .before .before .before .before .before .before .before .columns-of .ensures)) in
+    let a = c .before .before .before .before .before .before .before .before .before .before .before .before .before .before .before .before .args in
+    let e = c .before .before .before .before .before .before .before .before .before .before .before .before .before .before .about .ensures ∙ ap about (c .before .before .before .before .before .before .before .before .before .before .before .before .before .before .before .before .pre .1) in
+    let s = sym (c .before .before .before .before .before .before .before .before .before .before .before .before .before .stands-at .ensures ∙ ap (stands (a .counts) (a .i) (a .group)) e) in
+    let q = sym (c .before .before .before .before .before .before .before .is-clean .ensures ∙ card-clean (a .card .now) (c .before .before .before .before .before .before .before .before .before .before .before .before .before .before .before .before .pre .1) (c .before .before .before .before .before .before .before .before .used-by .ensures .0) (c .before .before .before .before .before .before .before .before .used-by .ensures .1)) in
+    let r = sym (c .before .before .before .before .before .in-range .ensures ∙ card-range (a .counts) (a .card .now) (c .before .before .before .before .before .before .before .before .before .before .before .before .before .before .before .before .pre .1) (c .before .before .before .before .before .before .before .before .before .before .columns-of .ensures)) in
     let o = sym (c .before .before .before .is-ordered .ensures ∙ ap (λ (b : About). ordered b (a .card .now)) e) in
     let u = sym (c .before .rises-from .ensures ∙ ap (λ (b : About). rises (a .group) (a .key) b (a .card .now)) e) in
-    in-order (a .counts) (a .card .now) (a .i) (a .group) (a .key) (a .crowded) (s ∙ not-false _ (c .before .before .before .before .before .before .before .before .before .before .if1 .left)) (c .before .before .before .before .before .before .before .before .before .if2 .left) (q ∙ not-false _ (c .before .before .before .before .before .before .if3 .left)) (r ∙ not-false _ (c .before .before .before .before .if4 .left)) (o ∙ not-false _ (c .before .before .if5 .left)) (u ∙ not-false _ (c .if6 .left))
+    in-order (a .counts) (a .card .now) (a .i) (a .group) (a .key) (a .crowded) (s ∙ not-false _ (c .before .before .before .before .before .before .before .before .before .before .before .before .if1 .left)) (c .before .before .before .before .before .before .before .before .before .before .before .if2 .left) (q ∙ not-false _ (c .before .before .before .before .before .before .if3 .left)) (r ∙ not-false _ (c .before .before .before .before .if4 .left)) (o ∙ not-false _ (c .before .before .if5 .left)) (u ∙ not-false _ (c .if6 .left))
 
 pub judge-card-spec : {M : Type 1} → statement M
 judge-card-spec =
@@ -147,20 +153,22 @@ judge-card-spec =
     cast-t16
     returns-2
     columns-of-requires
+    shared-slice-read-used-by
+    used-by-requires
     is-clean-requires
-    add-t18
-    cast-t19
-    returns-3
-    in-range-requires
     add-t21
     cast-t22
-    returns-4
-    is-ordered-requires
+    returns-3
+    in-range-requires
     add-t24
     cast-t25
-    returns-5
-    rises-from-requires
+    returns-4
+    is-ordered-requires
     add-t27
     cast-t28
+    returns-5
+    rises-from-requires
+    add-t30
+    cast-t31
     returns-6
     returns-7)

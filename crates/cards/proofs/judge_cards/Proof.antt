@@ -10,16 +10,17 @@ use Rattle.paper.specs.Cards.{rowAt, ranked}
 use Rattle.paper.specs.Judge.{judgeFrom}
 use Rattle.paper.specs.declared.About.{About}
 use Rattle.laws.proofs.Judging.{judge-on, judge-here, judge-end}
+use Rattle.laws.proofs.Past.{Turn, first-turn, next-turn}
 use Rattle.cards.proofs.Rows.{lent, letter-at}
 
 abbrev Inv-loop : tie.InvT-loop
-Inv-loop counts t rows i₀ group₀ key₀ i group key = (i ≤ rows) × (judgeFrom counts (rowAt t) rows 0 0 0 ≡ judgeFrom counts (rowAt t) (rows - i) i group key)
+Inv-loop counts t rows i₀ group₀ key₀ i group key = (i ≤ rows) × (judgeFrom counts (rowAt t) rows 0 0 0 ≡ judgeFrom counts (rowAt t) (rows - i) i group key) × Turn counts (rowAt t) i group key
 
 abbrev μ-loop : tie.MeasureT-loop
 μ-loop counts t rows i₀ group₀ key₀ i group key = rows - i
 
 loop-holds : tie.Need-loop-holds Inv-loop μ-loop
-loop-holds c = (search needs, rw sub-zero)
+loop-holds c = (search needs, rw sub-zero, first-turn (c .before .args .counts) (rowAt (c .before .args .t .now)))
 
 mul-at : tie.Need-mul-at Inv-loop μ-loop
 mul-at c = search needs
@@ -37,7 +38,7 @@ kind-requires : tie.Need-kind-requires Inv-loop μ-loop
 kind-requires c κs = search needs
 
 judge-row-requires : tie.Need-judge-row-requires Inv-loop μ-loop
-judge-row-requires c κs = (search needs, search needs, c .kind .ensures ∙ letter-at (c .before .before .before .before .before .args .t .now) (c .before .before .before .loop .i))
+judge-row-requires c κs = (search needs, search needs, c .kind .ensures ∙ letter-at (c .before .before .before .before .before .args .t .now) (c .before .before .before .loop .i), c .before .before .before .loop .inv .2)
 
 enum-told : tie.Need-enum-told Inv-loop μ-loop
 enum-told c = search needs
@@ -87,7 +88,7 @@ loop-again c =
     let o = ap (λ (b : About). b .order) b in
     let k = c .rank .ensures ∙ (λ j. ranked (b j) (lent t (l .i) j)) in
     let g = judge-on (a .counts) (rowAt t) (a .rows) (l .i) (l .group) (l .key) (omega arith) e in
-    (omega arith, cc (l .inv .1))
+    (omega arith, cc (l .inv .1), next-turn (a .counts) (rowAt t) (l .i) (l .group) (l .key) _ _ (l .inv .2) e o k)
 
 returns-2 : tie.Need-returns-2 Inv-loop μ-loop
 returns-2 c =

@@ -1,14 +1,16 @@
 use borrow.Author.Needs.{needs}
 use Rattle.cards.proofs.judge_row.Statement.{statement}
 use Rattle.cards.proofs.judge_row.Tie as tie
-use mathlib.Core.Path.{_≡_, sym, ap, _∙_}
+use mathlib.Core.Path.{_≡_, sym, ap, subst, _∙_}
 use mathlib.Core.List.{List}
 use borrow.Author.Tests.{not-true, not-false}
-use Prim.Native.Nat.{ℕ}
-use Rattle.paper.specs.Kinds.{about, kindAt}
-use Rattle.paper.specs.Cards.{rowAt}
-use Rattle.paper.specs.Judge.{asks}
+use Prim.Native.Nat.{ℕ, _≤_}
+use Rattle.paper.specs.Kinds.{about, aboutOf, kindAt}
+use Rattle.paper.specs.Cards.{before, rowAt}
+use Rattle.paper.specs.Judge.{full, asks}
 use Rattle.paper.specs.declared.About.{About}
+use Rattle.paper.specs.declared.Kind.{Kind}
+use Rattle.laws.proofs.Judged.{stands-told, one-told}
 use Rattle.laws.proofs.Judging.{alone-refused, asked-not, asked-done}
 use Rattle.cards.proofs.Rows.{lent, lent-card}
 
@@ -53,20 +55,26 @@ returns c =
     let e = sym (c .before .before .judge-card .ensures ∙ lent-card (a .counts) t (a .i) (a .group) (a .key) (c .before .before .before .before .is-full .ensures) b) ∙ c .enum-told2 .given .1 in
     c .enum-told2 .given .1 ∙ alone-refused (a .counts) (rowAt t) (a .i) (a .group) (a .key) _ e
 
-mul-asks-rows : tie.Need-mul-asks-rows
-mul-asks-rows c = search needs
+mul-asks-past : tie.Need-mul-asks-past
+mul-asks-past c = search needs
 
-sub-asks-rows : tie.Need-sub-asks-rows
-sub-asks-rows c = search needs
+sub-asks-past : tie.Need-sub-asks-past
+sub-asks-past c = search needs
 
-part-asks-rows-start : tie.Need-part-asks-rows-start
-part-asks-rows-start c = search needs
+part-asks-past-start : tie.Need-part-asks-past-start
+part-asks-past-start c = search needs
 
-part-asks-rows-end : tie.Need-part-asks-rows-end
-part-asks-rows-end c = search needs
+part-asks-past-end : tie.Need-part-asks-past-end
+part-asks-past-end c = search needs
 
-asks-rows-requires : tie.Need-asks-rows-requires
-asks-rows-requires c κs = search needs
+asks-past-requires : tie.Need-asks-past-requires
+asks-past-requires c κs =
+    let a = c .before .before .before .before .before .before .before .before .args in
+    let t = a .t .now in
+    let b = c .before .before .before .before .before .before .about .ensures ∙ ap about (c .before .before .before .before .before .before .before .before .pre .2) in
+    let e = sym (c .before .before .before .judge-card .ensures ∙ lent-card (a .counts) t (a .i) (a .group) (a .key) (c .before .before .before .before .before .is-full .ensures) b) ∙ c .before .enum-told .given .1 in
+    let p = stands-told (a .counts) (a .i) (a .group) (aboutOf (rowAt t (a .i))) (one-told (a .counts) (a .i) (a .group) (a .key) (full (rowAt t) (a .i) (aboutOf (rowAt t (a .i)))) (rowAt t (a .i)) e .place) in
+    (c .before .before .before .before .before .before .before .before .pre .3 .past, subst (λ (k : Kind). before (a .counts) (about k .section) ≤ a .i) (sym (c .before .before .before .before .before .before .before .before .pre .2)) (p .lo), c .before .before .before .before .before .before .before .before .pre .0, search needs)
 
 add-t22 : tie.Need-add-t22
 add-t22 c = search needs
@@ -80,7 +88,7 @@ returns-2 c =
     let t = a .t .now in
     let b = c .before .before .before .before .before .before .before .before .about .ensures ∙ ap about (c .before .before .before .before .before .before .before .before .before .before .pre .2) in
     let e = sym (c .before .before .before .before .before .judge-card .ensures ∙ lent-card (a .counts) t (a .i) (a .group) (a .key) (c .before .before .before .before .before .before .before .is-full .ensures) b) ∙ c .before .before .before .enum-told .given .1 in
-    let q = c .before .asks-rows .ensures ∙ (λ j. asks (a .counts) (rowAt t) (lent t (a .i) j) (c .before .before .before .before .before .before .before .before .before .before .pre .2 j)) in
+    let q = c .before .asks-past .ensures ∙ (λ j. asks (a .counts) (rowAt t) (a .i) (lent t (a .i) j) (c .before .before .before .before .before .before .before .before .before .before .pre .2 j)) in
     asked-not (a .counts) (rowAt t) (a .i) (a .group) (a .key) e (sym q ∙ not-true _ (c .if1 .taken))
 
 returns-3 : tie.Need-returns-3
@@ -89,7 +97,7 @@ returns-3 c =
     let t = a .t .now in
     let b = c .before .before .before .before .before .before .before .before .about .ensures ∙ ap about (c .before .before .before .before .before .before .before .before .before .before .pre .2) in
     let e = sym (c .before .before .before .before .before .judge-card .ensures ∙ lent-card (a .counts) t (a .i) (a .group) (a .key) (c .before .before .before .before .before .before .before .is-full .ensures) b) ∙ c .before .before .before .enum-told .given .1 in
-    let q = c .before .asks-rows .ensures ∙ (λ j. asks (a .counts) (rowAt t) (lent t (a .i) j) (c .before .before .before .before .before .before .before .before .before .before .pre .2 j)) in
+    let q = c .before .asks-past .ensures ∙ (λ j. asks (a .counts) (rowAt t) (a .i) (lent t (a .i) j) (c .before .before .before .before .before .before .before .before .before .before .pre .2 j)) in
     asked-done (a .counts) (rowAt t) (a .i) (a .group) (a .key) e (sym q ∙ not-false _ (c .if1 .left))
 
 pub judge-row-spec : {M : Type 1} → statement M
@@ -108,11 +116,11 @@ judge-row-spec =
     enum-told
     enum-told-2
     returns
-    mul-asks-rows
-    sub-asks-rows
-    part-asks-rows-start
-    part-asks-rows-end
-    asks-rows-requires
+    mul-asks-past
+    sub-asks-past
+    part-asks-past-start
+    part-asks-past-end
+    asks-past-requires
     add-t22
     cast-t23
     returns-2

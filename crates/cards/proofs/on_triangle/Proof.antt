@@ -46,9 +46,9 @@ unfolding about
 returns c =
     let a = c .before .before .before .before .before .before .before .before .args in
     let b = c .before .before .before .before .cards-before .ensures ∙ ap (λ (x : About). before (a .counts) (x .section)) (c .before .before .before .before .before .about .ensures) in
-    (λ i. eqb (c .before .before .number-at .ensures i) (c .before .about2 .ensures i .letter))
+    λ i. (λ j. eqb (c .before .before .number-at .ensures j) (c .before .about2 .ensures j .letter))
     ∙ ap (λ (n : ℕ). eqb (getD (rowAt (a .t .now) (n + getD (a .card .now) 1 0 - 1)) 0 0) 69) b
-    ∙ of-triangle (a .counts) (rowAt (a .t .now)) (a .card .now)
+    ∙ of-triangle (a .counts) (rowAt (a .t .now)) i (a .card .now)
 
 pub on-triangle-spec : {M : Type 1} → statement M
 on-triangle-spec =

@@ -3,7 +3,7 @@ use Rattle.cards.proofs.rank.Statement.{statement}
 use Rattle.cards.proofs.rank.Tie as tie
 use mathlib.Core.Path.{_≡_, sym, ap, _∙_}
 use native.Mathlib.Omega.{arith}
-use Rattle.cards.proofs.OneCard.{ranked-edge, ranked-key}
+use Rattle.cards.proofs.OneCard.{ranked-edge, ranked-change, ranked-key}
 
 is-edge-requires : tie.Need-is-edge-requires
 is-edge-requires c κs = search needs
@@ -29,14 +29,23 @@ add-result c = omega (arith, c .before .shared-slice-known2 .given 1, c .shared-
 returns : tie.Need-returns
 returns c = ranked-edge (c .before .before .before .before .before .args .a) (c .before .before .before .before .before .args .card .now) (sym (c .before .before .before .is-edge .ensures) ∙ c .before .before .if1 .taken)
 
+is-change-requires : tie.Need-is-change-requires
+is-change-requires c κs = search needs
+
+triple-requires : tie.Need-triple-requires
+triple-requires c κs = search needs
+
+returns-2 : tie.Need-returns-2
+returns-2 c = c .triple .ensures ∙ ranked-change (c .before .before .before .before .before .before .args .a) (c .before .before .before .before .before .before .args .card .now) (sym (c .before .before .before .before .is-edge .ensures) ∙ c .before .before .before .if1 .left) (sym (c .before .before .is-change .ensures) ∙ c .before .if2 .taken)
+
 shared-slice-read-result-3 : tie.Need-shared-slice-read-result-3
 shared-slice-read-result-3 c = search needs
 
 cast-result-3 : tie.Need-cast-result-3
 cast-result-3 c = omega (arith, c .shared-slice-known4 .given 1)
 
-returns-2 : tie.Need-returns-2
-returns-2 c = ranked-key (c .before .before .before .before .args .a) (c .before .before .before .before .args .card .now) (sym (c .before .before .is-edge .ensures) ∙ c .before .if1 .left)
+returns-3 : tie.Need-returns-3
+returns-3 c = ranked-key (c .before .before .before .before .before .before .args .a) (c .before .before .before .before .before .before .args .card .now) (sym (c .before .before .before .before .is-edge .ensures) ∙ c .before .before .before .if1 .left) (sym (c .before .before .is-change .ensures) ∙ c .before .if2 .left)
 
 pub rank-spec : {M : Type 1} → statement M
 rank-spec =
@@ -50,6 +59,9 @@ rank-spec =
     cast-result-2
     add-result
     returns
+    is-change-requires
+    triple-requires
+    returns-2
     shared-slice-read-result-3
     cast-result-3
-    returns-2)
+    returns-3)

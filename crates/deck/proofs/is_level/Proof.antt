@@ -38,7 +38,7 @@ height-requires-2 c κs = node-room (c .before .before .before .before .before .
 returns-2 : tie.Need-returns-2
 returns-2 c =
     let a = c .before .before .before .before .before .before .before .before .args in
-    level-not (a .counts) (cardAt (a .counts .solid) (a .s .now) (a .start)) (a .card .now) (λ e. c .if2 .taken (c .before .before .before .height .ensures ∙ e ∙ sym (c .before .height2 .ensures)))
+    λ i. level-not (a .counts) (cardAt (a .counts .solid) (a .s .now) (a .start)) i (a .card .now) (λ e. c .if2 .taken (c .before .before .before .height .ensures ∙ e ∙ sym (c .before .height2 .ensures)))
 
 shared-slice-read-height-3 : tie.Need-shared-slice-read-height-3
 shared-slice-read-height-3 c = search needs
@@ -52,8 +52,8 @@ height-requires-3 c κs = node-room (c .before .before .before .before .before .
 returns-3 : tie.Need-returns-3
 returns-3 c =
     let a = c .before .before .before .before .before .before .before .before .before .before .args in
-    (λ i. eqb (c .before .before .before .before .before .height .ensures i) (c .height3 .ensures i))
-    ∙ level-is (a .counts) (cardAt (a .counts .solid) (a .s .now) (a .start)) (a .card .now) (sym (c .before .before .before .before .before .height .ensures) ∙ c .before .before .if2 .left ∙ c .before .before .before .height2 .ensures)
+    λ i. (λ j. eqb (c .before .before .before .before .before .height .ensures j) (c .height3 .ensures j))
+    ∙ level-is (a .counts) (cardAt (a .counts .solid) (a .s .now) (a .start)) i (a .card .now) (sym (c .before .before .before .before .before .height .ensures) ∙ c .before .before .if2 .left ∙ c .before .before .before .height2 .ensures)
 
 pub is-level-spec : {M : Type 1} → statement M
 is-level-spec =

@@ -31,8 +31,8 @@ returns c =
     let e = sym (c .before .before .judge-card .ensures ∙ alone-read (a .counts) (a .s .now) (a .start) (a .i) (a .group) (a .key) (a .k) (a .card .now) (c .before .before .before .before .before .before .before .pre) (c .before .before .before .is-full .ensures) (c .before .before .before .before .about .ensures)) ∙ c .enum-told2 .given .1 in
     c .enum-told2 .given .1 ∙ alone-refused (a .counts) (cardAt (a .counts .solid) (a .s .now) (a .start)) (a .i) (a .group) (a .key) _ e
 
-asks-part-requires : tie.Need-asks-part-requires
-asks-part-requires c κs =
+asks-past-requires : tie.Need-asks-past-requires
+asks-past-requires c κs =
     let a = c .before .before .before .before .before .before .before .args in
     asking (a .counts) (a .s .now) (a .start) (a .i) (a .group) (a .key) (a .k) (a .card .now) (c .before .before .before .before .before .before .before .pre) (c .before .before .before .is-full .result) (sym (c .before .before .judge-card .ensures) ∙ c .enum-told .given .1)
 
@@ -46,14 +46,14 @@ returns-2 : tie.Need-returns-2
 returns-2 c =
     let a = c .before .before .before .before .before .before .before .before .before .args in
     let e = sym (c .before .before .before .before .judge-card .ensures ∙ alone-read (a .counts) (a .s .now) (a .start) (a .i) (a .group) (a .key) (a .k) (a .card .now) (c .before .before .before .before .before .before .before .before .before .pre) (c .before .before .before .before .before .is-full .ensures) (c .before .before .before .before .before .before .about .ensures)) ∙ c .before .before .enum-told .given .1 in
-    let q = asks-read (a .counts) (a .s .now) (a .start) (a .i) (a .group) (a .key) (a .k) (a .card .now) (c .before .before .before .before .before .before .before .before .before .pre) _ (c .before .asks-part .ensures) in
+    let q = asks-read (a .counts) (a .s .now) (a .start) (a .i) (a .group) (a .key) (a .k) (a .card .now) (c .before .before .before .before .before .before .before .before .before .pre) _ (c .before .asks-past .ensures) in
     asked-not (a .counts) (cardAt (a .counts .solid) (a .s .now) (a .start)) (a .i) (a .group) (a .key) e (sym q ∙ not-true _ (c .if1 .taken))
 
 returns-3 : tie.Need-returns-3
 returns-3 c =
     let a = c .before .before .before .before .before .before .before .before .before .args in
     let e = sym (c .before .before .before .before .judge-card .ensures ∙ alone-read (a .counts) (a .s .now) (a .start) (a .i) (a .group) (a .key) (a .k) (a .card .now) (c .before .before .before .before .before .before .before .before .before .pre) (c .before .before .before .before .before .is-full .ensures) (c .before .before .before .before .before .before .about .ensures)) ∙ c .before .before .enum-told .given .1 in
-    let q = asks-read (a .counts) (a .s .now) (a .start) (a .i) (a .group) (a .key) (a .k) (a .card .now) (c .before .before .before .before .before .before .before .before .before .pre) _ (c .before .asks-part .ensures) in
+    let q = asks-read (a .counts) (a .s .now) (a .start) (a .i) (a .group) (a .key) (a .k) (a .card .now) (c .before .before .before .before .before .before .before .before .before .pre) _ (c .before .asks-past .ensures) in
     asked-done (a .counts) (cardAt (a .counts .solid) (a .s .now) (a .start)) (a .i) (a .group) (a .key) e (sym q ∙ not-false _ (c .if1 .left))
 
 pub judge-read-spec : {M : Type 1} → statement M
@@ -66,7 +66,7 @@ judge-read-spec =
     enum-told
     enum-told-2
     returns
-    asks-part-requires
+    asks-past-requires
     add-t14
     cast-t15
     returns-2

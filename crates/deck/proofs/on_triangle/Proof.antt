@@ -47,9 +47,9 @@ returns : tie.Need-returns
 unfolding about
 returns c =
     let a = c .before .before .before .before .before .before .before .before .args in
-    (λ i. eqb (c .before .before .letter .ensures i) (c .before .about2 .ensures i .letter))
+    λ i. (λ j. eqb (c .before .before .letter .ensures j) (c .before .about2 .ensures j .letter))
     ∙ ap (λ (n : ℕ). eqb (getD (a .s .now) (a .start + (n + getD (a .card .now) 1 0 - 1) * 42) 0) 69) (counted (c .before .before .before .before .before .before .before .before .args .counts) (c .before .before .before .before .cards-before .ensures) (c .before .before .before .before .before .about .ensures))
-    ∙ film-bytes (a .counts) (a .s .now) (a .start) (a .card .now) (c .before .before .before .before .before .before .before .before .pre)
+    ∙ film-bytes (a .counts) (a .s .now) (a .start) (a .card .now) (c .before .before .before .before .before .before .before .before .pre) i
 
 pub on-triangle-spec : {M : Type 1} → statement M
 on-triangle-spec =

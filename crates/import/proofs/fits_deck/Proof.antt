@@ -33,7 +33,7 @@ returns-2 : tie.Need-returns-2
 returns-2 c =
     let a = c .before .before .before .before .before .before .before .before .args in
     let r = sym (c .before .before .in-range .ensures ∙ card-range (a .counts) (a .card .now) (c .before .before .before .before .kind .ensures) (c .before .before .before .columns-of .ensures)) in
-    c .asks-rows .ensures ∙ ap (asks (a .counts) (rowAt (a .t .now)) (a .card .now)) (c .before .before .before .before .kind .ensures) ∙ fitting-on (a .counts) (rowAt (a .t .now)) (a .card .now) (r ∙ not-false _ (c .before .if1 .left))
+    c .asks-rows .ensures 0 (λ q. c .before .before .before .before .before .before .before .before .pre .1 (sym (c .before .before .before .before .kind .ensures) ∙ q)) ∙ ap (asks (a .counts) (rowAt (a .t .now)) 0 (a .card .now)) (c .before .before .before .before .kind .ensures) ∙ fitting-on (a .counts) (rowAt (a .t .now)) (a .card .now) (r ∙ not-false _ (c .before .if1 .left))
 
 pub fits-deck-spec : {M : Type 1} → statement M
 fits-deck-spec =

@@ -9,7 +9,7 @@ use Rattle.paper.specs.declared.Answer.the-variants.{Done}
 use Rattle.laws.proofs.Judged.{deck}
 use Rattle.laws.proofs.Imported.{accepted}
 use Rattle.import.proofs.Turns.{sized-told}
-use Rattle.import.proofs.Rows.{placed-told, ends-refused, ends-done}
+use Rattle.import.proofs.Rows.{splits-told, placed-told, ends-refused, ends-done}
 
 judge-requires : tie.Need-judge-requires
 judge-requires c κs = search needs
@@ -25,21 +25,18 @@ returns c =
     let s = c .before .before .before .before .before .before .args .second .now in
     ap (λ (a : Answer). imported a s) (c .enum-told2 .given .1) ∙ ends-refused (c .before .before .before .before .before .before .args .table .now) (c .before .before .before .before .before .before .args .bytes .now) s _ (sym (c .before .before .judge .ensures) ∙ c .enum-told2 .given .1)
 
-sub-n : tie.Need-sub-n
-sub-n c =
-    let s = accepted (c .before .before .before .before .before .before .args .table .now) (c .before .before .before .before .before .before .args .bytes .now) _ (sym (c .before .before .judge .ensures) ∙ c .enum-told .given .1) in
-    omega (arith, sized-told (c .before .before .before .before .before .before .args .table .now) (c .before .before .before .before .before .before .args .bytes .now) (s .fine) (s .twelves) .all)
-
 counts-at-requires : tie.Need-counts-at-requires
 counts-at-requires c κs =
     let s = accepted (c .before .before .before .before .before .before .args .table .now) (c .before .before .before .before .before .before .args .bytes .now) _ (sym (c .before .before .judge .ensures) ∙ c .enum-told .given .1) in
     omega (arith, sized-told (c .before .before .before .before .before .before .args .table .now) (c .before .before .before .before .before .before .args .bytes .now) (s .fine) (s .twelves) .some)
 
-early-requires : tie.Need-early-requires
-early-requires c κs =
+sub-n : tie.Need-sub-n
+sub-n c =
     let s = accepted (c .before .before .before .before .before .before .before .args .table .now) (c .before .before .before .before .before .before .before .args .bytes .now) _ (sym (c .before .before .before .judge .ensures) ∙ c .before .enum-told .given .1) in
-    let z = sized-told (c .before .before .before .before .before .before .before .args .table .now) (c .before .before .before .before .before .before .before .args .bytes .now) (s .fine) (s .twelves) in
-    (omega (arith, z .all), z .most)
+    omega (arith, sized-told (c .before .before .before .before .before .before .before .args .table .now) (c .before .before .before .before .before .before .before .args .bytes .now) (s .fine) (s .twelves) .all)
+
+split-deck-requires : tie.Need-split-deck-requires
+split-deck-requires c κs = splits-told (c .before .before .before .before .before .before .before .args .table .now) (c .before .before .before .before .before .before .before .args .bytes .now) _ (c .counts-at .result) (sym (c .before .before .before .judge .ensures) ∙ c .before .enum-told .given .1) (c .counts-at .ensures)
 
 add-second-to : tie.Need-add-second-to
 add-second-to c =
@@ -52,7 +49,7 @@ second-to-requires c κs =
     let e = sym (c .before .before .before .before .before .judge .ensures) ∙ c .before .before .before .enum-told .given .1 in
     let s = accepted (c .before .before .before .before .before .before .before .before .before .args .table .now) (c .before .before .before .before .before .before .before .before .before .args .bytes .now) _ e in
     let z = sized-told (c .before .before .before .before .before .before .before .before .before .args .table .now) (c .before .before .before .before .before .before .before .before .before .args .bytes .now) (s .fine) (s .twelves) in
-    (placed-told (c .before .before .before .before .before .before .before .before .before .args .table .now) (c .before .before .before .before .before .before .before .before .before .args .bytes .now) _ (c .before .early .result) (c .before .before .counts-at .result) e (c .before .before .counts-at .ensures) (c .before .early .ensures), s .room-is, omega (arith, z .most, deck (c .before .before .before .before .before .before .before .before .before .args .table .now) (s .fine) .few))
+    (placed-told (c .before .before .before .before .before .before .before .before .before .args .table .now) (c .before .before .before .before .before .before .before .before .before .args .bytes .now) _ (c .before .before .counts-at .result) (c .before .split-deck .result) e (c .before .before .counts-at .ensures) (c .before .split-deck .ensures), s .room-is, omega (arith, z .most, deck (c .before .before .before .before .before .before .before .before .before .args .table .now) (s .fine) .few))
 
 same-length : tie.Need-same-length
 same-length c = search needs
@@ -70,9 +67,9 @@ import-spec =
     enum-told
     enum-told-2
     returns
-    sub-n
     counts-at-requires
-    early-requires
+    sub-n
+    split-deck-requires
     add-second-to
     second-to-requires
     same-length

@@ -9,7 +9,7 @@ use Rattle.paper.specs.Cards.{rowAt}
 use Rattle.paper.specs.Records.{halfAt}
 use Rattle.paper.specs.declared.Refusal.the-variants.{Garbled, Infinite}
 use Rattle.records.specs.Decoding.{outcome, cardOf, toldOf}
-use Rattle.import.proofs.Turns.{record-refused, record-outside, record-astray, record-done}
+use Rattle.import.proofs.Turns.{no-change, record-refused, record-outside, record-astray, record-done}
 
 decode-requires : tie.Need-decode-requires
 decode-requires c κs = search needs
@@ -25,7 +25,10 @@ unfolding toldOf
 card-requires c κs = sym (ap toldOf (c .before .before .d .given .1)) ∙ c .before .before .before .before .decode .ensures .1
 
 card-fits-requires : tie.Need-card-fits-requires
-card-fits-requires c κs = search needs
+card-fits-requires c κs =
+    let a = c .before .before .before .before .before .before .before .before .args in
+    let g = ap done (c .card .ensures ∙ ap (λ (n : ℕ). cardOf n (c .before .before .before .d .given .0 .0)) (c .before .number .ensures .0)) ∙ ap (outcome (a .place) (halfAt (a .bytes .now) 2)) (sym (c .before .before .before .d .given .1)) ∙ c .before .before .before .before .before .decode .ensures .0 (a .place) in
+    no-change (a .place) (a .bytes .now) (c .card .result) g
 
 returns : tie.Need-returns
 returns c =

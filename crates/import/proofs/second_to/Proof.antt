@@ -15,10 +15,10 @@ use Rattle.paper.specs.Records.{secondRow}
 use Rattle.deck.proofs.InRows.{rows-more, rows-end}
 
 abbrev Inv-loop : tie.InvT-loop
-Inv-loop counts t bytes first n rows out₀ i₀ out i = (i ≤ rows) × (length out ≡ length out₀) × (take (i * 6) out ++ joined (secondRow counts (rowAt t) bytes) (rows - i) i ≡ joined (secondRow counts (rowAt t) bytes) rows 0) × (drop (rows * 6) out ≡ drop (rows * 6) out₀)
+Inv-loop counts s t bytes rows out₀ i₀ out i = (i ≤ rows) × (length out ≡ length out₀) × (take (i * 6) out ++ joined (secondRow counts (rowAt t) bytes) (rows - i) i ≡ joined (secondRow counts (rowAt t) bytes) rows 0) × (drop (rows * 6) out ≡ drop (rows * 6) out₀)
 
 abbrev μ-loop : tie.MeasureT-loop
-μ-loop counts t bytes first n rows out₀ i₀ out i = rows - i
+μ-loop counts s t bytes rows out₀ i₀ out i = rows - i
 
 loop-holds : tie.Need-loop-holds Inv-loop μ-loop
 loop-holds c = (search needs, refl, rw sub-zero, refl)

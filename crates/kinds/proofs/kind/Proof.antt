@@ -20,6 +20,7 @@ kind-spec =
     (λ c. sym (ap kindOf (c .match .keys8)))
     (λ c. sym (ap kindOf (c .match .keys9)))
     (λ c. sym (ap kindOf (c .match .keys10)))
+    (λ c. sym (ap kindOf (c .match .keys11)))
     (λ c.
     let r = c .match .rest in
     simp (
@@ -33,4 +34,5 @@ kind-spec =
       ne-eqb _ _ (r .0 .0 .0 .0 .0 .0 .0 .1),
       ne-eqb _ _ (r .0 .0 .0 .0 .0 .0 .0 .0 .1),
       ne-eqb _ _ (r .0 .0 .0 .0 .0 .0 .0 .0 .0 .1),
+      ne-eqb _ _ (r .0 .0 .0 .0 .0 .0 .0 .0 .0 .0 .1),
     )))

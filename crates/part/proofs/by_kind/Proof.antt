@@ -70,6 +70,12 @@ enum-told-11 c = search needs
 line-requires-11 : tie.Need-line-requires-11
 line-requires-11 c κs = search needs
 
+enum-told-12 : tie.Need-enum-told-12
+enum-told-12 c = search needs
+
+line-requires-12 : tie.Need-line-requires-12
+line-requires-12 c κs = search needs
+
 returns : tie.Need-returns
 unfolding doesBy
 returns c = c .line .ensures ∙ sym (ap doesBy (c .before .enum-told .given .1))
@@ -114,6 +120,10 @@ returns-11 : tie.Need-returns-11
 unfolding doesBy
 returns-11 c = c .line11 .ensures ∙ sym (ap doesBy (c .before .enum-told11 .given .1))
 
+returns-12 : tie.Need-returns-12
+unfolding doesBy
+returns-12 c = c .line12 .ensures ∙ sym (ap doesBy (c .before .enum-told12 .given .1))
+
 pub by-kind-spec : {M : Type 1} → statement M
 by-kind-spec =
     tie.close
@@ -140,6 +150,8 @@ by-kind-spec =
     line-requires-10
     enum-told-11
     line-requires-11
+    enum-told-12
+    line-requires-12
     returns
     returns-2
     returns-3
@@ -150,4 +162,5 @@ by-kind-spec =
     returns-8
     returns-9
     returns-10
-    returns-11)
+    returns-11
+    returns-12)

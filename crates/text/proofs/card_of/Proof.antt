@@ -6,8 +6,8 @@ use mathlib.Core.List.{[], _∷_}
 use Prim.Native.Nat.{ℕ}
 use native.Mathlib.Omega.{arith}
 use lib.ListN.{getD}
-use Rattle.paper.specs.Cards.{used}
-use Rattle.paper.specs.Text.{fieldsFrom}
+use Rattle.paper.specs.Cards.{used, usedBy}
+use Rattle.paper.specs.Text.{fieldsFrom, codeIn}
 use Rattle.paper.specs.declared.Kind.{Kind}
 use Rattle.laws.proofs.CardText.{card-none, card-line, card-fields}
 
@@ -49,19 +49,24 @@ returns-2 c =
 row-to-requires-3 : tie.Need-row-to-requires-3
 row-to-requires-3 c κs = search needs
 
+used-in-requires : tie.Need-used-in-requires
+used-in-requires c κs = (c .before .before .before .before .before .before .before .used-of .ensures .0, search needs)
+
 fields-of-requires : tie.Need-fields-of-requires
-fields-of-requires c κs = (c .before .before .before .before .before .before .before .before .used-of .ensures .0, search needs, search needs)
+fields-of-requires c κs = search needs
 
 same-length-3 : tie.Need-same-length-3
 same-length-3 c = search needs
 
 returns-3 : tie.Need-returns-3
 returns-3 c =
-    let b = c .before .before .before .before .before .before .before .before .before .before .before .before .before .before .before .before .args .s .now in
-    let d = c .before .before .before .before .before .before .before .before .before .before .before .before .before .before .before .before .args .solid in
-    let u = c .before .before .before .before .before .before .before .before .before .before .before .used-of .ensures .0 ∙ ap used (c .before .before .before .before .before .before .before .before .before .before .before .before .kind .ensures) in
-    c .before .before .fields-of .ensures ∙ ap (fieldsFrom d (c .before .before .before .before .before .before .before .before .before .before .before .before .kind .result) b 5 0) (c .before .before .before .before .before .before .row-to3 .ensures) ∙ ap (λ (q : Kind). fieldsFrom d q b 5 0 (getD b 0 0 ∷ 0 ∷ 0 ∷ 0 ∷ 0 ∷ 0 ∷ [])) (c .before .before .before .before .before .before .before .before .before .before .before .before .kind .ensures)
-    ∙ card-fields d b (λ e. c .before .before .before .before .before .before .before .before .before .before .if1 .left (u ∙ e)) (c .before .before .before .before .before .before .before .before .if2 .left)
+    let b = c .before .before .before .before .before .before .before .before .before .before .before .before .before .before .before .before .before .args .s .now in
+    let d = c .before .before .before .before .before .before .before .before .before .before .before .before .before .before .before .before .before .args .solid in
+    let u = c .before .before .before .before .before .before .before .before .before .before .before .before .used-of .ensures .0 ∙ ap used (c .before .before .before .before .before .before .before .before .before .before .before .before .before .kind .ensures) in
+    c .before .before .fields-of .ensures ∙ ap (fieldsFrom d (c .before .before .before .before .before .before .before .before .before .before .before .before .before .kind .result) (c .before .before .before .before .used-in .result) b 5 0) (c .before .before .before .before .before .before .before .row-to3 .ensures)
+    ∙ ap (λ (v : ℕ). fieldsFrom d (c .before .before .before .before .before .before .before .before .before .before .before .before .before .kind .result) v b 5 0 (getD b 0 0 ∷ 0 ∷ 0 ∷ 0 ∷ 0 ∷ 0 ∷ [])) (c .before .before .before .before .used-in .ensures)
+    ∙ ap (λ (q : Kind). fieldsFrom d q (usedBy q (codeIn b)) b 5 0 (getD b 0 0 ∷ 0 ∷ 0 ∷ 0 ∷ 0 ∷ 0 ∷ [])) (c .before .before .before .before .before .before .before .before .before .before .before .before .before .kind .ensures)
+    ∙ card-fields d b (λ e. c .before .before .before .before .before .before .before .before .before .before .before .if1 .left (u ∙ e)) (c .before .before .before .before .before .before .before .before .before .if2 .left)
 
 pub card-of-spec : {M : Type 1} → statement M
 card-of-spec =
@@ -79,6 +84,7 @@ card-of-spec =
     same-length-2
     returns-2
     row-to-requires-3
+    used-in-requires
     fields-of-requires
     same-length-3
     returns-3)

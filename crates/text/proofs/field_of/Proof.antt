@@ -32,7 +32,7 @@ blank-of-requires c κs = search needs
 returns : tie.Need-returns
 returns c =
     let a = c .before .before .before .before .args in
-    c .blank-of .ensures ∙ ap blank (part8 (1 + a .k * 8) (a .s .now)) ∙ field-unused (a .solid) (a .kind) (a .s .now) (a .k) (omega (arith, c .before .before .before .before .pre .0))
+    c .blank-of .ensures ∙ ap blank (part8 (1 + a .k * 8) (a .s .now)) ∙ field-unused (a .solid) (a .kind) (a .u) (a .s .now) (a .k) (omega arith)
 
 may-blank-requires : tie.Need-may-blank-requires
 may-blank-requires c κs = search needs
@@ -53,7 +53,7 @@ returns-2 : tie.Need-returns-2
 returns-2 c =
     let a = c .before .before .before .before .before .before .args in
     c .open-of .ensures ∙ ap (λ (s : List ℕ). blankElse (blank s) (filled (number s))) (part8 (1 + a .k * 8) (a .s .now))
-    ∙ field-open (a .solid) (a .kind) (a .s .now) (a .k) (omega (arith, c .before .before .before .before .before .before .pre .0)) (sym (c .before .before .before .may-blank .ensures) ∙ c .before .before .if2 .taken)
+    ∙ field-open (a .solid) (a .kind) (a .u) (a .s .now) (a .k) (omega arith) (sym (c .before .before .before .may-blank .ensures) ∙ c .before .before .if2 .taken)
 
 sub-number-of : tie.Need-sub-number-of
 sub-number-of c = search needs
@@ -71,7 +71,7 @@ returns-3 : tie.Need-returns-3
 returns-3 c =
     let a = c .before .before .before .before .before .before .args in
     c .number-of .ensures ∙ ap number (part8 (1 + a .k * 8) (a .s .now))
-    ∙ field-used (a .solid) (a .kind) (a .s .now) (a .k) (omega (arith, c .before .before .before .before .before .before .pre .0)) (sym (c .before .before .before .may-blank .ensures) ∙ c .before .before .if2 .left)
+    ∙ field-used (a .solid) (a .kind) (a .u) (a .s .now) (a .k) (omega arith) (sym (c .before .before .before .may-blank .ensures) ∙ c .before .before .if2 .left)
 
 pub field-of-spec : {M : Type 1} → statement M
 field-of-spec =

@@ -9,7 +9,7 @@ use Rattle.paper.specs.Text.{fieldsFrom}
 use Rattle.text.proofs.ReadCard.{fields-on, fields-here, fields-end}
 
 abbrev Inv-loop : tie.InvT-loop
-Inv-loop solid kind u s row₀ k₀ row k = (k ≤ 5) × (length row ≡ 6) × (fieldsFrom solid kind s 5 0 row₀ ≡ fieldsFrom solid kind s (5 - k) k row)
+Inv-loop solid kind u s row₀ k₀ row k = (k ≤ 5) × (length row ≡ 6) × (fieldsFrom solid kind u s 5 0 row₀ ≡ fieldsFrom solid kind u s (5 - k) k row)
 
 abbrev μ-loop : tie.MeasureT-loop
 μ-loop solid kind u s row₀ k₀ row k = 5 - k
@@ -36,7 +36,7 @@ returns : tie.Need-returns Inv-loop μ-loop
 returns c =
     let a = c .before .before .before .before .before .before .before .before .before .before .before .args in
     let l = c .before .before .before .before .before .before .before .before .loop in
-    c .before .before .row-to .ensures ∙ fields-here (a .solid) (a .kind) (a .s .now) (l .k) (l .row) (omega arith) (sym (c .before .before .before .before .before .before .field-of .ensures) ∙ c .before .before .before .before .enum-told .given .1) ∙ sym (l .inv .2)
+    c .before .before .row-to .ensures ∙ fields-here (a .solid) (a .kind) (a .u) (a .s .now) (l .k) (l .row) (omega arith) (sym (c .before .before .before .before .before .before .field-of .ensures) ∙ c .before .before .before .before .enum-told .given .1) ∙ sym (l .inv .2)
 
 add-row : tie.Need-add-row Inv-loop μ-loop
 add-row c = search needs
@@ -57,7 +57,7 @@ loop-again : tie.Need-loop-again Inv-loop μ-loop
 loop-again c =
     let a = c .before .before .before .before .before .before .before .before .args in
     let l = c .before .before .before .before .before .loop in
-    (omega arith, simp length-set (l .inv .1), l .inv .2 ∙ fields-on (a .solid) (a .kind) (a .s .now) (l .k) (l .row) _ (omega arith) (sym (c .before .before .before .field-of .ensures) ∙ c .before .f .given .1))
+    (omega arith, simp length-set (l .inv .1), l .inv .2 ∙ fields-on (a .solid) (a .kind) (a .u) (a .s .now) (l .k) (l .row) _ (omega arith) (sym (c .before .before .before .field-of .ensures) ∙ c .before .f .given .1))
 
 same-length-2 : tie.Need-same-length-2 Inv-loop μ-loop
 same-length-2 c = search needs
@@ -66,7 +66,7 @@ returns-2 : tie.Need-returns-2 Inv-loop μ-loop
 returns-2 c =
     let a = c .before .before .before .before .args in
     let l = c .before .loop in
-    fields-end (a .solid) (a .kind) (a .s .now) (l .k) (l .row) (omega arith) ∙ sym (l .inv .2)
+    fields-end (a .solid) (a .kind) (a .u) (a .s .now) (l .k) (l .row) (omega arith) ∙ sym (l .inv .2)
 
 pub fields-of-spec : {M : Type 1} → statement M
 fields-of-spec =

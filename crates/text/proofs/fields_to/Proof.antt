@@ -11,10 +11,10 @@ use lib.ListN.{length, getD, take, replicate}
 use Rattle.whole.proofs.Lists.{put-length}
 use Rattle.paper.specs.Text.{printed, textField, textFrom}
 use Rattle.laws.proofs.Fields.{length-field}
-use Rattle.text.proofs.PrintCard.{columns-are, text-more, text-end}
+use Rattle.text.proofs.PrintCard.{text-more, text-end}
 
 abbrev Inv-loop : tie.InvT-loop
-Inv-loop solid kind u card out₀ k₀ out k = (k ≤ 5) × (length out ≡ 42) × (take (1 + k * 8) out ++ textFrom solid kind card (5 - k) k ≡ take 1 out₀ ++ textFrom solid kind card 5 0)
+Inv-loop solid kind u card out₀ k₀ out k = (k ≤ 5) × (length out ≡ 42) × (take (1 + k * 8) out ++ textFrom solid kind u card (5 - k) k ≡ take 1 out₀ ++ textFrom solid kind u card 5 0)
 
 abbrev μ-loop : tie.MeasureT-loop
 μ-loop solid kind u card out₀ k₀ out k = 5 - k
@@ -62,18 +62,19 @@ loop-less : tie.Need-loop-less Inv-loop μ-loop
 loop-less c = search needs
 
 loop-again : tie.Need-loop-again Inv-loop μ-loop
+unfolding textField
 loop-again c =
     let a = c .before .before .before .before .before .before .before .before .before .before .args in
     let l = c .before .before .before .before .before .before .before .loop in
     let card = a .card .now in
     let n = getD card (l .k + 1) 0 in
     let ys = c .before .before .field-to .last .1 .1 .0 in
-    let e : ys ≡ textField (a .solid) (a .kind) (l .k) n =
-    c .before .before .field-to .ensures ∙ ap (λ (b : Bool). cond b (printed n) (replicate 8 32)) (c .before .before .before .before .is-filled .ensures) ∙ columns-are (a .solid) (a .kind) (a .u) card (l .k) (c .before .before .before .before .before .before .before .before .before .before .pre .0) in
-    let f : length ys ≡ 8 = ap length e ∙ length-field (a .solid) (a .kind) (l .k) n in (
+    let e : ys ≡ textField (a .solid) (a .kind) (a .u) (l .k) n =
+    c .before .before .field-to .ensures ∙ ap (λ (b : Bool). cond b (printed n) (replicate 8 32)) (c .before .before .before .before .is-filled .ensures) in
+    let f : length ys ≡ 8 = ap length e ∙ length-field (a .solid) (a .kind) (a .u) (l .k) n in (
       omega arith,
       put-length (l .out) ys (1 + l .k * 8) 8 (omega arith) f ∙ l .inv .1,
-      text-more (a .solid) (a .kind) card (l .out) ys (take 1 (a .out .now) ++ textFrom (a .solid) (a .kind) card 5 0) (l .k) (omega arith) (l .inv .1) e (l .inv .2),
+      text-more (a .solid) (a .kind) (a .u) card (l .out) ys (take 1 (a .out .now) ++ textFrom (a .solid) (a .kind) (a .u) card 5 0) (l .k) (omega arith) (l .inv .1) e (l .inv .2),
     )
 
 same-length : tie.Need-same-length Inv-loop μ-loop
@@ -83,7 +84,7 @@ returns : tie.Need-returns Inv-loop μ-loop
 returns c =
     let a = c .before .before .before .before .args in
     let l = c .before .loop in
-    text-end (a .solid) (a .kind) (a .card .now) (l .out) (take 1 (a .out .now) ++ textFrom (a .solid) (a .kind) (a .card .now) 5 0) (l .k) (omega arith) (l .inv .2)
+    text-end (a .solid) (a .kind) (a .u) (a .card .now) (l .out) (take 1 (a .out .now) ++ textFrom (a .solid) (a .kind) (a .u) (a .card .now) 5 0) (l .k) (omega arith) (l .inv .2)
 
 pub fields-to-spec : {M : Type 1} → statement M
 fields-to-spec =
