@@ -1,5 +1,5 @@
 -- The code's way to g, and that no number of it passes 64 bits.
-use mathlib.Core.Path.{_≡_, refl, sym, ap, _∙_}
+use mathlib.Core.Path.{_≡_, refl, sym, ap, subst, _∙_}
 use mathlib.Core.Bool.{Bool, true, false, cond}
 use Prim.Native.Nat.{ℕ, suc, _+_, _-_, _*_, _/_, _%_, _^_, _≤_, _<_}
 use native.Mathlib.Nat.{mul-le-mul, mul-assoc, mul-add, mul-left-comm, two-pow-succ, div-add-mod, mul-add-div, div-div-eq-div-mul, le-div-iff-mul-le, div-lt-iff-lt-mul}
@@ -14,7 +14,7 @@ use Rattle.paper.specs.Corners.{from}
 use Rattle.paper.specs.Tetrahedron.{Space}
 use Rattle.paper.specs.Edge.{length², edgeFilm}
 use Rattle.laws.proofs.Edge.{OnGrid, Ranges, reach, halves, grid-most, reach-most, nearest-is}
-use Rattle.edge.specs.Asks.{Small}
+use Rattle.edge.specs.Asks.{Small, within, Climbs}
 
 -- ---- the length
 
@@ -29,19 +29,30 @@ legs s x y z p ex ey ez = record { sum-is = is; sum-most = omega (arith, is, gri
     is : squared x + squared y + squared z ≡ length² s
     is = unfold length² in λ i. squared (ex i) + squared (ey i) + squared (ez i)
 
--- ---- the loop of `root`: what is left to climb, from s by k bits, is the whole root
+-- ---- where the climb to the root starts
 
-abbrev within : ℕ → ℕ → Bool
-within v s = leb (squared s) v
+-- a bit whose square is above v is not kept
+skip : (v n : ℕ) → v < squared (2 ^ n) → climb n 0 (within v) ≡ climb (suc n) 0 (within v)
+unfolding climb
+skip v n h =
+    let e : 2 ^ n ≡ 0 + 2 ^ n = omega arith in
+    ap (λ (b : Bool). climb n (cond b (0 + 2 ^ n) 0) (within v)) (sym (lt-leb (squared (0 + 2 ^ n)) v (subst (λ (x : ℕ). v < squared x) e h)))
 
-pub record Climbs (v s bit k : ℕ) : Type 0 where
-  pub bit-is : bit ≡ 2 ^ k / 2
-  pub room : s + 2 ^ k ≤ 2 ^ 16
-  pub rest : climb k s (within v) ≡ root v
-
-pub start : (v : ℕ) → Climbs v 0 32768 16
+pub start-16 : (v : ℕ) → Climbs v 0 32768 16
 unfolding root
-start v = record { bit-is = refl; room = lit≤ tt; rest = refl }
+start-16 v = record { bit-is = refl; room = lit≤ tt; rest = refl }
+
+from-12 : (v : ℕ) → v < 2 ^ 24 → climb 12 0 (within v) ≡ root v
+unfolding root
+from-12 v h = skip v 12 (omega arith) ∙ skip v 13 (omega arith) ∙ skip v 14 (omega arith) ∙ skip v 15 (omega arith)
+
+pub start-12 : (v : ℕ) → v < 2 ^ 24 → Climbs v 0 2048 12
+start-12 v h = record { bit-is = refl; room = lit≤ tt; rest = from-12 v h }
+
+pub start-8 : (v : ℕ) → v < 2 ^ 16 → Climbs v 0 128 8
+start-8 v h = record { bit-is = refl; room = lit≤ tt; rest = skip v 8 (omega arith) ∙ skip v 9 (omega arith) ∙ skip v 10 (omega arith) ∙ skip v 11 (omega arith) ∙ from-12 v (omega arith) }
+
+-- ---- the loop of `climb`
 
 module _ (v s bit n : ℕ) (h : Climbs v s bit (suc n)) where
   bit-next : bit ≡ 2 ^ n

@@ -6,7 +6,7 @@ ghost use Rattle.whole.specs.Largest.{squared, root};
 ghost use Rattle.paper.specs.Edge.{length², edgeFilm};
 ghost use Rattle.laws.proofs.Edge.{OnGrid, Ranges};
 ghost use Rattle.edge.specs.Forms.{asSpace};
-ghost use Rattle.edge.specs.Asks.{Small};
+ghost use Rattle.edge.specs.Asks.{Small, Climbs};
 
 // An edge's place: its ends and their coordinates.
 pub struct Edge {
@@ -33,14 +33,14 @@ fn squared_length(e: Edge) -> u32
 
 // ---- g
 
-// Bit by bit from the top: a bit is kept where the square stays within v.
-fn root(v: u64) -> u64
-    requires { ⌜ v < 2 ^ 32 ⌝ }
+// Bit by bit from the top of so many, where v is below 4 to their number: a bit is kept where the square stays within v.
+fn climb(v: u64, bits: u64, top: u64) -> u64
+    requires { ⌜ (v < 2 ^ 32) × Climbs v 0 top bits ⌝ }
     ensures { λ r. ⌜ r ≡ root v ⌝ }
 {
     let mut s: u64 = 0;
-    let mut bit: u64 = 32_768;
-    let mut k: u64 = 16;
+    let mut bit = top;
+    let mut k = bits;
     while 0 < k {
         let next = s + bit;
         if next * next <= v {
@@ -50,6 +50,20 @@ fn root(v: u64) -> u64
         k -= 1;
     }
     s
+}
+
+// Bits above the root are never kept, so most climbs are short.
+fn root(v: u64) -> u64
+    requires { ⌜ v < 2 ^ 32 ⌝ }
+    ensures { λ r. ⌜ r ≡ root v ⌝ }
+{
+    if v < 65_536 {
+        return climb(v, 8, 128);
+    }
+    if v < 16_777_216 {
+        return climb(v, 12, 2_048);
+    }
+    climb(v, 16, 32_768)
 }
 
 // Half of g's unit.

@@ -41,3 +41,15 @@ pub record Spread (r : List ℤ) (ns vs : List ℕ) : Type 0 where
   pub inside : Inside (length r) ns
   pub share-small : (a : ℕ) → a < 4 → getD vs a 0 ≤ 2 ^ 46
   pub small : (i : ℕ) → i < length r → natAbs (cell r i) ≤ 2 ^ 57
+
+-- numbers to be taken from others
+pub record Lessens (r by : List ℤ) : Type 0 where
+  pub long : length r ≡ length by
+  pub r-small : (i : ℕ) → i < length by → natAbs (cell r i) ≤ 2 ^ 58
+  pub by-small : (i : ℕ) → i < length by → natAbs (cell by i) ≤ 2 ^ 58
+
+-- numbers with loads on top of them, and room for as many
+pub record Unloads (t : List ℕ) (r room : List ℤ) : Type 0 where
+  pub each : Each t r
+  pub small : (i : ℕ) → i < nodes t → natAbs (cell r i) ≤ 2 ^ 58
+  pub long : length room ≡ nodes t

@@ -1,4 +1,4 @@
-// What the cards of a judged deck say of each node: its loads, to which it carries one more, and the temperature that it is held at.
+// What the cards of a judged deck say of each node: its loads, put on top of what it carries, and the temperature that it is held at.
 use paper::Kind;
 use paper::Node;
 use paper::Ticks;
@@ -6,7 +6,7 @@ use part::Corners;
 ghost use mathlib.Core.Path.{_≡_};
 ghost use mathlib.Core.Bool.{cond};
 ghost use Prim.Native.Nat.{_+_};
-ghost use lib.IntN.{pos, _+ℤ_};
+ghost use lib.IntN.{pos, _+ℤ_, _-ℤ_};
 ghost use lib.ListN.{length, getD, replicate};
 ghost use Rattle.whole.specs.Sums.{table as list};
 ghost use Rattle.whole.specs.Packed.{cell};
@@ -18,7 +18,7 @@ ghost use Rattle.laws.proofs.Decks.{Deck};
 ghost use Rattle.lent.specs.Rows.{Borne};
 ghost use Rattle.part.specs.Forms.{cornersOf};
 ghost use Rattle.part.specs.Asks.{Full};
-ghost use Rattle.loads.specs.Asks.{Each, AtRow, Room, Corner, plusAt, Spread};
+ghost use Rattle.loads.specs.Asks.{Each, AtRow, Room, Corner, plusAt, Spread, Lessens, Unloads};
 
 // The row of the first card after the elements.
 fn first_row(table: &[u32]) -> usize
@@ -65,18 +65,40 @@ fn add_card(table: &[u32], r: &mut [i64], row: usize)
     spread(&mut r[..], corners, shares);
 }
 
-// The loads of each node and what it carries, in place of whatever r held. Z adds none.
-pub fn loads(table: &[u32], carried: &[i64], r: &mut [i64])
-    requires { ⌜ Each (now table) (now r) × Borne (now carried) (nodes (now table)) ⌝ }
-    ensures { λ _. ⌜ now (r .exit) ≡ list (nodes (now (table .entry))) (λ i. loadOf (now (table .entry)) i +ℤ cell (now (carried .entry)) i) ⌝ }
+// The loads of each node, more than what r holds of it. Z adds none.
+pub fn load(table: &[u32], r: &mut [i64])
+    requires { ⌜ Each (now table) (now r) × Borne (now r) (nodes (now table)) ⌝ }
+    ensures { λ _. ⌜ now (r .exit) ≡ list (nodes (now (table .entry))) (λ i. loadOf (now (table .entry)) i +ℤ cell (now (r .entry)) i) ⌝ }
 {
-    whole::slices::copy(carried, &mut r[..]);
     let mut row = first_row(table);
     let end = table.len() / 6 - 1;
     while row < end {
         add_card(table, &mut r[..], row);
         row += 1;
     }
+}
+
+// Each number of `by` less in r.
+fn less(r: &mut [i64], by: &[i64])
+    requires { ⌜ Lessens (now r) (now by) ⌝ }
+    ensures { λ _. ⌜ now (r .exit) ≡ list (length (now (by .entry))) (λ i. cell (now (r .entry)) i -ℤ cell (now (by .entry)) i) ⌝ }
+{
+    let mut k = 0;
+    while k < by.len() {
+        let v = whole::minus(r[k], by[k]);
+        r[k] = v;
+        k += 1;
+    }
+}
+
+// The loads taken from r again: `room` is for them.
+pub fn unload(table: &[u32], r: &mut [i64], room: &mut [i64])
+    requires { ⌜ Unloads (now table) (now r) (now room) ⌝ }
+    ensures { λ _. ⌜ now (r .exit) ≡ list (nodes (now (table .entry))) (λ i. cell (now (r .entry)) i -ℤ loadOf (now (table .entry)) i) ⌝ }
+{
+    whole::slices::fill(&mut room[..], 0);
+    load(table, &mut room[..]);
+    less(&mut r[..], &room[..]);
 }
 
 // ---- fixed nodes

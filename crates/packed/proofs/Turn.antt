@@ -24,6 +24,17 @@ use Rattle.packed.proofs.Spots.{turned-as}
 use Rattle.packed.proofs.Squares.{unchanged}
 use Rattle.packed.proofs.Assembling.{idle-row, has-stirs, stirring, solid-row, walk-takes, a-gives, p-gives}
 
+-- ---- a card read twice
+
+pub corners-in-row : (t : List ℕ) (row : ℕ) (c : Corners) {card : List ℕ} → card ≡ rowAt t row → cornersOf c ≡ partFor t card .corners → cornersOf c ≡ partFor t (rowAt t row) .corners
+corners-in-row t row c ec e = e ∙ ap (λ (z : List ℕ). partFor t z .corners) ec
+
+pub square-in-row : (t : List ℕ) (row : ℕ) {b : ℕ} {r : List (List ℤ)} (f : Part → ℕ → ℕ → ℤ) {card : List ℕ} → card ≡ rowAt t row → Holds (length (partFor t card .corners)) b (f (partFor t card)) r
+    → Holds (length (partFor t (rowAt t row) .corners)) b (f (partFor t (rowAt t row))) r
+square-in-row t row {b} {r} f ec s = subst (λ (z : List ℕ). Holds (length (partFor t z .corners)) b (f (partFor t z)) r) ec s
+
+-- ---- a turn
+
 module _ (all : Bool) (t : List ℕ) (row : ℕ) {l : ℕ} (el : l ≡ field t row 0) {b : Bool} (eb : b ≡ has all (doesBy (kindOf l))) where
   has-is : b ≡ has all (doesBy (kindIn t row))
   has-is = eb ∙ ap (λ (k : ℕ). has all (doesBy (kindOf k))) el

@@ -54,9 +54,9 @@ fn add_at(xs: &mut [i64], starts: &[u32], a: Node, b: Node, v: i64)
 }
 
 // Row a of a square, up to the diagonal.
-fn add_row(xs: &mut [i64], starts: &[u32], c: [Node; 4], q: [[i64; 4]; 4], a: usize)
-    requires { ⌜ AddsRow (now starts) (now xs) (numbers c) q a ⌝ }
-    ensures { λ _. ⌜ Turned (now (starts .entry)) (now (xs .entry)) (now (xs .exit)) (addRow (suc a) (wide (now (starts .entry)) (now (xs .entry))) (numbers c) (at q) a) ⌝ }
+fn add_row(xs: &mut [i64], starts: &[u32], c: [Node; 4], q: &[[i64; 4]; 4], a: usize)
+    requires { ⌜ AddsRow (now starts) (now xs) (numbers c) (now q) a ⌝ }
+    ensures { λ _. ⌜ Turned (now (starts .entry)) (now (xs .entry)) (now (xs .exit)) (addRow (suc a) (wide (now (starts .entry)) (now (xs .entry))) (numbers c) (at (now (q .entry))) a) ⌝ }
 {
     let mut b = 0;
     while b <= a {
@@ -74,7 +74,7 @@ pub fn add_square(xs: &mut [i64], starts: &[u32], c: Corners, q: [[i64; 4]; 4])
     let nodes = c.nodes;
     let mut a = 0;
     while a < n {
-        add_row(&mut xs[..], starts, nodes, q, a);
+        add_row(&mut xs[..], starts, nodes, &q, a);
         a += 1;
     }
 }
@@ -103,13 +103,22 @@ fn add_card(table: &[u32], row: usize, xs: &mut [i64], starts: &[u32], all: bool
     if !adds(element::field(table, row, 0), all) {
         return;
     }
-    let card = element::card_at(table, row);
-    let c = part::corners_of(table, card);
+    let c = part::corners_of(table, element::card_at(table, row));
     if all {
-        add_square(xs, starts, c, part::square_a(table, card));
+        add_square(
+            xs,
+            starts,
+            c,
+            part::square_a(table, element::card_at(table, row)),
+        );
         return;
     }
-    add_square(xs, starts, c, part::square_p(table, card));
+    add_square(
+        xs,
+        starts,
+        c,
+        part::square_p(table, element::card_at(table, row)),
+    );
 }
 
 // A, or P: of a square at a time.

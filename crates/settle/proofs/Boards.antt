@@ -3,22 +3,23 @@ use mathlib.Core.Path.{_≡_, sym, ap, subst, _∙_}
 use mathlib.Core.List.{List}
 use Prim.Native.Nat.{ℕ, _^_, _≤_, _<_}
 use native.Mathlib.Omega.{arith}
-use lib.IntN.{ℤ, natAbs, _+ℤ_}
+use lib.IntN.{ℤ, natAbs, _+ℤ_, _-ℤ_}
 use lib.ListN.{length}
 use Rattle.whole.specs.Sums.{table}
 use Rattle.whole.specs.Packed.{cell}
-use Rattle.whole.proofs.Sums.{table-at, table-length}
+use Rattle.whole.proofs.Linear.{zarith, plusL, minusL}
+use Rattle.whole.proofs.Sums.{table-at, table-ext, table-length, table-cells}
 use Rattle.paper.specs.Cards.{rows, nodes}
 use Rattle.paper.specs.Matrices.{loadOf, held}
 use Rattle.paper.specs.Step.{Board, boardOf, residual, residuals}
 use Rattle.lent.specs.Rows.{Light, Mild, Borne}
 use Rattle.correction.specs.Asks.{Forth}
-use Rattle.residual.specs.Asks.{board, Fair, Weighed}
+use Rattle.residual.specs.Asks.{board, Fair}
 use Rattle.residual.proofs.Paper.{residual-size}
-use Rattle.loads.specs.Asks.{Each}
+use Rattle.loads.specs.Asks.{Each, Unloads}
 use Rattle.loads.proofs.Walk.{load-size, carrying-size}
 use Rattle.loads.proofs.Held.{held-size}
-use Rattle.settle.specs.Asks.{Ready, Trying}
+use Rattle.settle.specs.Asks.{Ready, Trying, Begins}
 
 load-small : {t : List ℕ} {p a old carried : List ℤ} {n : ℕ} → Ready t p a old carried n → (i : ℕ) → i < nodes t → natAbs (loadOf t i +ℤ cell carried i) ≤ 2 ^ 57
 unfolding loadOf
@@ -38,10 +39,6 @@ fair {t} {p} {a} {old} {carried} {n} q = record {
   old-mild = subst (Mild old) (q .count) (q .old-mild);
 }
 
-pub count-is : {t : List ℕ} {p a old carried : List ℤ} {n : ℕ} → Ready t p a old carried n → n ≡ boardOf t p a old carried .n
-unfolding boardOf
-count-is q = q .count
-
 -- residuals are what a correction takes
 pub forth : {b : Board} {t : List ℤ} → Fair b → Mild t (b .n) → Forth (residuals b t) 0 (b .n)
 unfolding residuals
@@ -52,29 +49,52 @@ forth {b} {t} q s = record {
   above = λ j _ h. subst (λ (z : ℤ). natAbs z ≤ 2 ^ 60) (sym (table-at (b .n) j (residual b t) h)) (residual-size q s h);
 }
 
--- ---- the pass, from the loads on
+off-again : (x y : ℤ) → x +ℤ y -ℤ x ≡ y
+off-again x y = omega (zarith, plusL x y, minusL (x +ℤ y) x)
 
-module _ {t : List ℕ} {p a fixed old carried u r : List ℤ} {n : ℕ} (q : Trying t p a fixed old carried u r n) where
-  pub loads-asks : Each t r × Borne carried (nodes t)
-  loads-asks = (record { deck = q .ready .deck; long = q .r-long ∙ q .ready .count }, subst (Borne carried) (q .ready .count) (q .ready .borne))
+-- other temperatures, and what the pass left
+pub again : {b : Board} {u r u′ r′ : List ℤ} → Trying b u r → Mild u′ (b .n) → length r′ ≡ b .n → Trying b u′ r′
+again q s h = record { fair = q .fair; u-mild = s; r-long = h }
 
-  -- with v for u and s for r
-  pub keep-asks : (v s : List ℤ) → length v ≡ length u → length s ≡ length r → (length old ≡ length v) × (length fixed ≡ length s) × (length carried ≡ length s)
-  keep-asks v s ev es =
+-- ---- the loads, on top of what is carried
+
+module _ {t : List ℕ} {p a fixed old carried u r : List ℤ} {n : ℕ} (q : Begins t p a fixed old carried u r n) where
+  pub load-asks : Each t carried × Borne carried (nodes t)
+  load-asks = (record { deck = q .ready .deck; long = q .ready .borne .long ∙ q .ready .count }, subst (Borne carried) (q .ready .count) (q .ready .borne))
+
+  -- with v for u and w for r
+  pub keep-asks : (v w s : List ℤ) → length v ≡ length u → length w ≡ length r → length s ≡ length carried → (length old ≡ length v) × (length fixed ≡ length w) × (length s ≡ length w)
+  keep-asks v w s ev ew es =
       let f : length fixed ≡ nodes t = ap length (q .fixed-is) ∙ table-length (nodes t) (held t) in
-      (omega (arith, q .ready .old-mild .long, q .u-mild .long), omega (arith, q .r-long, q .ready .count), omega (arith, q .r-long, q .ready .borne .long))
+      (omega (arith, q .ready .old-mild .long, q .u-long), omega (arith, q .r-long, q .ready .count), omega (arith, q .r-long, q .ready .borne .long))
 
   module _ {s : List ℤ} (e : s ≡ table (nodes t) (λ i. loadOf t i +ℤ cell carried i)) where
-    board-is : board n p a s fixed old ≡ boardOf t p a old carried
+    pub board-is : board n p a s fixed old ≡ boardOf t p a old carried
     unfolding boardOf
     board-is = λ i. board (q .ready .count i) p a (e i) (q .fixed-is i) old
 
-    pub pass-asks : Fair (board n p a s fixed old) × Mild u n
-    pass-asks = (subst Fair (sym board-is) (fair (q .ready)), q .u-mild)
+    pub tries : (v : List ℤ) → v ≡ old → Trying (board n p a s fixed old) v r
+    tries v ev = record {
+      fair = subst Fair (sym board-is) (fair (q .ready));
+      u-mild = subst (λ (x : List ℤ). Mild x n) (sym ev) (q .ready .old-mild);
+      r-long = q .r-long;
+    }
 
-    pub pass-is : {row : ℕ} {x : List ℤ} → Weighed row (board n p a s fixed old) u x → Weighed row (boardOf t p a old carried) u x
-    pass-is {row} {x} w = subst (λ (b : Board). Weighed row b u x) board-is w
+    loaded-long : length s ≡ nodes t
+    loaded-long = ap length e ∙ table-length (nodes t) (λ i. loadOf t i +ℤ cell carried i)
 
--- other temperatures, and what the pass left
-pub again : {t : List ℕ} {p a fixed old carried u r u′ r′ : List ℤ} {n : ℕ} → Trying t p a fixed old carried u r n → Mild u′ n → length r′ ≡ n → Trying t p a fixed old carried u′ r′ n
-again q s h = record { ready = q .ready; fixed-is = q .fixed-is; u-mild = s; r-long = h }
+    loaded-at : (i : ℕ) → i < nodes t → cell s i ≡ loadOf t i +ℤ cell carried i
+    loaded-at i h = ap (λ (x : List ℤ). cell x i) e ∙ table-at (nodes t) i (λ i. loadOf t i +ℤ cell carried i) h
+
+    pub unload-asks : (w : List ℤ) → length w ≡ length r → Unloads t s w
+    unload-asks w ew = record {
+      each = record { deck = q .ready .deck; long = loaded-long };
+      small = λ i h. subst (λ (z : ℤ). natAbs z ≤ 2 ^ 58) (sym (loaded-at i h)) (omega (arith, load-small (q .ready) i h));
+      long = omega (arith, q .r-long, q .ready .count);
+    }
+
+    -- and off it again
+    pub unloaded : {c : List ℤ} → c ≡ table (nodes t) (λ i. cell s i -ℤ loadOf t i) → c ≡ carried
+    unloaded {c} g =
+        g ∙ table-ext (nodes t) (λ i. cell s i -ℤ loadOf t i) (cell carried) (λ i h. ap (λ (z : ℤ). z -ℤ loadOf t i) (loaded-at i h) ∙ off-again (loadOf t i) (cell carried i))
+        ∙ table-cells carried (nodes t) (q .ready .borne .long ∙ q .ready .count)

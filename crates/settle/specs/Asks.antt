@@ -13,6 +13,7 @@ use Rattle.paper.specs.declared.Stepped.{Stepped}
 use Rattle.paper.specs.declared.Stepped.the-variants.{Settled, Refused}
 use Rattle.laws.proofs.Decks.{Deck}
 use Rattle.lent.specs.Rows.{Light, Mild, Borne}
+use Rattle.residual.specs.Asks.{Fair}
 
 -- past refusal 11: what the residuals are of
 pub record Ready (t : List ℕ) (p a old carried : List ℤ) (n : ℕ) : Type 0 where
@@ -23,11 +24,17 @@ pub record Ready (t : List ℕ) (p a old carried : List ℤ) (n : ℕ) : Type 0 
   pub old-mild : Mild old n
   pub borne : Borne carried n
 
--- with the T cards' temperatures looked up, the temperatures u so far, and room for residuals
-pub record Trying (t : List ℕ) (p a fixed old carried u r : List ℤ) (n : ℕ) : Type 0 where
+-- the temperatures u so far, and room for their residuals
+pub record Trying (b : Board) (u r : List ℤ) : Type 0 where
+  pub fair : Fair b
+  pub u-mild : Mild u (b .n)
+  pub r-long : length r ≡ b .n
+
+-- with the T cards' temperatures looked up, and room for new temperatures and for residuals
+pub record Begins (t : List ℕ) (p a fixed old carried u r : List ℤ) (n : ℕ) : Type 0 where
   pub ready : Ready t p a old carried n
   pub fixed-is : fixed ≡ table (nodes t) (held t)
-  pub u-mild : Mild u n
+  pub u-long : length u ≡ n
   pub r-long : length r ≡ n
 
 -- an answer with the temperatures and their residuals that are left where it is no refusal

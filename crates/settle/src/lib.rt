@@ -9,58 +9,56 @@ ghost use lib.Signed.{leZ};
 ghost use lib.ListN.{length};
 ghost use Rattle.whole.specs.Sums.{table as list};
 ghost use Rattle.whole.specs.Packed.{cell};
-ghost use Rattle.paper.specs.Step.{boardOf, isFixed, residuals, attempts};
+ghost use Rattle.paper.specs.Step.{isFixed, residuals, attempts};
 ghost use Rattle.starts.specs.Lent.{wide};
 ghost use Rattle.lent.specs.Rows.{Mild};
 ghost use Rattle.correction.specs.Asks.{Sound};
-ghost use Rattle.residual.specs.Asks.{Beside, Weighed};
-ghost use Rattle.settle.specs.Asks.{Trying, ended, ending, stepsTo};
+ghost use Rattle.residual.specs.Asks.{board, Beside, Weighed};
+ghost use Rattle.settle.specs.Asks.{Trying, Begins, ended, ending, stepsTo};
 
 // ---- corrections
 
 // The residuals of t in r, from the loads on. The lowest row that is not settled, from 1, or 0.
 fn weigh(
-    table: &[u32],
     p: &[i64],
     a: &[i64],
     starts: &[u32],
     fixed: &[i32],
     old: &[i64],
-    carried: &[i64],
+    loads: &[i64],
     t: &[i32],
     r: &mut [i64],
 ) -> u32
-    requires { ⌜ Trying (now table) (wide (now starts) (now p)) (wide (now starts) (now a)) (now fixed) (now old) (now carried) (now t) (now r) (length (now starts)) × Beside (now starts) (now p) (now a) ⌝ }
-    ensures { λ row. ⌜ Weighed row (boardOf (now (table .entry)) (wide (now (starts .entry)) (now (p .entry))) (wide (now (starts .entry)) (now (a .entry))) (now (old .entry)) (now (carried .entry))) (now (t .entry)) (now (r .exit)) ⌝ }
+    requires { ⌜ Trying (board (length (now starts)) (wide (now starts) (now p)) (wide (now starts) (now a)) (now loads) (now fixed) (now old)) (now t) (now r) × Beside (now starts) (now p) (now a) ⌝ }
+    ensures { λ row. ⌜ Weighed row (board (length (now (starts .entry))) (wide (now (starts .entry)) (now (p .entry))) (wide (now (starts .entry)) (now (a .entry))) (now (loads .entry)) (now (fixed .entry)) (now (old .entry))) (now (t .entry)) (now (r .exit)) ⌝ }
 {
-    loads::loads(table, carried, &mut r[..]);
+    whole::slices::copy(loads, &mut r[..]);
     residual::residuals(p, a, starts, fixed, old, t, &mut r[..])
 }
 
 // Corrections of t, up to four, at least one. The residuals that test for settled are the next correction's, or stay in r.
 fn attempts(
-    table: &[u32],
     p: &[i64],
     a: &[i64],
     l: &[i64],
     starts: &[u32],
     fixed: &[i32],
     old: &[i64],
-    carried: &[i64],
+    loads: &[i64],
     t: &mut [i32],
     r: &mut [i64],
 ) -> Stepped
-    requires { ⌜ Trying (now table) (wide (now starts) (now p)) (wide (now starts) (now a)) (now fixed) (now old) (now carried) (now t) (now r) (length (now starts)) × Beside (now starts) (now p) (now a) × Sound (now starts) (now l) ⌝ }
-    ensures { λ e. ⌜ ended e (now (t .exit)) (now (r .exit)) ≡ attempts (boardOf (now (table .entry)) (wide (now (starts .entry)) (now (p .entry))) (wide (now (starts .entry)) (now (a .entry))) (now (old .entry)) (now (carried .entry))) (wide (now (starts .entry)) (now (l .entry))) 3 1 (now (t .entry)) (residuals (boardOf (now (table .entry)) (wide (now (starts .entry)) (now (p .entry))) (wide (now (starts .entry)) (now (a .entry))) (now (old .entry)) (now (carried .entry))) (now (t .entry))) ⌝ }
+    requires { ⌜ Trying (board (length (now starts)) (wide (now starts) (now p)) (wide (now starts) (now a)) (now loads) (now fixed) (now old)) (now t) (now r) × Beside (now starts) (now p) (now a) × Sound (now starts) (now l) ⌝ }
+    ensures { λ e. ⌜ ended e (now (t .exit)) (now (r .exit)) ≡ attempts (board (length (now (starts .entry))) (wide (now (starts .entry)) (now (p .entry))) (wide (now (starts .entry)) (now (a .entry))) (now (loads .entry)) (now (fixed .entry)) (now (old .entry))) (wide (now (starts .entry)) (now (l .entry))) 3 1 (now (t .entry)) (residuals (board (length (now (starts .entry))) (wide (now (starts .entry)) (now (p .entry))) (wide (now (starts .entry)) (now (a .entry))) (now (loads .entry)) (now (fixed .entry)) (now (old .entry))) (now (t .entry))) ⌝ }
 {
-    weigh(table, p, a, starts, fixed, old, carried, &t[..], &mut r[..]);
+    weigh(p, a, starts, fixed, old, loads, &t[..], &mut r[..]);
     let mut c: u32 = 1;
     loop {
         let v = correction::correct(l, starts, &mut t[..], &mut r[..]);
         if let Answer::Refused(why) = v {
             return Stepped::Refused(why);
         }
-        let row = weigh(table, p, a, starts, fixed, old, carried, &t[..], &mut r[..]);
+        let row = weigh(p, a, starts, fixed, old, loads, &t[..], &mut r[..]);
         if row == 0 {
             return Stepped::Settled(c);
         }
@@ -128,7 +126,8 @@ fn keep(fixed: &[i32], t: &[i32], r: &[i64], old: &mut [i64], carried: &mut [i64
     carry(fixed, r, &mut carried[..]);
 }
 
-// The corrections from the old temperatures. Where they settle, the new ones are left in their place, and what each node carries on.
+// The corrections from the old temperatures. The loads, the same in every pass, lie on top of what is carried; where the corrections
+// settle, the new temperatures and what each node carries on take their places, and else the loads are taken off again.
 pub fn finish(
     table: &[u32],
     p: &[i64],
@@ -141,12 +140,12 @@ pub fn finish(
     t: &mut [i32],
     r: &mut [i64],
 ) -> Stepped
-    requires { ⌜ Trying (now table) (wide (now starts) (now p)) (wide (now starts) (now a)) (now fixed) (now old) (now carried) (now old) (now r) (length (now starts)) × Beside (now starts) (now p) (now a) × Sound (now starts) (now l) × (length (now t) ≡ length (now starts)) ⌝ }
+    requires { ⌜ Begins (now table) (wide (now starts) (now p)) (wide (now starts) (now a)) (now fixed) (now old) (now carried) (now t) (now r) (length (now starts)) × Beside (now starts) (now p) (now a) × Sound (now starts) (now l) ⌝ }
     ensures { λ e. ⌜ ending e (now (old .exit)) (now (carried .exit)) ≡ stepsTo (now (table .entry)) (wide (now (starts .entry)) (now (p .entry))) (wide (now (starts .entry)) (now (a .entry))) (wide (now (starts .entry)) (now (l .entry))) (now (old .entry)) (now (carried .entry)) ⌝ }
 {
     narrow(&old[..], &mut t[..]);
+    loads::load(table, &mut carried[..]);
     let e = attempts(
-        table,
         p,
         a,
         l,
@@ -158,6 +157,7 @@ pub fn finish(
         &mut r[..],
     );
     let Stepped::Settled(c) = e else {
+        loads::unload(table, &mut carried[..], &mut r[..]);
         return e;
     };
     keep(fixed, &t[..], &r[..], &mut old[..], &mut carried[..]);

@@ -5,13 +5,13 @@ use native.Mathlib.Omega.{arith}
 use Rattle.packed.proofs.Adding.{Row, row-start, row-long, row-asks, row-next, row-end}
 
 abbrev Inv-loop : tie.InvT-loop
-Inv-loop xs₀ starts a c q b₀ xs b = Row starts xs₀ c q a xs b
+Inv-loop xs₀ starts q a c b₀ xs b = Row starts xs₀ c q a xs b
 
 abbrev μ-loop : tie.MeasureT-loop
-μ-loop xs₀ starts a c q b₀ xs b = suc a - b
+μ-loop xs₀ starts q a c b₀ xs b = suc a - b
 
 loop-holds : tie.Need-loop-holds Inv-loop μ-loop
-loop-holds c = row-start (c .before .args .starts .now) (c .before .args .xs .now) (c .before .args .t3) (c .before .args .t4) (c .before .args .a)
+loop-holds c = row-start (c .before .args .starts .now) (c .before .args .xs .now) (c .before .args .t3) (c .before .args .q .now) (c .before .args .a)
 
 array-copy-out-add-at : tie.Need-array-copy-out-add-at Inv-loop μ-loop
 array-copy-out-add-at c = omega (arith, c .before .before .before .before .pre .last)

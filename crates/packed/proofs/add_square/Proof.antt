@@ -11,19 +11,19 @@ abbrev μ-loop : tie.MeasureT-loop
 μ-loop xs₀ starts q n nodes a₀ xs a = n - a
 
 loop-holds : tie.Need-loop-holds Inv-loop μ-loop
-loop-holds c = square-start (c .before .before .args .c .count) (c .before .before .args .starts .now) (c .before .before .args .xs .now) (c .before .before .args .c .nodes) (c .before .before .args .q)
+loop-holds c = square-start (c .before .before .args .c .count) (c .before .before .args .starts .now) (c .before .before .args .xs .now) (c .before .before .args .c .nodes) (c .before .before .args .t4)
 
 add-row-requires : tie.Need-add-row-requires Inv-loop μ-loop
-add-row-requires c κs = square-asks (c .before .before .before .before .before .pre) (c .before .before .loop .inv) (c .before .loop-test .taken)
+add-row-requires c κs = square-asks (c .before .before .before .before .before .before .pre) (c .before .before .before .loop .inv) (c .before .before .loop-test .taken)
 
 add-a : tie.Need-add-a Inv-loop μ-loop
-add-a c = omega (arith, c .before .before .before .before .before .before .before .pre .most)
+add-a c = omega (arith, c .before .before .before .before .before .before .before .before .pre .most)
 
 loop-less : tie.Need-loop-less Inv-loop μ-loop
 loop-less c = omega arith
 
 loop-again : tie.Need-loop-again Inv-loop μ-loop
-loop-again c = square-next (c .before .before .before .before .before .before .before .pre) (c .before .before .before .before .loop .inv) (c .before .before .before .loop-test .taken) (c .before .add-row .ensures)
+loop-again c = square-next (c .before .before .before .before .before .before .before .before .pre) (c .before .before .before .before .before .loop .inv) (c .before .before .before .before .loop-test .taken) (c .before .add-row .ensures)
 
 same-length : tie.Need-same-length Inv-loop μ-loop
 same-length c = square-long (c .before .before .before .before .pre) (c .before .loop .inv)

@@ -1,20 +1,30 @@
--- The loads, then the pass over the rows: the board is the deck's.
+-- The loads, then the pass over the rows.
 use borrow.Author.Needs.{needs}
 use Rattle.settle.proofs.weigh.Statement.{statement}
 use Rattle.settle.proofs.weigh.Tie as tie
-use Rattle.settle.proofs.Boards.{loads-asks, pass-asks, pass-is}
+use mathlib.Core.Path.{_≡_, sym, ap, subst, _∙_}
+use mathlib.Core.List.{List}
+use lib.IntN.{ℤ}
+use lib.ListN.{length}
+use Rattle.paper.specs.Step.{Board}
+use Rattle.starts.specs.Lent.{wide}
+use Rattle.residual.specs.Asks.{board, Fair, Weighed}
 
-loads-requires : tie.Need-loads-requires
-loads-requires c κs = loads-asks (c .before .before .before .pre .0)
+copy-requires : tie.Need-copy-requires
+copy-requires c κs = c .before .before .pre .0 .r-long ∙ sym (c .before .before .pre .0 .fair .loads-long)
 
 residuals-requires : tie.Need-residuals-requires
-residuals-requires c κs = (c .before .before .before .before .before .before .pre .1, pass-asks (c .before .before .before .before .before .before .pre .0) (c .before .before .loads .ensures) .0, pass-asks (c .before .before .before .before .before .before .pre .0) (c .before .before .loads .ensures) .1)
+residuals-requires c κs =
+    let s = c .before .before .before .before .before .args in
+    (c .before .before .before .before .before .pre .1, subst (λ (x : List ℤ). Fair (board (length (s .starts .now)) (wide (s .starts .now) (s .p .now)) (wide (s .starts .now) (s .a .now)) x (s .fixed .now) (s .old .now))) (sym (c .before .before .copy .ensures)) (c .before .before .before .before .before .pre .0 .fair), c .before .before .before .before .before .pre .0 .u-mild)
 
 same-length : tie.Need-same-length
 same-length c = search needs
 
 returns : tie.Need-returns
-returns c = pass-is (c .before .before .before .before .before .before .before .before .pre .0) (c .before .before .before .before .loads .ensures) (c .before .residuals .ensures)
+returns c =
+    let s = c .before .before .before .before .before .before .before .args in
+    subst (λ (x : List ℤ). Weighed (c .before .residuals .result) (board (length (s .starts .now)) (wide (s .starts .now) (s .p .now)) (wide (s .starts .now) (s .a .now)) x (s .fixed .now) (s .old .now)) (s .t .now) (c .before .residuals .last .1 .1 .1 .1 .1 .1 .0)) (c .before .before .before .before .copy .ensures) (c .before .residuals .ensures)
 
 pub weigh-spec : {M : Type 1} → statement M
-weigh-spec = tie.close (tie.spec loads-requires residuals-requires same-length returns)
+weigh-spec = tie.close (tie.spec copy-requires residuals-requires same-length returns)
