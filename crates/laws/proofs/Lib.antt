@@ -72,3 +72,5 @@ pub mod Targets
 pub mod Cursor
 pub mod Turns
 pub mod Unchanging
+pub mod Puts
+pub mod Posted
