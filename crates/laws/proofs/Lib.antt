@@ -74,3 +74,4 @@ pub mod Turns
 pub mod Unchanging
 pub mod Puts
 pub mod Posted
+pub mod Shuffled
