@@ -75,3 +75,4 @@ pub mod Unchanging
 pub mod Puts
 pub mod Posted
 pub mod Shuffled
+pub mod Reordered
