@@ -23,7 +23,7 @@ use Rattle.paper.specs.Corners.{Shape, shapeOf}
 use Rattle.paper.specs.Tetrahedron.{spaceOf}
 use Rattle.paper.specs.Triangle.{faceFilm}
 use Rattle.paper.specs.Edge.{edgeFilm}
-use Rattle.paper.specs.Elements.{Element, bodyOf, madeOf, flatOf, tetrahedronOf, solidOf, elementOf, elementAt, fair, areaOf, formJudged, elementJudged}
+use Rattle.paper.specs.Elements.{Element, bodyOf, madeOf, flatOf, tetrahedronOf, solidOf, elementOf, elementAt, fair, areaOf, withArea, formJudged, elementJudged}
 use Rattle.paper.specs.Parts.{Part, bulk, filmed, loaded, namedRow, namedShape, partOf, partAt}
 use Rattle.paper.specs.Matrices.{addsP, addsA, P, A, fixes, fixed, cleared}
 use Rattle.paper.specs.Factor.{rowsFrom}
@@ -33,7 +33,9 @@ use Rattle.paper.specs.KeptCalls.{Kept, widened, keptLong}
 use Rattle.paper.specs.KeptReplacements.{keptPresent, KeptHolds}
 use Rattle.paper.specs.Posted.{namesElement, byElement, renumbered, Order, Reordered}
 use Rattle.paper.specs.declared.Answer.{Answer}
-use Rattle.paper.specs.declared.Answer.the-variants.{Done}
+use Rattle.paper.specs.declared.Answer.the-variants.{Done, Refused}
+use Rattle.paper.specs.declared.Area.the-variants as area
+use Rattle.paper.specs.declared.Refusal.the-variants.{Flat, Stiff, Thin}
 use Rattle.paper.specs.declared.Kind.{Kind}
 use Rattle.paper.specs.declared.Kind.the-variants.{D, N, M, E, «V», H, F, G, T, C, Z, Other}
 use Rattle.laws.proofs.Outcomes.{done-inj, done-refused}
@@ -176,6 +178,20 @@ module _ (t t′ : List ℕ) (s : SameFront t t′) where
             → cond deep (solidOf (stepOf t′) (tetrahedronOf t′ x)) (flatOf t′ x) ≡ cond deep (solidOf (stepOf t) (tetrahedronOf t x)) (flatOf t x)
         go true ns m = λ i. solidOf (step-same i) (tetrahedron-same ns m i)
         go false ns m = λ i. madeOf (step-same i) (body-same ns m i)
+
+-- whether an element is refused is no matter of its number
+fair-any : (it : Element) (e e′ : ℕ) → formJudged it e ≡ Done → formJudged it e′ ≡ Done
+unfolding formJudged areaOf
+fair-any it e e′ = go (leb 1 (it .size)) (it .thin) (fair it)
+  where
+    said : Bool → Bool → Bool → ℕ → Answer
+    said a b c e = withArea (cond a (cond b (area.Refused (Thin e)) (area.Of (it .size))) (area.Refused (Flat e))) (cond c Done (Refused (Stiff e)))
+
+    go : (a b c : Bool) → said a b c e ≡ Done → said a b c e′ ≡ Done
+    go true false true ok = refl
+    go true false false ok = done-refused ok
+    go true true c ok = done-refused ok
+    go false b c ok = done-refused ok
 
 -- ---- a deck in another order
 
@@ -355,3 +371,63 @@ module _ (t t′ : List ℕ) (π : ℕ → ℕ) (o : Reordered t t′ π) where
       ap (λ (n : ℕ). any n (fixes t′ i)) (o .count)
       ∙ sym (any-order (rows t) to (o .back) (o .each) (fixes t′ i))
       ∙ any-ext (rows t) _ _ (fixes-moved i)
+
+  -- ---- a build
+
+  -- the row of the first deck that has an element of the second
+  judged-moved : elementsFrom (elements t) 1 t ≡ Done → (e : ℕ) → 1 ≤ e → e < 1 + elements t → elementJudged t′ e ≡ Done
+  unfolding elementJudged
+  judged-moved ok e lo hi =
+      let k = elementRow t e in
+      let h : k < rows t = omega (arith, d .all) in
+      let r = o .back k in
+      let hr : r < rows t = o .each .in-back k h in
+      let at : to r ≡ k = o .each .there k h in
+      let b′ : Body (kindIn t′ k) = subst (λ (x : ℕ). Body (kindIn t′ x)) (row-moved e) (is-body t′ d′ e (lo, omega (arith, elements-moved))) in
+      let b : Body (kindIn t r) = subst Body (ap (kindIn t′) (sym at) ∙ kind-moved r hr) b′ in
+      let (a, z) = in-bodies t d r hr (body-section (kindIn t r) b) in
+      let n = r - (nodes t + materials t) in
+      let its : elementRow t n ≡ r = omega arith in
+      let same : elementAt t′ (elementRow t′ e) ≡ elementAt t (elementRow t n) = ap (elementAt t′) (row-moved e ∙ sym at) ∙ element-moved r hr b ∙ ap (elementAt t) (sym its) in
+      ap (λ (x : Element). formJudged x e) same ∙ fair-any (elementAt t (elementRow t n)) n e (elements-each t (elements t) 1 n ok (omega arith) (omega arith))
+
+  all-pass : (n e : ℕ) → ((k : ℕ) → e ≤ k → k < e + n → elementJudged t′ k ≡ Done) → elementsFrom n e t′ ≡ Done
+  unfolding elementsFrom
+  all-pass zero e h = refl
+  all-pass (suc n) e h = rw (h e (omega arith) (omega arith)) (all-pass n (suc e) (λ k a b. h k (omega arith) (omega arith)))
+
+  -- THEOREM. Where the first deck builds the second does, with the same P, A and factor.
+  pub built-moved : (s : Slices) → build t ≡ done s → build t′ ≡ done s
+  unfolding build cleared
+  built-moved s e =
+      let w = own t s e in
+      let n = nodes t in
+      let P-list : lower n (P t′) ≡ s .p = lower-ext n (P t′) (P t) (λ i j h l. P-moved i j) ∙ sym (w .isP) in
+      let A-list : lower n (A t′) ≡ s .a = lower-ext n (A t′) (A t) (λ i j h l. A-moved i j) ∙ sym (w .isA) in
+      let B-list : lower n (A′ t′) ≡ lower n (A′ t) = lower-ext n (A′ t′) (A′ t) (λ i j h l. rw (fixed-moved i, fixed-moved j, A-moved i j)) in
+      let passed : elementsFrom (elements t) 1 t′ ≡ Done = all-pass (elements t) 1 (judged-moved (w .passed)) in
+      (λ i. after (elementsFrom (elements-moved i) 1 t′) (then (rowsFrom (nodes-moved i) 0 (lower (nodes-moved i) (A′ t′))) (λ f. done (slices (lower (nodes-moved i) (P t′)) (lower (nodes-moved i) (A t′)) f))))
+      ∙ (λ i. after (passed i) (then ((ap (rowsFrom n 0) B-list ∙ w .factored) i) (λ f. done (slices (P-list i) (A-list i) f))))
+
+-- THEOREM. Slices that are the one deck's own and slices that are the other's, in kept rows, have the same P, A, factor and starts.
+pub kept-moved : (z z′ : Kept) (π : ℕ → ℕ) → KeptHolds z → KeptHolds z′ → Reordered (z .lent .table) (z′ .lent .table) π
+    → (keptPresent z′ ≡ keptPresent z) × (take (nodes (z .lent .table)) (z′ .starts) ≡ take (nodes (z .lent .table)) (z .starts))
+unfolding widened
+kept-moved z z′ π h h′ o =
+    let t = z .lent .table in
+    let t′ = z′ .lent .table in
+    let r = rooms z (ready-lengths z (h .room)) in
+    let r′ = rooms z′ (ready-lengths z′ (h′ .room)) in
+    let n = nodes-moved t t′ π o in
+    let f = first-moved t t′ π o in
+    let is : widened (z′ .lent) .slices ≡ widened (z .lent) .slices = done-inj (sym (h′ .built) ∙ built-moved t t′ π o (widened (z .lent) .slices) (h .built)) in
+    let front : (u : List ℕ) (ks : List ℤ) → keptLong u ≤ length ks → shrink (firstOf u) (nodes u) (wideOf u ks) ≡ take (keptLong u) ks = λ u ks l. shrink-front (firstOf u) (first-low u) (nodes u) ks l in
+    let same : (ks ls : List ℤ) → keptLong t′ ≤ length ls → keptLong t ≤ length ks → wideOf t′ ls ≡ wideOf t ks → take (keptLong t′) ls ≡ take (keptLong t) ks =
+    λ ks ls l′ l q. sym (front t′ ls l′) ∙ (λ i. shrink (f i) (n i) (q i)) ∙ front t ks l in (
+      (λ i.
+          slices
+          (same (z .lent .slices .p) (z′ .lent .slices .p) (r′ .p) (r .p) (ap (λ (s : Slices). s .p) is) i)
+          (same (z .lent .slices .a) (z′ .lent .slices .a) (r′ .a) (r .a) (ap (λ (s : Slices). s .a) is) i)
+          (same (z .lent .slices .factor) (z′ .lent .slices .factor) (r′ .factor) (r .factor) (ap (λ (s : Slices). s .factor) is) i)),
+      ap (λ (k : ℕ). take k (z′ .starts)) (sym n) ∙ h′ .own-starts ∙ (λ i. rowStarts (f i) (n i)) ∙ sym (h .own-starts),
+    )
