@@ -1,0 +1,213 @@
+-- Changes that commute, by figures, and what that wants: pairs in both orders, each undone, three in every order, a pair that one order refuses; and a deck
+-- whose elements are listed in another order.
+use mathlib.Core.Path.{_≡_, refl, ap}
+use mathlib.Core.Bool.{Bool, true, false, not, cond, _||_}
+use mathlib.Core.List.{List, [], _∷_, _++_, map}
+use Prim.Native.Nat.{ℕ, _+_, _-_, _*_, _≤_, _<_}
+use native.Mathlib.Omega.{arith}
+use borrow.Author.Tests.{eqb-true, ltb-true, le-leb, not-false}
+use lib.Dec.{eqb, leb, ltb}
+use lib.IntN.{ℤ, pos}
+use lib.ListN.{length, getD, set, replicate}
+use Rattle.whole.specs.Nearest.{nearestN, nearest}
+use Rattle.whole.specs.Sums.{sum, sumN, any, firstFrom, table}
+use Rattle.whole.specs.Packed.{tri, place, lower}
+use Rattle.whole.specs.Kept.{starts, rowStarts, keptLower, keptCell, keptEntry, expand, shrink}
+use Rattle.whole.specs.Largest.{climb}
+use Rattle.whole.proofs.Tests.{if-told}
+use Rattle.whole.proofs.Sums.{any-each}
+use Rattle.paper.specs.Refusals.{told}
+use Rattle.paper.specs.Kinds.{about, change, kindOf, letterOf}
+use Rattle.paper.specs.Cards.{before, columns, used, usedBy, zeros, inRange, agree, ranked, field, letter, rowAt, rows, nodes, materials, elements, elementRow, put}
+use Rattle.paper.specs.Judge.{stands, clean, rises, ordered, full, nameAt, cardNamed, formed, ranged, judgeOne, asks, judgeCard, judgeFrom, trailer, judgeRows, judged, answers, newJudged}
+use Rattle.paper.specs.Corners.{square, mass, spread, share, shapeOf, area}
+use Rattle.paper.specs.Triangle.{b, c, S, side², longest², thin, pair, u, faceFilm}
+use Rattle.paper.specs.Tetrahedron as solid
+use Rattle.paper.specs.Tetrahedron.{spaceOf, face, d, sixfold}
+use Rattle.paper.specs.Edge.{length², reaches, edgeFilm}
+use Rattle.paper.specs.Elements.{bodyOf, flatOf, tetrahedronOf, elementOf, fair, areaOf, formJudged, elementJudged}
+use Rattle.paper.specs.Parts.{heatShare, partOf, least}
+use Rattle.paper.specs.Matrices.{addsP, addsA, P, A, fixed, cleared}
+use Rattle.paper.specs.Factor.{w, l, rowFrom, rowsFrom}
+use Rattle.paper.specs.Building.{elementsFrom, build}
+use Rattle.paper.specs.Replacing.{formOf, moved, redone, replaced}
+use Rattle.paper.specs.Lent.{rowSize, heavy, badRow, noFactor, foreign, enough, opened, lentJudged}
+use Rattle.paper.specs.Calls.{closed, leaves, buildCall, replaceCall}
+use Rattle.paper.specs.Replacements.{Asked}
+use Rattle.paper.specs.Coupled.{corner, coupled, firstOf, strayRow}
+use Rattle.paper.specs.KeptCalls.{Kept, kept, widened, narrowed, keptEnough, lengthsJudged, startsJudged, KeptExit, keptBuild, keptReplace}
+use Rattle.paper.specs.KeptReplacements.{keptAfterAll}
+use Rattle.paper.specs.Posted.{posted, inTurn, workZeroed, AllApart, Shuffled, namesElement, byElement, renumbered, Order, Reordered}
+use Rattle.paper.specs.declared.Answer.{Answer}
+use Rattle.paper.specs.declared.Answer.the-variants.{Done}
+use Rattle.paper.specs.declared.Kind.the-variants.{E, H, F, T, C}
+use Rattle.paper.proofs.Cases.{same, eqZ, figures-told}
+use Rattle.paper.proofs.Checked.{node, element, right, rim, point, material, tetra, cube, counted}
+
+-- ---- cards
+
+abbrev heat : ℕ → ℕ → List ℕ
+heat e µW = letterOf H ∷ e ∷ µW ∷ 0 ∷ 0 ∷ 0 ∷ []
+
+abbrev film : ℕ → ℕ → List ℕ
+film e value = letterOf F ∷ e ∷ value ∷ 19660800 ∷ 0 ∷ 0 ∷ []
+
+abbrev hold : ℕ → ℕ → List ℕ
+hold n ticks = letterOf T ∷ n ∷ ticks ∷ 0 ∷ 0 ∷ 0 ∷ []
+
+-- from this increment on the card of this letter and key has these values
+abbrev from : ℕ → ℕ → ℕ → ℕ → ℕ → List ℕ
+from increment letter key x y = letterOf C ∷ increment ∷ letter ∷ key ∷ x ∷ y ∷ []
+
+-- ---- changes of a plate of two triangles: E cards 7 and 8, H 9, F 10, G 11, T 12
+
+abbrev plate : List ℕ
+plate =
+    counted 1000 (right ++ node 100 100) (material 1000 1000 0 2400) (element 1 2 3 1000 ++ element 4 3 2 500)
+    (heat 1 3 ++ film 2 1000 ++ rim 2 4 1000 1000 ++ hold 1 19660800)
+
+-- what a build leaves of slices of eleven numbers, two past the matrix length, and then 55 all over the work slice
+abbrev built : List ℕ → Kept
+built t =
+    let xs = replicate 11 (pos 77) in
+    let x = keptBuild (kept t xs xs xs xs (replicate 5 99) (replicate 5 (pos 19660800)) (replicate 5 (pos 1))) .kept in
+    kept (x .lent .table) (x .lent .slices .p) (x .lent .slices .a) (x .lent .slices .factor) (replicate 11 (pos 55)) (x .starts) (x .lent .temperatures) (x .lent .carried)
+
+abbrev becomes : (card : ℕ) (new : List ℕ) → length new ≡ 6 → Asked
+becomes card new six = record { card = card; new = new; six = six }
+
+abbrev thicker : Asked
+thicker = becomes 8 (element 4 3 2 700) refl
+
+abbrev thinner : Asked
+thinner = becomes 7 (element 1 2 3 800) refl
+
+abbrev hotter : Asked
+hotter = becomes 9 (heat 1 3000) refl
+
+abbrev opened′ : Asked
+opened′ = becomes 10 (film 2 90000) refl
+
+abbrev rimmed : Asked
+rimmed = becomes 11 (rim 2 4 90000 1000) refl
+
+abbrev held′ : Asked
+held′ = becomes 12 (hold 1 19726336) refl
+
+-- number and place of an answer
+abbrev said : Answer → List ℤ
+said a = pos (told a .number) ∷ pos (told a .place) ∷ []
+
+-- every number that is lent
+abbrev all : Kept → List ℤ
+all z =
+    let s = z .lent .slices in
+    map pos (z .lent .table ++ z .starts) ++ s .p ++ s .a ++ s .factor ++ z .lent .work ++ z .lent .temperatures ++ z .lent .carried
+
+pub record Figure : Type 0 where
+  pub got : List ℤ
+  pub want : List ℤ
+
+-- the four answers and one end; the other end
+abbrev ordered′ : Kept → Asked → Asked → Figure
+ordered′ z q r = record {
+  got = said (posted z q .answer) ++ said (inTurn z q r .answer) ++ said (posted z r .answer) ++ said (inTurn z r q .answer) ++ all (inTurn z q r .kept);
+  want = replicate 8 (pos 0) ++ all (inTurn z r q .kept);
+}
+
+-- the change and then the old card; the work slice zeroed where the card stirs
+abbrev undone : Kept → Asked → Bool → Figure
+undone z q stirs =
+    let x = keptReplace (posted z q .kept) (q .card) (rowAt (z .lent .table) (q .card - 1)) in
+    record { got = said (posted z q .answer) ++ said (x .answer) ++ all (x .kept); want = replicate 4 (pos 0) ++ all (workZeroed stirs z) }
+
+-- three in this order, and in the order that is shown first
+abbrev three : List Asked → Figure
+three qs = record { got = all (keptAfterAll (built plate) qs); want = all (keptAfterAll (built plate) (thicker ∷ opened′ ∷ held′ ∷ [])) }
+
+-- ---- what the assumption is for: a triangle with a film over it, in steps of a minute: E card 6, F card 7
+
+abbrev faced : ℕ → ℕ → Kept
+faced thick value = built (counted 60000 right (material 1000 1000 0 2400) (element 1 2 3 thick) (film 1 value))
+
+abbrev foil : Asked
+foil = becomes 6 (element 1 2 3 10) refl
+
+abbrev fan : Asked
+fan = becomes 7 (film 1 48000) refl
+
+abbrev still : Asked
+still = becomes 7 (film 1 1) refl
+
+-- ---- elements in another order
+
+-- two triangles and two tetrahedra: 7 to 10 are their rows, H in 11 to 13, F in 14 and 15, G, T, then C from 18 to 22
+abbrev module′ : List ℕ
+module′ =
+    counted 1000 (cube ++ point 100 100 0) (material 1000 2000 3000 2400)
+    (element 1 2 3 1000 ++ element 5 3 2 700 ++ tetra 1 2 3 4 1 ++ tetra 2 5 3 4 1)
+    (heat 1 3 ++ heat 3 5 ++ heat 4 7 ++ film 1 1000 ++ film 2 90000 ++ rim 1 4 1000 1000 ++ hold 5 19660800
+    ++ from 1 (letterOf E) 1 1 900 ++ from 1 (letterOf E) 2 1 800 ++ from 1 (letterOf H) 3 9 0 ++ from 2 (letterOf F) 2 10 19660800 ++ from 2 (letterOf T) 5 19726336 0)
+
+-- each triangle in the place of the other, and each tetrahedron; what names them renumbered, and in rising order again
+abbrev turned : List ℕ
+turned =
+    counted 1000 (cube ++ point 100 100 0) (material 1000 2000 3000 2400)
+    (element 5 3 2 700 ++ element 1 2 3 1000 ++ tetra 2 5 3 4 1 ++ tetra 1 2 3 4 1)
+    (heat 2 3 ++ heat 3 7 ++ heat 4 5 ++ film 1 90000 ++ film 2 1000 ++ rim 1 4 1000 1000 ++ hold 5 19660800
+    ++ from 1 (letterOf E) 1 1 800 ++ from 1 (letterOf E) 2 1 900 ++ from 1 (letterOf H) 4 9 0 ++ from 2 (letterOf F) 1 10 19660800 ++ from 2 (letterOf T) 5 19726336 0)
+
+abbrev exchange : ℕ → ℕ → ℕ → ℕ
+exchange a b r = cond (eqb r a) b (cond (eqb r b) a r)
+
+-- the elements' new numbers, and the rows that cards go to
+unfoldable pub numbered : ℕ → ℕ
+numbered e = exchange 1 2 (exchange 3 4 e)
+
+unfoldable pub turn : ℕ → ℕ
+turn r = exchange 7 8 (exchange 9 10 (exchange 12 13 (exchange 14 15 (exchange 18 19 r))))
+
+-- what a build makes: its answer, the starts, P, A and the factor
+abbrev makes : List ℕ → List ℤ
+makes t =
+    let xs = replicate 15 (pos 77) in
+    let x = keptBuild (kept t xs xs xs xs (replicate 5 99) [] []) in
+    said (x .answer) ++ map pos (x .kept .starts) ++ x .kept .lent .slices .p ++ x .kept .lent .slices .a ++ x .kept .lent .slices .factor
+
+-- ---- figures
+
+unfoldable pub figures : List Figure
+figures =
+    ordered′ (built plate) thicker opened′
+    ∷ ordered′ (built plate) thinner thicker
+    ∷ ordered′ (built plate) thicker rimmed
+    ∷ ordered′ (built plate) opened′ rimmed
+    ∷ ordered′ (built plate) thinner hotter
+    ∷ ordered′ (built plate) rimmed held′
+    ∷ ordered′ (built plate) hotter held′
+    ∷ undone (built plate) thicker true
+    ∷ undone (built plate) opened′ true
+    ∷ undone (built plate) rimmed true
+    ∷ undone (built plate) hotter false
+    ∷ undone (built plate) held′ false
+    ∷ three (thicker ∷ held′ ∷ opened′ ∷ [])
+    ∷ three (opened′ ∷ thicker ∷ held′ ∷ [])
+    ∷ three (opened′ ∷ held′ ∷ thicker ∷ [])
+    ∷ three (held′ ∷ thicker ∷ opened′ ∷ [])
+    ∷ three (held′ ∷ opened′ ∷ thicker ∷ [])
+    -- a foil alone is refused by 7, under a fan it is accepted: in one order both are, in the other the first is not
+    ∷ record { got = said (posted (faced 1000 1) foil .answer) ++ said (inTurn (faced 1000 1) foil fan .answer); want = pos 7 ∷ pos 1 ∷ pos 0 ∷ pos 0 ∷ [] }
+    ∷ record { got = said (posted (faced 1000 1) fan .answer) ++ said (inTurn (faced 1000 1) fan foil .answer); want = replicate 4 (pos 0) }
+    -- each accepted alone, and then the other is refused, the same in both orders
+    ∷ record { got = said (posted (faced 1000 48000) foil .answer) ++ said (inTurn (faced 1000 48000) foil still .answer); want = pos 0 ∷ pos 0 ∷ pos 7 ∷ pos 1 ∷ [] }
+    ∷ record { got = said (posted (faced 1000 48000) still .answer) ++ said (inTurn (faced 1000 48000) still foil .answer); want = pos 0 ∷ pos 0 ∷ pos 7 ∷ pos 1 ∷ [] }
+    -- the same elements in another order
+    ∷ record { got = makes turned; want = makes module′ }
+    ∷ []
+
+runFigures : same (same eqZ) (map (λ (x : Figure). x .got) figures) (map (λ (x : Figure). x .want) figures) ≡ true
+unfolding figures same eqZ nearestN nearest sum sumN any firstFrom table tri place lower starts rowStarts keptLower keptCell keptEntry expand shrink climb told about kindOf before columns used usedBy zeros inRange agree ranked field nodes materials elements put stands clean rises ordered full nameAt cardNamed formed ranged judgeOne asks judgeCard judgeFrom trailer judgeRows judged answers newJudged square mass spread share shapeOf spaceOf area b c S side² longest² thin pair u faceFilm face solid.b solid.c d sixfold solid.S solid.pair solid.u length² reaches edgeFilm bodyOf flatOf tetrahedronOf elementOf fair areaOf formJudged elementJudged heatShare partOf least addsP addsA P A fixed cleared w l rowFrom rowsFrom elementsFrom build formOf moved redone replaced rowSize heavy badRow noFactor foreign enough opened lentJudged closed leaves buildCall replaceCall corner coupled firstOf strayRow widened narrowed keptEnough lengthsJudged startsJudged keptBuild keptReplace keptAfterAll
+runFigures = refl
+
+pub as-posted : map (λ (x : Figure). x .got) figures ≡ map (λ (x : Figure). x .want) figures
+as-posted = figures-told (map (λ (x : Figure). x .got) figures) (map (λ (x : Figure). x .want) figures) runFigures
