@@ -1,13 +1,13 @@
 -- Two accepted replacements of different cards end alike in either order, and an old card put back restores all that was.
-use mathlib.Core.Path.{_≡_, refl, sym, ap, subst, _∙_}
+use mathlib.Core.Path.{_≡_, refl, sym, ap, _∙_}
 use mathlib.Core.Bool.{Bool, true, false, cond, _&&_}
 use mathlib.Core.List.{List, _++_}
-use Prim.Native.Nat.{ℕ, zero, suc, _+_, _*_, _-_, _/_, _≤_, _<_}
+use Prim.Native.Nat.{ℕ, zero, suc, _+_, _*_, _-_, _≤_, _<_}
 use native.Mathlib.Omega.{arith}
 use borrow.Author.Tests.{le-leb, lt-ltb, eq-eqb}
 use lib.Dec.{leb, ltb}
 use lib.IntN.{ℤ, pos}
-use lib.ListN.{length, getD, take, drop, replicate, length-replicate, take-append-drop}
+use lib.ListN.{length, getD, take, drop, replicate, take-append-drop}
 use lib.Seq.{drop-at}
 use Rattle.paper.specs.Refusals.{Outcome, refused, done, answerOf, andThen}
 use Rattle.paper.specs.Kinds.{about, aboutOf, kindOf, kindAt}
@@ -20,7 +20,7 @@ use Rattle.paper.specs.Calls.{over, Lent, Exit, worked, leaves, replaceCall}
 use Rattle.paper.specs.Replacements.{Asked}
 use Rattle.paper.specs.Coupled.{firstOf}
 use Rattle.paper.specs.KeptCalls.{Kept, widened, onto, narrowed, keptLong, keptRoomy, lengthsJudged, KeptExit, leftKept, keptReplace}
-use Rattle.paper.specs.KeptReplacements.{keptPresent, KeptHolds, KeptBeyond}
+use Rattle.paper.specs.KeptReplacements.{KeptHolds, KeptBeyond}
 use Rattle.paper.specs.Posted.{posted, inTurn, Apart, BothAccepted, workZeroed}
 use Rattle.whole.specs.Kept.{shrink}
 use Rattle.paper.specs.declared.Answer.{Answer}
@@ -29,7 +29,7 @@ use Rattle.paper.specs.declared.Refusal.the-variants.{Form, Range, Replacement}
 use Rattle.paper.specs.declared.Kind.{Kind}
 use Rattle.paper.specs.declared.Kind.the-variants.{D, N, M, E, «V», H, F, G, T, C, Z, Other}
 use Rattle.laws.proofs.Outcomes.{done-refused, both-done}
-use Rattle.laws.proofs.Tables.{row-field, row-length, length-put, field-here, field-other}
+use Rattle.laws.proofs.Tables.{row-field, row-length, field-here, field-other}
 use Rattle.laws.proofs.Puts.{put-commutes, put-back}
 use Rattle.laws.proofs.Decks.{kindIn, Deck, Change}
 use Rattle.laws.proofs.Judged.{passed, top-told, deck}

@@ -2,8 +2,8 @@
 use mathlib.Core.Path.{_≡_, refl, sym, ap, subst, _∙_}
 use mathlib.Core.Bool.{Bool, true, false, cond, _&&_, _||_}
 use mathlib.Core.List.{List, [], _∷_, map}
-use Prim.Native.Nat.{ℕ, zero, suc, _+_, _*_, _-_, _≤_, _<_}
-use native.Mathlib.Decide.{ℕ-discrete, decLt}
+use Prim.Native.Nat.{ℕ, zero, suc, _+_, _-_, _≤_, _<_}
+use native.Mathlib.Decide.{decLt}
 use native.Mathlib.Omega.{arith}
 use borrow.Author.Tests.{eqb-true, eq-eqb, ne-eqb}
 use lib.Dec.{leb, eqb}
@@ -13,12 +13,12 @@ use lib.Seq.{getD-set-same, getD-set-other}
 use Rattle.whole.specs.Sums.{sum, any}
 use Rattle.whole.specs.Packed.{lower}
 use Rattle.whole.specs.Kept.{rowStarts, shrink}
-use Rattle.whole.proofs.Tests.{never, cond-true, cond-false, or-told}
+use Rattle.whole.proofs.Tests.{never}
 use Rattle.whole.proofs.Sums.{sum-ext, sum-single, sum-swap, any-ext, any-none, any-each, first-ext}
 use Rattle.whole.proofs.Packed.{lower-ext}
-use Rattle.paper.specs.Refusals.{done, then, after, andThen}
+use Rattle.paper.specs.Refusals.{done, then, after, answerOf}
 use Rattle.paper.specs.Kinds.{about, change, kindOf, kindAt, letterOf, isA}
-use Rattle.paper.specs.Cards.{field, letter, isCard, rowAt, rows, nodes, materials, elements, materialRow, elementRow, stepOf, countsAt}
+use Rattle.paper.specs.Cards.{field, letter, isCard, rowAt, rows, nodes, materials, elements, materialRow, elementRow, stepOf}
 use Rattle.paper.specs.Corners.{Shape, shapeOf}
 use Rattle.paper.specs.Tetrahedron.{spaceOf}
 use Rattle.paper.specs.Triangle.{faceFilm}
@@ -29,8 +29,8 @@ use Rattle.paper.specs.Matrices.{addsP, addsA, P, A, fixes, fixed, cleared}
 use Rattle.paper.specs.Factor.{rowsFrom}
 use Rattle.paper.specs.Building.{Slices, slices, elementsFrom, build}
 use Rattle.paper.specs.Coupled.{joinsAt, corner, coupled, firstOf}
-use Rattle.paper.specs.KeptCalls.{Kept, widened, keptLong}
-use Rattle.paper.specs.KeptReplacements.{keptPresent, KeptHolds}
+use Rattle.paper.specs.KeptCalls.{Kept, widened, keptLong, keptBuild}
+use Rattle.paper.specs.KeptReplacements.{keptReady, keptOn, keptPresent, KeptHolds}
 use Rattle.paper.specs.Posted.{namesElement, byElement, renumbered, Order, Reordered}
 use Rattle.paper.specs.declared.Answer.{Answer}
 use Rattle.paper.specs.declared.Answer.the-variants.{Done, Refused}
@@ -51,7 +51,7 @@ use Rattle.laws.proofs.Built.{A′, own}
 use Rattle.laws.proofs.Narrowed.{shrink-front}
 use Rattle.laws.proofs.KeptCalls.{wideOf}
 use Rattle.laws.proofs.Widened.{rooms}
-use Rattle.laws.proofs.KeptDemand3.{ready-lengths}
+use Rattle.laws.proofs.KeptDemand3.{ready-lengths, build-holds, build-table, builds-as}
 
 -- ---- sums and tests in another order
 
@@ -431,3 +431,15 @@ kept-moved z z′ π h h′ o =
           (same (z .lent .slices .factor) (z′ .lent .slices .factor) (r′ .factor) (r .factor) (ap (λ (s : Slices). s .factor) is) i)),
       ap (λ (k : ℕ). take k (z′ .starts)) (sym n) ∙ h′ .own-starts ∙ (λ i. rowStarts (f i) (n i)) ∙ sym (h .own-starts),
     )
+
+-- THEOREM. A build of the other deck, over any slices that are long enough, is accepted and gives them.
+pub kept-built : (z fresh : Kept) (t′ : List ℕ) (π : ℕ → ℕ) → KeptHolds z → Reordered (z .lent .table) t′ π → keptReady (keptOn t′ fresh) ≡ true
+    → let made = keptBuild (keptOn t′ fresh) in
+    (made .answer ≡ Done) × (keptPresent (made .kept) ≡ keptPresent z) × (take (nodes (z .lent .table)) (made .kept .starts) ≡ take (nodes (z .lent .table)) (z .starts))
+unfolding widened
+kept-built z fresh t′ π h o far =
+    let x = keptOn t′ fresh in
+    let ok : keptBuild x .answer ≡ Done = builds-as x (o .second) far ∙ ap answerOf (built-moved (z .lent .table) t′ π o (widened (z .lent) .slices) (h .built)) in
+    let is : keptBuild x .kept .lent .table ≡ t′ = build-table x in
+    let (p, s) = kept-moved z (keptBuild x .kept) π h (build-holds x ok) (subst (λ (u : List ℕ). Reordered (z .lent .table) u π) (sym is) o) in
+    (ok, p, s)

@@ -3,12 +3,12 @@
 use mathlib.Core.Path.{_≡_, refl, ap}
 use mathlib.Core.Bool.{Bool, true, false, not, cond, _||_}
 use mathlib.Core.List.{List, [], _∷_, _++_, map}
-use Prim.Native.Nat.{ℕ, _+_, _-_, _*_, _≤_, _<_}
+use Prim.Native.Nat.{ℕ, _+_, _-_, _<_}
 use native.Mathlib.Omega.{arith}
-use borrow.Author.Tests.{eqb-true, ltb-true, le-leb, not-false}
-use lib.Dec.{eqb, leb, ltb}
+use borrow.Author.Tests.{eqb-true, ltb-true, not-false}
+use lib.Dec.{eqb, ltb}
 use lib.IntN.{ℤ, pos}
-use lib.ListN.{length, getD, set, replicate}
+use lib.ListN.{length, replicate}
 use Rattle.whole.specs.Nearest.{nearestN, nearest}
 use Rattle.whole.specs.Sums.{sum, sumN, any, firstFrom, table}
 use Rattle.whole.specs.Packed.{tri, place, lower}
@@ -35,14 +35,13 @@ use Rattle.paper.specs.Lent.{rowSize, heavy, badRow, noFactor, foreign, 
 use Rattle.paper.specs.Calls.{closed, leaves, buildCall, replaceCall}
 use Rattle.paper.specs.Replacements.{Asked}
 use Rattle.paper.specs.Coupled.{corner, coupled, firstOf, strayRow}
-use Rattle.paper.specs.KeptCalls.{Kept, kept, widened, narrowed, keptEnough, lengthsJudged, startsJudged, KeptExit, keptBuild, keptReplace}
+use Rattle.paper.specs.KeptCalls.{Kept, kept, widened, narrowed, keptEnough, lengthsJudged, startsJudged, keptBuild, keptReplace}
 use Rattle.paper.specs.KeptReplacements.{keptAfterAll}
-use Rattle.paper.specs.Posted.{posted, inTurn, workZeroed, AllApart, Shuffled, namesElement, byElement, renumbered, Order, Reordered}
+use Rattle.paper.specs.Posted.{posted, inTurn, workZeroed, AllApart, Shuffled, byElement, renumbered, Reordered}
 use Rattle.paper.specs.declared.Answer.{Answer}
-use Rattle.paper.specs.declared.Answer.the-variants.{Done}
 use Rattle.paper.specs.declared.Kind.the-variants.{E, H, F, T, C}
-use Rattle.paper.proofs.Cases.{same, eqZ, figures-told}
-use Rattle.paper.proofs.Checked.{node, element, right, rim, point, material, tetra, cube, counted}
+use Rattle.paper.proofs.Cases.{same, same-told, eqZ, figures-told}
+use Rattle.paper.proofs.Checked.{element, right, rim, material, tetra, cube, counted}
 
 -- ---- cards
 
@@ -59,40 +58,32 @@ hold n ticks = letterOf T ∷ n ∷ ticks ∷ 0 ∷ 0 ∷ 0 ∷ []
 abbrev from : ℕ → ℕ → ℕ → ℕ → ℕ → List ℕ
 from increment letter key x y = letterOf C ∷ increment ∷ letter ∷ key ∷ x ∷ y ∷ []
 
--- ---- changes of a plate of two triangles: E cards 7 and 8, H 9, F 10, G 11, T 12
+-- ---- changes of a triangle: E card 6, H 7, F 8, G 9, T 10
 
 abbrev plate : List ℕ
-plate =
-    counted 1000 (right ++ node 100 100) (material 1000 1000 0 2400) (element 1 2 3 1000 ++ element 4 3 2 500)
-    (heat 1 3 ++ film 2 1000 ++ rim 2 4 1000 1000 ++ hold 1 19660800)
+plate = counted 1000 right (material 1000 1000 0 2400) (element 1 2 3 1000) (heat 1 3 ++ film 1 1000 ++ rim 2 3 1000 1000 ++ hold 1 19660800)
 
--- what a build leaves of slices of eleven numbers, two past the matrix length, and then 55 all over the work slice
+-- what a build leaves of slices of seven numbers, one past the matrix length, and then 55 all over the work slice
 abbrev built : List ℕ → Kept
 built t =
-    let xs = replicate 11 (pos 77) in
-    let x = keptBuild (kept t xs xs xs xs (replicate 5 99) (replicate 5 (pos 19660800)) (replicate 5 (pos 1))) .kept in
-    kept (x .lent .table) (x .lent .slices .p) (x .lent .slices .a) (x .lent .slices .factor) (replicate 11 (pos 55)) (x .starts) (x .lent .temperatures) (x .lent .carried)
+    let xs = replicate 7 (pos 77) in
+    let x = keptBuild (kept t xs xs xs xs (replicate 4 99) (replicate 4 (pos 19660800)) (replicate 4 (pos 1))) .kept in
+    kept (x .lent .table) (x .lent .slices .p) (x .lent .slices .a) (x .lent .slices .factor) (replicate 7 (pos 55)) (x .starts) (x .lent .temperatures) (x .lent .carried)
 
 abbrev becomes : (card : ℕ) (new : List ℕ) → length new ≡ 6 → Asked
 becomes card new six = record { card = card; new = new; six = six }
 
 abbrev thicker : Asked
-thicker = becomes 8 (element 4 3 2 700) refl
-
-abbrev thinner : Asked
-thinner = becomes 7 (element 1 2 3 800) refl
+thicker = becomes 6 (element 1 2 3 1200) refl
 
 abbrev hotter : Asked
-hotter = becomes 9 (heat 1 3000) refl
-
-abbrev opened′ : Asked
-opened′ = becomes 10 (film 2 90000) refl
+hotter = becomes 7 (heat 1 3000) refl
 
 abbrev rimmed : Asked
-rimmed = becomes 11 (rim 2 4 90000 1000) refl
+rimmed = becomes 9 (rim 2 3 90000 1000) refl
 
-abbrev held′ : Asked
-held′ = becomes 12 (hold 1 19726336) refl
+abbrev warmer : Asked
+warmer = becomes 10 (hold 1 19726336) refl
 
 -- number and place of an answer
 abbrev said : Answer → List ℤ
@@ -109,8 +100,8 @@ pub record Figure : Type 0 where
   pub want : List ℤ
 
 -- the four answers and one end; the other end
-abbrev ordered′ : Kept → Asked → Asked → Figure
-ordered′ z q r = record {
+abbrev commuted : Kept → Asked → Asked → Figure
+commuted z q r = record {
   got = said (posted z q .answer) ++ said (inTurn z q r .answer) ++ said (posted z r .answer) ++ said (inTurn z r q .answer) ++ all (inTurn z q r .kept);
   want = replicate 8 (pos 0) ++ all (inTurn z r q .kept);
 }
@@ -121,9 +112,14 @@ undone z q stirs =
     let x = keptReplace (posted z q .kept) (q .card) (rowAt (z .lent .table) (q .card - 1)) in
     record { got = said (posted z q .answer) ++ said (x .answer) ++ all (x .kept); want = replicate 4 (pos 0) ++ all (workZeroed stirs z) }
 
--- three in this order, and in the order that is shown first
-abbrev three : List Asked → Figure
-three qs = record { got = all (keptAfterAll (built plate) qs); want = all (keptAfterAll (built plate) (thicker ∷ opened′ ∷ held′ ∷ [])) }
+-- what any of them are answered in turn
+abbrev saidAll : Kept → List Asked → List ℤ
+saidAll z [] = []
+saidAll z (q ∷ qs) = said (posted z q .answer) ++ saidAll (posted z q .kept) qs
+
+-- three in two orders
+abbrev shuffled : Kept → List Asked → List Asked → Figure
+shuffled z qs rs = record { got = saidAll z qs ++ saidAll z rs ++ all (keptAfterAll z qs); want = replicate 12 (pos 0) ++ all (keptAfterAll z rs) }
 
 -- ---- what the assumption is for: a triangle with a film over it, in steps of a minute: E card 6, F card 7
 
@@ -141,21 +137,22 @@ still = becomes 7 (film 1 1) refl
 
 -- ---- elements in another order
 
--- two triangles and two tetrahedra: 7 to 10 are their rows, H in 11 to 13, F in 14 and 15, G, T, then C from 18 to 22
-abbrev module′ : List ℕ
-module′ =
-    counted 1000 (cube ++ point 100 100 0) (material 1000 2000 3000 2400)
-    (element 1 2 3 1000 ++ element 5 3 2 700 ++ tetra 1 2 3 4 1 ++ tetra 2 5 3 4 1)
-    (heat 1 3 ++ heat 3 5 ++ heat 4 7 ++ film 1 1000 ++ film 2 90000 ++ rim 1 4 1000 1000 ++ hold 5 19660800
-    ++ from 1 (letterOf E) 1 1 900 ++ from 1 (letterOf E) 2 1 800 ++ from 1 (letterOf H) 3 9 0 ++ from 2 (letterOf F) 2 10 19660800 ++ from 2 (letterOf T) 5 19726336 0)
+-- two triangles and two tetrahedra over four nodes: 7 to 10 are their rows, H in 11 to 13, F in 14 and 15, G, T, then C from 18 to 22
+abbrev several : List ℕ → List ℕ → List ℕ
+several es loads = counted 1000 cube (material 1000 2000 3000 2400 ++ material 500 500 500 1200) es loads
+
+abbrev listed : List ℕ
+listed =
+    several (element 1 2 3 1000 ++ element 3 1 2 700 ++ tetra 1 2 3 4 1 ++ tetra 4 2 3 1 2)
+    (heat 1 3 ++ heat 3 5 ++ heat 4 7 ++ film 1 1000 ++ film 2 90000 ++ rim 1 4 1000 1000 ++ hold 4 19660800
+    ++ from 1 (letterOf E) 1 1 900 ++ from 1 (letterOf E) 2 1 800 ++ from 1 (letterOf H) 3 9 0 ++ from 2 (letterOf F) 2 10 19660800 ++ from 2 (letterOf T) 4 19726336 0)
 
 -- each triangle in the place of the other, and each tetrahedron; what names them renumbered, and in rising order again
 abbrev turned : List ℕ
 turned =
-    counted 1000 (cube ++ point 100 100 0) (material 1000 2000 3000 2400)
-    (element 5 3 2 700 ++ element 1 2 3 1000 ++ tetra 2 5 3 4 1 ++ tetra 1 2 3 4 1)
-    (heat 2 3 ++ heat 3 7 ++ heat 4 5 ++ film 1 90000 ++ film 2 1000 ++ rim 1 4 1000 1000 ++ hold 5 19660800
-    ++ from 1 (letterOf E) 1 1 800 ++ from 1 (letterOf E) 2 1 900 ++ from 1 (letterOf H) 4 9 0 ++ from 2 (letterOf F) 1 10 19660800 ++ from 2 (letterOf T) 5 19726336 0)
+    several (element 3 1 2 700 ++ element 1 2 3 1000 ++ tetra 4 2 3 1 2 ++ tetra 1 2 3 4 1)
+    (heat 2 3 ++ heat 3 7 ++ heat 4 5 ++ film 1 90000 ++ film 2 1000 ++ rim 1 4 1000 1000 ++ hold 4 19660800
+    ++ from 1 (letterOf E) 1 1 800 ++ from 1 (letterOf E) 2 1 900 ++ from 1 (letterOf H) 4 9 0 ++ from 2 (letterOf F) 1 10 19660800 ++ from 2 (letterOf T) 4 19726336 0)
 
 abbrev exchange : ℕ → ℕ → ℕ → ℕ
 exchange a b r = cond (eqb r a) b (cond (eqb r b) a r)
@@ -170,39 +167,25 @@ turn r = exchange 7 8 (exchange 9 10 (exchange 12 13 (exchange 14 15 (exchange 1
 -- what a build makes: its answer, the starts, P, A and the factor
 abbrev makes : List ℕ → List ℤ
 makes t =
-    let xs = replicate 15 (pos 77) in
-    let x = keptBuild (kept t xs xs xs xs (replicate 5 99) [] []) in
+    let xs = replicate 10 (pos 77) in
+    let x = keptBuild (kept t xs xs xs xs (replicate 4 99) [] []) in
     said (x .answer) ++ map pos (x .kept .starts) ++ x .kept .lent .slices .p ++ x .kept .lent .slices .a ++ x .kept .lent .slices .factor
 
 -- ---- figures
 
 unfoldable pub figures : List Figure
 figures =
-    ordered′ (built plate) thicker opened′
-    ∷ ordered′ (built plate) thinner thicker
-    ∷ ordered′ (built plate) thicker rimmed
-    ∷ ordered′ (built plate) opened′ rimmed
-    ∷ ordered′ (built plate) thinner hotter
-    ∷ ordered′ (built plate) rimmed held′
-    ∷ ordered′ (built plate) hotter held′
+    commuted (built plate) thicker rimmed
     ∷ undone (built plate) thicker true
-    ∷ undone (built plate) opened′ true
-    ∷ undone (built plate) rimmed true
     ∷ undone (built plate) hotter false
-    ∷ undone (built plate) held′ false
-    ∷ three (thicker ∷ held′ ∷ opened′ ∷ [])
-    ∷ three (opened′ ∷ thicker ∷ held′ ∷ [])
-    ∷ three (opened′ ∷ held′ ∷ thicker ∷ [])
-    ∷ three (held′ ∷ thicker ∷ opened′ ∷ [])
-    ∷ three (held′ ∷ opened′ ∷ thicker ∷ [])
+    ∷ shuffled (built plate) (hotter ∷ thicker ∷ warmer ∷ []) (warmer ∷ hotter ∷ thicker ∷ [])
     -- a foil alone is refused by 7, under a fan it is accepted: in one order both are, in the other the first is not
     ∷ record { got = said (posted (faced 1000 1) foil .answer) ++ said (inTurn (faced 1000 1) foil fan .answer); want = pos 7 ∷ pos 1 ∷ pos 0 ∷ pos 0 ∷ [] }
     ∷ record { got = said (posted (faced 1000 1) fan .answer) ++ said (inTurn (faced 1000 1) fan foil .answer); want = replicate 4 (pos 0) }
-    -- each accepted alone, and then the other is refused, the same in both orders
-    ∷ record { got = said (posted (faced 1000 48000) foil .answer) ++ said (inTurn (faced 1000 48000) foil still .answer); want = pos 0 ∷ pos 0 ∷ pos 7 ∷ pos 1 ∷ [] }
-    ∷ record { got = said (posted (faced 1000 48000) still .answer) ++ said (inTurn (faced 1000 48000) still foil .answer); want = pos 0 ∷ pos 0 ∷ pos 7 ∷ pos 1 ∷ [] }
+    -- a foil and a fan that stops, each accepted alone: the later of them is refused, by the same number and place in both orders
+    ∷ record { got = said (inTurn (faced 1000 48000) foil still .answer) ++ said (inTurn (faced 1000 48000) still foil .answer); want = pos 7 ∷ pos 1 ∷ pos 7 ∷ pos 1 ∷ [] }
     -- the same elements in another order
-    ∷ record { got = makes turned; want = makes module′ }
+    ∷ record { got = makes turned; want = makes listed }
     ∷ []
 
 runFigures : same (same eqZ) (map (λ (x : Figure). x .got) figures) (map (λ (x : Figure). x .want) figures) ≡ true
@@ -211,3 +194,57 @@ runFigures = refl
 
 pub as-posted : map (λ (x : Figure). x .got) figures ≡ map (λ (x : Figure). x .want) figures
 as-posted = figures-told (map (λ (x : Figure). x .got) figures) (map (λ (x : Figure). x .want) figures) runFigures
+
+-- ---- what these meet
+
+-- the three that are shown in two orders name different cards, and are the same three
+pub three-apart : AllApart (hotter ∷ thicker ∷ warmer ∷ [])
+three-apart = ((λ e. omega arith, (λ e. omega arith, tt)), ((λ e. omega arith, tt), (tt, tt)))
+
+pub three-shuffled : Shuffled (hotter ∷ thicker ∷ warmer ∷ []) (warmer ∷ hotter ∷ thicker ∷ [])
+three-shuffled = (warmer ∷ [], thicker ∷ [], refl, (warmer ∷ [], [], refl, ([], [], refl, refl)))
+
+-- what a test finds of each of 0, .., n - 1
+each-told : (n : ℕ) (test : ℕ → Bool) → any n (λ r. not (test r)) ≡ false → (r : ℕ) → r < n → test r ≡ true
+each-told n test e r h = not-false (test r) (any-each n (λ r. not (test r)) e r h)
+
+turn-back : (r : ℕ) → r < 24 → turn (turn r) ≡ r
+unfolding any turn
+turn-back r h = eqb-true (turn (turn r)) r (each-told 24 (λ r. eqb (turn (turn r)) r) refl r h)
+
+turn-in : (r : ℕ) → r < 24 → turn r < 24
+unfolding any turn
+turn-in r h = ltb-true (turn r) 24 (each-told 24 (λ r. ltb (turn r) 24) refl r h)
+
+moved-row : (r : ℕ) → r < 24 → rowAt turned (turn r) ≡ renumbered numbered (rowAt listed r)
+unfolding any turn numbered renumbered same kindOf about
+moved-row r h =
+    same-told eqb eqb-true (rowAt turned (turn r)) (renumbered numbered (rowAt listed r))
+    (each-told 24 (λ r. same eqb (rowAt turned (turn r)) (renumbered numbered (rowAt listed r))) refl r h)
+
+moved-number : (e : ℕ) → e < 5 → turn (elementRow listed e) ≡ elementRow listed (numbered e)
+unfolding any turn numbered nodes materials field
+moved-number e h = eqb-true (turn (elementRow listed e)) (elementRow listed (numbered e)) (each-told 5 (λ e. eqb (turn (elementRow listed e)) (elementRow listed (numbered e))) refl e h)
+
+-- a card that goes by no element's number stays
+abbrev goes : ℕ → Bool
+goes r = let kind = kindOf (letter listed r) in byElement kind || change (about kind)
+
+moved-not : (r : ℕ) → r < 24 → goes r ≡ false → turn r ≡ r
+unfolding any turn kindOf about field
+moved-not r h q = eqb-true (turn r) r (if-told (not (goes r)) (eqb (turn r) r) (each-told 24 (λ r. not (not (goes r)) || eqb (turn r) r) refl r h) (ap not q))
+
+-- THEOREM. The two lists of elements are such decks: nothing that is said of them is empty.
+pub turned-is : Reordered listed turned numbered
+unfolding any firstFrom sumN about kindOf before columns used usedBy zeros inRange ranked field elements stands clean rises ordered full nameAt cardNamed formed ranged judgeOne asks judgeCard judgeFrom trailer judgeRows judged
+turned-is = record {
+  first = refl;
+  second = refl;
+  to = turn;
+  back = turn;
+  each = record { in-to = turn-in; in-back = turn-in; there = turn-back; again = turn-back };
+  count = refl;
+  card = moved-row;
+  number = λ e lo hi. moved-number e (omega arith);
+  stays = moved-not;
+}
