@@ -173,27 +173,72 @@ makes t =
 
 -- ---- figures
 
-unfoldable pub figures : List Figure
-figures =
-    commuted (built plate) thicker rimmed
-    ∷ undone (built plate) thicker true
-    ∷ undone (built plate) hotter false
-    ∷ shuffled (built plate) (hotter ∷ thicker ∷ warmer ∷ []) (warmer ∷ hotter ∷ thicker ∷ [])
-    -- a foil alone is refused by 7, under a fan it is accepted: in one order both are, in the other the first is not
-    ∷ record { got = said (posted (faced 1000 1) foil .answer) ++ said (inTurn (faced 1000 1) foil fan .answer); want = pos 7 ∷ pos 1 ∷ pos 0 ∷ pos 0 ∷ [] }
+abbrev Wants : List Figure → Type 0
+Wants xs = same (same eqZ) (map (λ (x : Figure). x .got) xs) (map (λ (x : Figure). x .want) xs) ≡ true
+
+wants-told : (xs : List Figure) → Wants xs → map (λ (x : Figure). x .got) xs ≡ map (λ (x : Figure). x .want) xs
+wants-told xs = figures-told (map (λ (x : Figure). x .got) xs) (map (λ (x : Figure). x .want) xs)
+
+-- two in both orders: the factor is redone from row 1 by the one, from row 2 by the other
+unfoldable pub pairs : List Figure
+pairs = commuted (built plate) thicker rimmed ∷ []
+
+pairs-commute : Wants pairs
+unfolding pairs same eqZ nearestN nearest sum sumN any firstFrom table tri place lower starts rowStarts keptLower keptCell keptEntry expand shrink climb told about kindOf before columns used usedBy zeros inRange agree ranked field nodes materials elements put stands clean rises ordered full nameAt formed ranged judgeOne asks judgeCard judgeFrom trailer judgeRows judged answers newJudged square mass spread shapeOf spaceOf area b c S side² longest² thin pair u faceFilm length² reaches edgeFilm bodyOf flatOf elementOf fair areaOf formJudged elementJudged partOf least addsP addsA P A fixed cleared w l rowFrom rowsFrom elementsFrom build formOf moved redone replaced rowSize heavy badRow noFactor foreign enough opened lentJudged closed leaves buildCall replaceCall corner coupled firstOf strayRow widened narrowed keptEnough lengthsJudged startsJudged keptBuild keptReplace
+pairs-commute = refl
+
+-- a change taken back, and that of a card that stirs nothing
+unfoldable pub backs : List Figure
+backs = undone (built plate) thicker true ∷ undone (built plate) hotter false ∷ []
+
+backs-undo : Wants backs
+unfolding backs same eqZ nearestN nearest sum sumN any firstFrom table tri place lower starts rowStarts keptLower keptCell keptEntry expand shrink climb told about kindOf before columns used usedBy zeros inRange agree ranked field nodes materials elements put stands clean rises ordered full nameAt formed ranged judgeOne asks judgeCard judgeFrom trailer judgeRows judged answers newJudged square mass spread shapeOf spaceOf area b c S side² longest² thin pair u faceFilm length² reaches edgeFilm bodyOf flatOf elementOf fair areaOf formJudged elementJudged partOf least addsP addsA P A fixed cleared w l rowFrom rowsFrom elementsFrom build formOf moved redone replaced rowSize heavy badRow noFactor foreign enough opened lentJudged closed leaves buildCall replaceCall corner coupled firstOf strayRow widened narrowed keptEnough lengthsJudged startsJudged keptBuild keptReplace
+backs-undo = refl
+
+-- three in two orders
+unfoldable pub threes : List Figure
+threes = shuffled (built plate) (hotter ∷ thicker ∷ warmer ∷ []) (warmer ∷ hotter ∷ thicker ∷ []) ∷ []
+
+threes-end-alike : Wants threes
+unfolding threes same eqZ nearestN nearest sum sumN any firstFrom table tri place lower starts rowStarts keptLower keptCell keptEntry expand shrink climb told about kindOf before columns used usedBy zeros inRange agree ranked field nodes materials elements put stands clean rises ordered full nameAt formed ranged judgeOne asks judgeCard judgeFrom trailer judgeRows judged answers newJudged square mass spread shapeOf spaceOf area b c S side² longest² thin pair u faceFilm length² reaches edgeFilm bodyOf flatOf elementOf fair areaOf formJudged elementJudged partOf least addsP addsA P A fixed cleared w l rowFrom rowsFrom elementsFrom build formOf moved redone replaced rowSize heavy badRow noFactor foreign enough opened lentJudged closed leaves buildCall replaceCall corner coupled firstOf strayRow widened narrowed keptEnough lengthsJudged startsJudged keptBuild keptReplace keptAfterAll
+threes-end-alike = refl
+
+-- a foil alone is refused by 7, under a fan it is accepted: in one order both are, in the other the first is not; and a foil and a fan that stops, each
+-- accepted alone: the later of them is refused, by the same number and place in both orders
+unfoldable pub replies : List Figure
+replies =
+    record { got = said (posted (faced 1000 1) foil .answer) ++ said (inTurn (faced 1000 1) foil fan .answer); want = pos 7 ∷ pos 1 ∷ pos 0 ∷ pos 0 ∷ [] }
     ∷ record { got = said (posted (faced 1000 1) fan .answer) ++ said (inTurn (faced 1000 1) fan foil .answer); want = replicate 4 (pos 0) }
-    -- a foil and a fan that stops, each accepted alone: the later of them is refused, by the same number and place in both orders
     ∷ record { got = said (inTurn (faced 1000 48000) foil still .answer) ++ said (inTurn (faced 1000 48000) still foil .answer); want = pos 7 ∷ pos 1 ∷ pos 7 ∷ pos 1 ∷ [] }
-    -- the same elements in another order
-    ∷ record { got = makes turned; want = makes listed }
     ∷ []
 
-runFigures : same (same eqZ) (map (λ (x : Figure). x .got) figures) (map (λ (x : Figure). x .want) figures) ≡ true
-unfolding figures same eqZ nearestN nearest sum sumN any firstFrom table tri place lower starts rowStarts keptLower keptCell keptEntry expand shrink climb told about kindOf before columns used usedBy zeros inRange agree ranked field nodes materials elements put stands clean rises ordered full nameAt cardNamed formed ranged judgeOne asks judgeCard judgeFrom trailer judgeRows judged answers newJudged square mass spread share shapeOf spaceOf area b c S side² longest² thin pair u faceFilm face solid.b solid.c d sixfold solid.S solid.pair solid.u length² reaches edgeFilm bodyOf flatOf tetrahedronOf elementOf fair areaOf formJudged elementJudged heatShare partOf least addsP addsA P A fixed cleared w l rowFrom rowsFrom elementsFrom build formOf moved redone replaced rowSize heavy badRow noFactor foreign enough opened lentJudged closed leaves buildCall replaceCall corner coupled firstOf strayRow widened narrowed keptEnough lengthsJudged startsJudged keptBuild keptReplace keptAfterAll
-runFigures = refl
+replies-fit : Wants replies
+unfolding replies same eqZ nearestN nearest sum sumN any firstFrom table tri place lower starts rowStarts keptLower keptCell keptEntry expand shrink told about kindOf before columns used usedBy zeros inRange agree ranked field nodes materials elements put stands clean rises ordered full nameAt formed ranged judgeOne asks judgeCard judgeFrom trailer judgeRows judged answers newJudged square mass spread shapeOf spaceOf area b c S side² longest² thin pair u faceFilm bodyOf flatOf elementOf fair areaOf formJudged elementJudged partOf least addsP addsA P A fixed cleared w l rowFrom rowsFrom elementsFrom build formOf moved redone replaced rowSize heavy badRow noFactor foreign enough opened lentJudged closed leaves buildCall replaceCall corner coupled firstOf strayRow widened narrowed keptEnough lengthsJudged startsJudged keptBuild keptReplace
+replies-fit = refl
 
-pub as-posted : map (λ (x : Figure). x .got) figures ≡ map (λ (x : Figure). x .want) figures
-as-posted = figures-told (map (λ (x : Figure). x .got) figures) (map (λ (x : Figure). x .want) figures) runFigures
+-- the same elements in another order
+unfoldable pub orders : List Figure
+orders = record { got = makes turned; want = makes listed } ∷ []
+
+orders-make-one : Wants orders
+unfolding orders same eqZ nearestN nearest sum sumN any firstFrom table tri place lower starts rowStarts keptLower keptCell keptEntry expand shrink climb told about kindOf before columns used usedBy zeros inRange ranked field nodes materials elements stands clean rises ordered full nameAt cardNamed formed ranged judgeOne asks judgeCard judgeFrom trailer judgeRows judged square mass spread shapeOf spaceOf area b c S side² longest² thin pair u faceFilm face solid.b solid.c d sixfold solid.S solid.pair solid.u length² reaches edgeFilm bodyOf flatOf tetrahedronOf elementOf fair areaOf formJudged elementJudged heatShare partOf least addsP addsA P A fixed cleared w l rowFrom rowsFrom elementsFrom build enough closed leaves buildCall corner coupled firstOf widened narrowed keptEnough lengthsJudged keptBuild
+orders-make-one = refl
+
+-- THEOREMS. Figure by figure.
+pub commuted-is : map (λ (x : Figure). x .got) pairs ≡ map (λ (x : Figure). x .want) pairs
+commuted-is = wants-told pairs pairs-commute
+
+pub undone-is : map (λ (x : Figure). x .got) backs ≡ map (λ (x : Figure). x .want) backs
+undone-is = wants-told backs backs-undo
+
+pub shuffled-is : map (λ (x : Figure). x .got) threes ≡ map (λ (x : Figure). x .want) threes
+shuffled-is = wants-told threes threes-end-alike
+
+pub replied-is : map (λ (x : Figure). x .got) replies ≡ map (λ (x : Figure). x .want) replies
+replied-is = wants-told replies replies-fit
+
+pub made-is : map (λ (x : Figure). x .got) orders ≡ map (λ (x : Figure). x .want) orders
+made-is = wants-told orders orders-make-one
 
 -- ---- what these meet
 
