@@ -76,3 +76,4 @@ pub mod Puts
 pub mod Posted
 pub mod Shuffled
 pub mod Reordered
+pub mod Foil

@@ -1,5 +1,4 @@
--- Changes that commute, by figures, and what that wants: pairs in both orders, each undone, three in every order, a pair that one order refuses; and a deck
--- whose elements are listed in another order.
+-- Changes that commute, by figures: a pair in both orders, one taken back, three in two orders; and a deck whose elements are listed in another order.
 use mathlib.Core.Path.{_≡_, refl, ap}
 use mathlib.Core.Bool.{Bool, true, false, not, cond, _||_}
 use mathlib.Core.List.{List, [], _∷_, _++_, map}
@@ -20,7 +19,7 @@ use Rattle.paper.specs.Refusals.{told}
 use Rattle.paper.specs.Kinds.{about, change, kindOf, letterOf}
 use Rattle.paper.specs.Cards.{before, columns, used, usedBy, zeros, inRange, agree, ranked, field, letter, rowAt, rows, nodes, materials, elements, elementRow, put}
 use Rattle.paper.specs.Judge.{stands, clean, rises, ordered, full, nameAt, cardNamed, formed, ranged, judgeOne, asks, judgeCard, judgeFrom, trailer, judgeRows, judged, answers, newJudged}
-use Rattle.paper.specs.Corners.{square, mass, spread, share, shapeOf, area}
+use Rattle.paper.specs.Corners.{square, mass, spread, shapeOf, area}
 use Rattle.paper.specs.Triangle.{b, c, S, side², longest², thin, pair, u, faceFilm}
 use Rattle.paper.specs.Tetrahedron as solid
 use Rattle.paper.specs.Tetrahedron.{spaceOf, face, d, sixfold}
@@ -48,7 +47,7 @@ use Rattle.paper.proofs.Checked.{element, right, rim, material, tetra, 
 abbrev heat : ℕ → ℕ → List ℕ
 heat e µW = letterOf H ∷ e ∷ µW ∷ 0 ∷ 0 ∷ 0 ∷ []
 
-abbrev film : ℕ → ℕ → List ℕ
+abbrev pub film : ℕ → ℕ → List ℕ
 film e value = letterOf F ∷ e ∷ value ∷ 19660800 ∷ 0 ∷ 0 ∷ []
 
 abbrev hold : ℕ → ℕ → List ℕ
@@ -60,23 +59,23 @@ from increment letter key x y = letterOf C ∷ increment ∷ letter ∷ key ∷ 
 
 -- ---- changes of a triangle: E card 6, H 7, F 8, G 9, T 10
 
-abbrev plate : List ℕ
+abbrev pub plate : List ℕ
 plate = counted 1000 right (material 1000 1000 0 2400) (element 1 2 3 1000) (heat 1 3 ++ film 1 1000 ++ rim 2 3 1000 1000 ++ hold 1 19660800)
 
 -- what a build leaves of slices of seven numbers, one past the matrix length, and then 55 all over the work slice
-abbrev built : List ℕ → Kept
+abbrev pub built : List ℕ → Kept
 built t =
     let xs = replicate 7 (pos 77) in
     let x = keptBuild (kept t xs xs xs xs (replicate 4 99) (replicate 4 (pos 19660800)) (replicate 4 (pos 1))) .kept in
     kept (x .lent .table) (x .lent .slices .p) (x .lent .slices .a) (x .lent .slices .factor) (replicate 7 (pos 55)) (x .starts) (x .lent .temperatures) (x .lent .carried)
 
-abbrev becomes : (card : ℕ) (new : List ℕ) → length new ≡ 6 → Asked
+abbrev pub becomes : (card : ℕ) (new : List ℕ) → length new ≡ 6 → Asked
 becomes card new six = record { card = card; new = new; six = six }
 
 abbrev thicker : Asked
 thicker = becomes 6 (element 1 2 3 1200) refl
 
-abbrev hotter : Asked
+abbrev pub hotter : Asked
 hotter = becomes 7 (heat 1 3000) refl
 
 abbrev rimmed : Asked
@@ -86,7 +85,7 @@ abbrev warmer : Asked
 warmer = becomes 10 (hold 1 19726336) refl
 
 -- number and place of an answer
-abbrev said : Answer → List ℤ
+abbrev pub said : Answer → List ℤ
 said a = pos (told a .number) ∷ pos (told a .place) ∷ []
 
 -- every number that is lent
@@ -107,7 +106,7 @@ commuted z q r = record {
 }
 
 -- the change and then the old card; the work slice zeroed where the card stirs
-abbrev undone : Kept → Asked → Bool → Figure
+abbrev pub undone : Kept → Asked → Bool → Figure
 undone z q stirs =
     let x = keptReplace (posted z q .kept) (q .card) (rowAt (z .lent .table) (q .card - 1)) in
     record { got = said (posted z q .answer) ++ said (x .answer) ++ all (x .kept); want = replicate 4 (pos 0) ++ all (workZeroed stirs z) }
@@ -120,20 +119,6 @@ saidAll z (q ∷ qs) = said (posted z q .answer) ++ saidAll (posted z q .kept) q
 -- three in two orders
 abbrev shuffled : Kept → List Asked → List Asked → Figure
 shuffled z qs rs = record { got = saidAll z qs ++ saidAll z rs ++ all (keptAfterAll z qs); want = replicate 12 (pos 0) ++ all (keptAfterAll z rs) }
-
--- ---- what the assumption is for: a triangle with a film over it, in steps of a minute: E card 6, F card 7
-
-abbrev faced : ℕ → ℕ → Kept
-faced thick value = built (counted 60000 right (material 1000 1000 0 2400) (element 1 2 3 thick) (film 1 value))
-
-abbrev foil : Asked
-foil = becomes 6 (element 1 2 3 10) refl
-
-abbrev fan : Asked
-fan = becomes 7 (film 1 48000) refl
-
-abbrev still : Asked
-still = becomes 7 (film 1 1) refl
 
 -- ---- elements in another order
 
@@ -173,10 +158,10 @@ makes t =
 
 -- ---- figures
 
-abbrev Wants : List Figure → Type 0
+abbrev pub Wants : List Figure → Type 0
 Wants xs = same (same eqZ) (map (λ (x : Figure). x .got) xs) (map (λ (x : Figure). x .want) xs) ≡ true
 
-wants-told : (xs : List Figure) → Wants xs → map (λ (x : Figure). x .got) xs ≡ map (λ (x : Figure). x .want) xs
+pub wants-told : (xs : List Figure) → Wants xs → map (λ (x : Figure). x .got) xs ≡ map (λ (x : Figure). x .want) xs
 wants-told xs = figures-told (map (λ (x : Figure). x .got) xs) (map (λ (x : Figure). x .want) xs)
 
 -- two in both orders: the factor is redone from row 1 by the one, from row 2 by the other
@@ -187,9 +172,9 @@ pairs-commute : Wants pairs
 unfolding pairs same eqZ nearestN nearest sum sumN any firstFrom table tri place lower starts rowStarts keptLower keptCell keptEntry expand shrink climb told about kindOf before columns used usedBy zeros inRange agree ranked field nodes materials elements put stands clean rises ordered full nameAt formed ranged judgeOne asks judgeCard judgeFrom trailer judgeRows judged answers newJudged square mass spread shapeOf spaceOf area b c S side² longest² thin pair u faceFilm length² reaches edgeFilm bodyOf flatOf elementOf fair areaOf formJudged elementJudged partOf least addsP addsA P A fixed cleared w l rowFrom rowsFrom elementsFrom build formOf moved redone replaced rowSize heavy badRow noFactor foreign enough opened lentJudged closed leaves buildCall replaceCall corner coupled firstOf strayRow widened narrowed keptEnough lengthsJudged startsJudged keptBuild keptReplace
 pairs-commute = refl
 
--- a change taken back, and that of a card that stirs nothing
+-- a change taken back
 unfoldable pub backs : List Figure
-backs = undone (built plate) thicker true ∷ undone (built plate) hotter false ∷ []
+backs = undone (built plate) thicker true ∷ []
 
 backs-undo : Wants backs
 unfolding backs same eqZ nearestN nearest sum sumN any firstFrom table tri place lower starts rowStarts keptLower keptCell keptEntry expand shrink climb told about kindOf before columns used usedBy zeros inRange agree ranked field nodes materials elements put stands clean rises ordered full nameAt formed ranged judgeOne asks judgeCard judgeFrom trailer judgeRows judged answers newJudged square mass spread shapeOf spaceOf area b c S side² longest² thin pair u faceFilm length² reaches edgeFilm bodyOf flatOf elementOf fair areaOf formJudged elementJudged partOf least addsP addsA P A fixed cleared w l rowFrom rowsFrom elementsFrom build formOf moved redone replaced rowSize heavy badRow noFactor foreign enough opened lentJudged closed leaves buildCall replaceCall corner coupled firstOf strayRow widened narrowed keptEnough lengthsJudged startsJudged keptBuild keptReplace
@@ -202,19 +187,6 @@ threes = shuffled (built plate) (hotter ∷ thicker ∷ warmer ∷ []) (warmer �
 threes-end-alike : Wants threes
 unfolding threes same eqZ nearestN nearest sum sumN any firstFrom table tri place lower starts rowStarts keptLower keptCell keptEntry expand shrink climb told about kindOf before columns used usedBy zeros inRange agree ranked field nodes materials elements put stands clean rises ordered full nameAt formed ranged judgeOne asks judgeCard judgeFrom trailer judgeRows judged answers newJudged square mass spread shapeOf spaceOf area b c S side² longest² thin pair u faceFilm length² reaches edgeFilm bodyOf flatOf elementOf fair areaOf formJudged elementJudged partOf least addsP addsA P A fixed cleared w l rowFrom rowsFrom elementsFrom build formOf moved redone replaced rowSize heavy badRow noFactor foreign enough opened lentJudged closed leaves buildCall replaceCall corner coupled firstOf strayRow widened narrowed keptEnough lengthsJudged startsJudged keptBuild keptReplace keptAfterAll
 threes-end-alike = refl
-
--- a foil alone is refused by 7, under a fan it is accepted: in one order both are, in the other the first is not; and a foil and a fan that stops, each
--- accepted alone: the later of them is refused, by the same number and place in both orders
-unfoldable pub replies : List Figure
-replies =
-    record { got = said (posted (faced 1000 1) foil .answer) ++ said (inTurn (faced 1000 1) foil fan .answer); want = pos 7 ∷ pos 1 ∷ pos 0 ∷ pos 0 ∷ [] }
-    ∷ record { got = said (posted (faced 1000 1) fan .answer) ++ said (inTurn (faced 1000 1) fan foil .answer); want = replicate 4 (pos 0) }
-    ∷ record { got = said (inTurn (faced 1000 48000) foil still .answer) ++ said (inTurn (faced 1000 48000) still foil .answer); want = pos 7 ∷ pos 1 ∷ pos 7 ∷ pos 1 ∷ [] }
-    ∷ []
-
-replies-fit : Wants replies
-unfolding replies same eqZ nearestN nearest sum sumN any firstFrom table tri place lower starts rowStarts keptLower keptCell keptEntry expand shrink told about kindOf before columns used usedBy zeros inRange agree ranked field nodes materials elements put stands clean rises ordered full nameAt formed ranged judgeOne asks judgeCard judgeFrom trailer judgeRows judged answers newJudged square mass spread shapeOf spaceOf area b c S side² longest² thin pair u faceFilm bodyOf flatOf elementOf fair areaOf formJudged elementJudged partOf least addsP addsA P A fixed cleared w l rowFrom rowsFrom elementsFrom build formOf moved redone replaced rowSize heavy badRow noFactor foreign enough opened lentJudged closed leaves buildCall replaceCall corner coupled firstOf strayRow widened narrowed keptEnough lengthsJudged startsJudged keptBuild keptReplace
-replies-fit = refl
 
 -- the same elements in another order
 unfoldable pub orders : List Figure
@@ -233,9 +205,6 @@ undone-is = wants-told backs backs-undo
 
 pub shuffled-is : map (λ (x : Figure). x .got) threes ≡ map (λ (x : Figure). x .want) threes
 shuffled-is = wants-told threes threes-end-alike
-
-pub replied-is : map (λ (x : Figure). x .got) replies ≡ map (λ (x : Figure). x .want) replies
-replied-is = wants-told replies replies-fit
 
 pub made-is : map (λ (x : Figure). x .got) orders ≡ map (λ (x : Figure). x .want) orders
 made-is = wants-told orders orders-make-one
