@@ -7,6 +7,10 @@
  * in degrees Celsius.
  *
  * panel_open, panel_page and the three switches are what would stand in a kernel; main and the printing are not.
+ *
+ * Light, case and frame change different cards, so whoever switches them may do so in any order, one at a time: where no switch
+ * is refused, the model ends in the same numbers. A switch that is refused may want another first; the cards that it changed
+ * before that stay changed. The change that came last is taken back by its card's old numbers, which are never refused.
  */
 #include <gormulast.h>
 #include <stdio.h>

@@ -221,7 +221,7 @@ module _ (t : List ℕ) (ok : judged t ≡ Done) where
   abbrev card : List ℕ
   card = rowAt t (rows t - 1)
 
-  is-Z : kindIn t (rows t - 1) ≡ Z
+  pub is-Z : kindIn t (rows t - 1) ≡ Z
   unfolding trailer
   is-Z =
       let (l, _) = and-told (isA Z card) (inRange (columnsOf (countsOf card (λ i. 0)) card) card 5 0) (tp .zed) in

@@ -107,22 +107,24 @@ narrow-zeros t ws h =
 
 -- ---- after a refusal
 
+-- a work slice that is zeroed or not, kept again
+pub work-kept : (z : Lent) (b : Bool) → keptLong (z .table) ≤ length (z .work)
+    → onto (shrink (firstOf (z .table)) (nodes (z .table)) (worked b (widened z))) (z .work) ≡ cond b (over (replicate (keptLong (z .table)) (pos 0)) (z .work)) (z .work)
+unfolding widened
+work-kept z false h = narrow-same (firstOf (z .table)) (first-low (z .table)) (nodes (z .table)) (z .work)
+work-kept z true h =
+    let t = z .table in
+    let zs = replicate (tri (nodes t)) (pos 0) in
+    ap (λ (xs : List ℤ). onto (shrink (firstOf t) (nodes t) xs) (z .work)) (over-all zs (wideOf t (z .work)) (length-replicate (tri (nodes t)) (pos 0) ∙ sym (length-expand (firstOf t) (nodes t) (z .work))))
+    ∙ narrow-zeros t (z .work) h
+
 -- what document 01's refused call left, kept again
 asLent-kept : (z : Kept) (works : Bool) (r : Refusal) → keptLong (z .lent .table) ≤ length (z .lent .work) → narrowed (z .lent) (asLent works r (widened (z .lent))) ≡ keptAsLent works r z .lent
 unfolding narrowed widened
 asLent-kept z works r h =
     let t = z .lent .table in
     let same = narrow-same (firstOf t) (first-low t) (nodes t) in
-    λ i. lent t (same (z .lent .slices .p) i) (same (z .lent .slices .a) i) (same (z .lent .slices .factor) i) (work (works && inFactor r) i) (z .lent .temperatures) (z .lent .carried)
-  where
-    work : (b : Bool) → onto (shrink (firstOf (z .lent .table)) (nodes (z .lent .table)) (worked b (widened (z .lent)))) (z .lent .work)
-        ≡ cond b (over (replicate (keptLong (z .lent .table)) (pos 0)) (z .lent .work)) (z .lent .work)
-    work false = narrow-same (firstOf (z .lent .table)) (first-low (z .lent .table)) (nodes (z .lent .table)) (z .lent .work)
-    work true =
-        let t = z .lent .table in
-        let zs = replicate (tri (nodes t)) (pos 0) in
-        ap (λ (xs : List ℤ). onto (shrink (firstOf t) (nodes t) xs) (z .lent .work)) (over-all zs (wideOf t (z .lent .work)) (length-replicate (tri (nodes t)) (pos 0) ∙ sym (length-expand (firstOf t) (nodes t) (z .lent .work))))
-        ∙ narrow-zeros t (z .lent .work) h
+    λ i. lent t (same (z .lent .slices .p) i) (same (z .lent .slices .a) i) (same (z .lent .slices .factor) i) (work-kept (z .lent) (works && inFactor r) h i) (z .lent .temperatures) (z .lent .carried)
 
 -- nothing was begun
 none-begun : (works : Bool) (r : Refusal) → inFactor r ≡ false → works && inFactor r ≡ false

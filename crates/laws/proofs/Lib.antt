@@ -73,3 +73,8 @@ pub mod Targets
 pub mod Cursor
 pub mod Turns
 pub mod Unchanging
+pub mod Puts
+pub mod Posted
+pub mod Shuffled
+pub mod Reordered
+pub mod Foil

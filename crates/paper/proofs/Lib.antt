@@ -11,3 +11,4 @@ pub mod Solids
 pub mod Recorded
 pub mod Kept
 pub mod Changed
+pub mod Posted

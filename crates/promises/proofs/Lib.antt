@@ -13,4 +13,5 @@ pub mod Book
 pub mod Kept
 pub mod KeptReplacing
 pub mod Changes
+pub mod Commuting
 pub mod Records

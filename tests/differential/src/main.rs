@@ -28,6 +28,7 @@ mod met_thin;
 mod packed;
 mod packed_face;
 mod plan;
+mod posted;
 mod rows;
 mod runs;
 mod show;
@@ -59,7 +60,8 @@ fn main() -> ExitCode {
     println!("P1 to P12, the figures of the edge film, the tetrahedron, the residuals, thin triangles, starts and changes out of the archive: as the papers have them");
     println!("seed {seed}");
     let mut trial = trial::Trial::new(seed, MOST);
-    let parts = plan::LENT.into_iter().chain(runs::ALL).chain(plan::DAMAGED);
+    let parts = plan::LENT.into_iter().chain(runs::ALL).chain(posted::ALL);
+    let parts = parts.chain(plan::DAMAGED);
     for (name, part) in parts {
         let (cases, seconds) = (trial.cases(), trial.seconds());
         part(&mut trial);

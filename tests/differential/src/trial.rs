@@ -4,6 +4,7 @@ use crate::case::{Call, Case, Lent, MATRICES};
 use crate::decks::{kept_of, nodes_of, Chance, NUMBERS};
 use crate::met::Met;
 use crate::met_runs::Runs;
+use crate::posted::Posted;
 use crate::show;
 use crate::shrink::shrink;
 use crate::{carried, rows};
@@ -19,6 +20,7 @@ pub struct Trial {
     met: [[u64; NUMBERS]; 6],
     things: Met,
     runs: Runs,
+    pub posted: Posted,
     /// Decks after replacements that were compared with a fresh build.
     fresh: u64,
     began: Instant,
@@ -32,6 +34,7 @@ impl Trial {
             met: [[0; NUMBERS]; 6],
             things: Met::default(),
             runs: Runs::default(),
+            posted: Posted::default(),
             fresh: 0,
             began: Instant::now(),
             most,
@@ -143,7 +146,8 @@ impl Trial {
         self.met.iter().flatten().sum()
     }
 
-    /// Prints what was met. Was every refusal, and all of G, of heats, of residuals, of V, of thin triangles, of starts, of C and of runs?
+    /// Prints what was met. Was every refusal, and all of G, of heats, of residuals, of V, of thin triangles, of starts, of C, of runs and of
+    /// changes in two orders?
     pub fn report(&self) -> bool {
         print!("{:8} {:>8} {:>8}", "call", "cases", "done");
         (1..NUMBERS).for_each(|number| print!(" {number:>6}"));
@@ -166,8 +170,11 @@ impl Trial {
             .iter()
             .for_each(|line| println!("{line}"));
         self.runs.lines().iter().for_each(|line| println!("{line}"));
+        let posted = self.posted.lines();
+        posted.iter().for_each(|line| println!("{line}"));
         let mut things = self.things.unmet();
         things.extend(self.runs.unmet());
+        things.extend(self.posted.unmet());
         things.iter().for_each(|thing| println!("not met: {thing}"));
         unmet.is_empty() && things.is_empty()
     }
