@@ -129,7 +129,7 @@ class Case:
     """The figures of one case: each is held within the sum of what is allowed for, by name."""
 
     def __init__(self, letter, title):
-        self.letter, self.failed, self.groups = letter, 0, []
+        self.letter, self.failed = letter, 0
         print(f"{letter}: {title}")
 
     def hold(self, group, figures, **allowed):
@@ -146,7 +146,6 @@ class Case:
                 print(f"   FAILS: {group}, {name}: printed {printed:g}, ours {ours:.5g}, {apart:+.4g}, allowed {most:.2g}")
         parts = ", ".join(f"{name} {self.span(part, len(figures))}" for name, part in allowed.items())
         print(f"   {group}: {len(figures)} figures, rms {math.sqrt(squares / len(figures)):.2g}, worst {worst:+.2g}, at most {share:.0%} of what is allowed: {parts}")
-        return worst
 
     @staticmethod
     def span(part, count):
