@@ -200,13 +200,13 @@ pub fn lengths(trial: &mut Trial) {
     }
     for length in [5_430, 5_435, 5_437, 5_442] {
         let mut other = table[..5_430].to_vec();
-        other.resize(length.max(5_436) - 6, 0);
+        other.resize(length.max(6_396) - 6, 0);
         other.extend(&table[5_430..]);
         other.truncate(length);
         each_call(trial, &other);
     }
     // A last count that may be, and one more: so many H cards never rise.
-    for count in [639, 640, 641] {
+    for count in [799, 800, 801] {
         let mut groups = Groups::base();
         groups.heats = vec![[1, 9]; count];
         each_call(trial, &groups.table());

@@ -139,7 +139,7 @@ impl Met {
             self.heated(table);
         }
         self.count(0, edges(table).count() == 160);
-        self.count(2, table.len() == 5_436);
+        self.count(2, table.len() == 6_396);
         let pairs = || edges(table).zip(edges(table).skip(1));
         self.count(3, pairs().any(|(before, card)| before[1] == card[1]));
         self.count(4, pairs().any(|(before, card)| before[2] > card[2]));

@@ -102,9 +102,9 @@ pub const DAMAGED: [Part; 6] = [
 
 // ---- decks and buffers
 
-/// A deck of any kind: most of them build. One in two with changes, one in three numbered by chance.
+/// A deck of any kind: most of them build. One in two with changes, one in two over a stand, one in three numbered by chance.
 pub fn deck(chance: &mut Chance) -> Vec<u32> {
-    let groups = match chance.within(0, 13) {
+    let mut groups = match chance.within(0, 13) {
         0 => Groups::slivers(chance),
         1..=3 => Groups::wild(chance),
         4 => Groups::base(),
@@ -123,6 +123,9 @@ pub fn deck(chance: &mut Chance) -> Vec<u32> {
             Groups::sheet(chance, columns, rows)
         }
     };
+    if chance.one_in(2) {
+        groups.dock(chance);
+    }
     let groups = groups.varied(chance);
     match chance.one_in(3) {
         true => groups.shuffled(chance).table(),
@@ -669,7 +672,7 @@ fn damage(chance: &mut Chance, table: &mut Vec<u32>) {
 /// Another number: beside this one, at a limit of the paper or beside it, or anything.
 fn edge(chance: &mut Chance, number: u32) -> u32 {
     const LIMITS: [u32; 19] = [
-        0, 1, 3, 8, 69, 70, 72, 84, 96, 160, 640, 1_023, 4_000, 4_095, 5_000, 60_000, 100_000,
+        0, 1, 3, 8, 69, 70, 72, 82, 84, 96, 160, 800, 1_000, 1_023, 4_000, 4_095, 5_000, 60_000, 100_000,
         500_000, 5_000_000,
     ];
     match chance.within(0, 5) {

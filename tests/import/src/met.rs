@@ -199,7 +199,7 @@ const THINGS: [Thing; 70] = [
     ("no record but the last", |s| {
         s.done() && s.records.len() == 1
     }),
-    ("906 cards", |s| s.done() && s.wanted() == 5_436),
+    ("1,066 cards", |s| s.done() && s.wanted() == 6_396),
     ("changes after new T cards", |s| {
         s.done() && s.count(C) > 0 && s.records.iter().any(|record| record.kind == HELD)
     }),

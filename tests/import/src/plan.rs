@@ -26,7 +26,7 @@ pub const PARTS: [(&str, fn(&mut Trial)); 14] = [
 
 /// A deck of any kind, with loads for records to be of, one in two with changes.
 fn deck(chance: &mut Chance) -> Groups {
-    let groups = match chance.within(0, 7) {
+    let mut groups = match chance.within(0, 7) {
         0 => Groups::one_of_each(),
         1 => Groups::two_solids(),
         2 => {
@@ -39,6 +39,9 @@ fn deck(chance: &mut Chance) -> Groups {
         }
         _ => Groups::wild(chance),
     };
+    if chance.one_in(2) {
+        groups.dock(chance);
+    }
     groups.varied(chance)
 }
 
