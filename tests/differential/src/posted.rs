@@ -368,6 +368,11 @@ fn relisted(chance: &mut Chance, groups: &Groups) -> Groups {
         .iter_mut()
         .for_each(|film| film[0] = number(film[0]));
     other.films.sort_unstable();
+    other
+        .sources
+        .iter_mut()
+        .for_each(|source| source[0] = number(source[0]));
+    other.sources.sort_unstable();
     for change in &mut other.changes {
         if [E, H, F].contains(&change[1]) {
             change[2] = number(change[2]);
@@ -387,6 +392,7 @@ fn listed(trial: &mut Trial) {
             2 => Groups::wild(chance),
             _ => Groups::sheet(chance, 4, 3),
         };
+        groups.dock(chance);
         groups.changes.clear();
         groups.change(chance, 12, 2, false);
         let other = relisted(chance, &groups);
