@@ -16,7 +16,7 @@ pub const ALL: [Part; 5] = [
     ("elements listed in another order", listed),
 ];
 
-const THINGS: [&str; 14] = [
+const THINGS: [&str; 15] = [
     "pairs accepted in both orders, both of E, V, F or G",
     "pairs accepted in both orders, one of them of H or T",
     "pairs accepted in both orders, both of H or T",
@@ -31,6 +31,7 @@ const THINGS: [&str; 14] = [
     "decks with elements in another order that build",
     "solid decks with E and V in another order that build",
     "decks with elements in another order and C cards in another order",
+    "decks with elements in another order and R cards in another order",
 ];
 
 /// Counts of THINGS, none of which may stay at zero.
@@ -468,5 +469,7 @@ fn listed(trial: &mut Trial) {
                 && groups.solids != other.solids,
         );
         met.count(13, moved);
+        let ticks = |it: &Groups| it.sources.iter().map(|r| r[1]).collect::<Vec<_>>();
+        met.count(14, ticks(&groups) != ticks(&other));
     }
 }
