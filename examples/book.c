@@ -1,7 +1,7 @@
 // SPDX-License-Identifier: GPL-2.0-only OR MIT
 /* book DECK: the heat book of a long run, with what each step carries lent to the next, and with it forgotten.
  *
- * The deck has heat, and no F, G or T card through which any could go: all of it stays in the board. So two sums must be the
+ * The deck has heat, and no F, G, R or T card through which any could go: all of it stays in the board. So two sums must be the
  * same after every step, both in 1/65536 microwatts over a step:
  *
  *     board   P times the temperatures, over all nodes, and what is carried
@@ -107,7 +107,7 @@ static int is_closed(void)
 	size_t at;
 
 	for (at = 0; at < length; at += GORMULAST_CARD_NUMBERS)
-		if (table[at] == 'F' || table[at] == 'G' || table[at] == 'T')
+		if (table[at] == 'F' || table[at] == 'G' || table[at] == 'R' || table[at] == 'T')
 			return 0;
 	return 1;
 }
@@ -198,7 +198,7 @@ int main(int count, char **words)
 	length = (to - from) / GORMULAST_CARD_BYTES * GORMULAST_CARD_NUMBERS;
 	nodes = table[length - 4];
 	if (!is_closed()) {
-		fprintf(stderr, "book: the deck has a card F, G or T\n");
+		fprintf(stderr, "book: the deck has a card F, G, R or T\n");
 		return 2;
 	}
 	if (refused(gormulast_build(table, length, p, MATRIX, a, MATRIX, factor, MATRIX, work, MATRIX, starts, GORMULAST_MAX_NODES)))

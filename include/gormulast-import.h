@@ -55,8 +55,8 @@ static inline const char *gormulast_import_words(unsigned number)
 #define GORMULAST_RECORD_BYTES      12
 #define GORMULAST_MAX_RECORDS_BYTES 65536
 
-/* A deck that has no H, F or T card, with those that the records are: its cards up to the elements, H, F, its own G, T, its own C and
- * a new Z. Its C cards can only be of E. The deck's table and the records are only read.
+/* A deck that has no H, F or T card, with those that the records are: its cards up to the elements, H, F, its own G and R, T, its own C
+ * and a new Z. Its C cards can only be of E. The deck's table and the records are only read.
  *   0        the first numbers of second are the new deck's table, six for each card of the old one and for each record but the last:
  *            table_length + records_length / 2 - 6. Numbers past them stay
  *   refused  second stays

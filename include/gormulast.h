@@ -69,7 +69,9 @@ static inline const char *gormulast_words(unsigned number)
 #define GORMULAST_TOP    33554432
 
 /* A card is 42 bytes in a deck and six numbers in a table: its letter, five fields. A deck is solid where its last element is a V
- * card: then each N has a z in its third field and each M a kz in its fourth, which elsewhere are blank, 0 in a table.
+ * card: then each N has a z in its third field and each M a kz in its fourth, which elsewhere are blank, 0 in a table. An M's fifth
+ * field is its emissivity in thousandths or blank; an R card is a triangle's source, to which it radiates by the temperatures that a
+ * step is lent.
  *
  * A C card says what a run of the deck changes before one of its steps: the increment, a letter by its code, the key of an E, H, F or T
  * card and its new values. The calls here take a deck that has some, and pay no heed to them: a driver's changes are replacements. */
@@ -78,7 +80,7 @@ static inline const char *gormulast_words(unsigned number)
 
 /* The most that a deck can need. */
 #define GORMULAST_MAX_BYTES   65536
-#define GORMULAST_MAX_TABLE   5436
+#define GORMULAST_MAX_TABLE   6396
 #define GORMULAST_MAX_NODES   96
 #define GORMULAST_MAX_CHANGES 64
 

@@ -8,6 +8,7 @@ const V: u32 = b'V' as u32;
 const F: u32 = b'F' as u32;
 const G: u32 = b'G' as u32;
 const H: u32 = b'H' as u32;
+const R: u32 = b'R' as u32;
 
 pub struct Board {
     pub bytes: Vec<u8>,
@@ -115,6 +116,30 @@ impl Board {
         self.cards(G)
             .map(|(number, card)| (card[1], number, card))
             .min_by_key(|(low, ..)| low.abs_diff(node))
+    }
+}
+
+impl Board {
+    /// The same board with no R card; none where it has none.
+    pub fn without_sources(&self) -> Option<Board> {
+        let cards = self.table.chunks_exact(6);
+        let mut table: Vec<u32> = cards
+            .filter(|card| card[0] != R)
+            .flatten()
+            .copied()
+            .collect();
+        let gone = (self.table.len() - table.len()) as u32 / 6;
+        let end = table.len();
+        table[end - 5] -= 42 * gone;
+        table[end - 1] -= gone;
+        (gone > 0).then(|| Board {
+            bytes: self.bytes.clone(),
+            table,
+            nodes: self.nodes,
+            starts: self.starts.clone(),
+            packed: self.packed.clone(),
+            kept: self.kept.clone(),
+        })
     }
 }
 

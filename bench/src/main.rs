@@ -127,6 +127,9 @@ fn calls(boards: &[Board]) {
         if let Some(factors) = board.factors_for(4) {
             show("step by 4", board, steps(board, factors));
         }
+        if let Some(bare) = board.without_sources() {
+            radiation(board, &bare);
+        }
         #[cfg(feature = "run")]
         runs(board);
     }
@@ -161,6 +164,23 @@ fn steps(board: &Board, [packed, kept]: [Vec<i64>; 2]) -> [f64; 3] {
         plain::step_kept(board, kept.clone()),
         archive::step(board, kept),
     ])
+}
+
+/// A step of the archive on the same board with R cards and without them.
+fn radiation(board: &Board, bare: &Board) {
+    let own = board.factors();
+    for (name, factors) in [("own", Some(own)), ("4", board.factors_for(4))] {
+        let Some([_, kept]) = factors else { continue };
+        let works = [
+            archive::step(bare, kept.clone()),
+            archive::step(board, kept),
+        ];
+        let [without, with] = in_turns(works);
+        let cards = (board.table.len() - bare.table.len()) / 6;
+        let ratio = with / without;
+        let mark = if ratio <= 1.5 { "" } else { "  more" };
+        println!("step, {name} corrections: without R {without:.0} ns, with {cards} R cards {with:.0} ns, {ratio:.2} of it{mark}");
+    }
 }
 
 /// All of the deck's steps; and the same with changes, one at every other step and as many as there may be.

@@ -11,6 +11,7 @@ pub const V: u32 = b'V' as u32;
 pub const H: u32 = b'H' as u32;
 pub const F: u32 = b'F' as u32;
 pub const G: u32 = b'G' as u32;
+pub const R: u32 = b'R' as u32;
 pub const T: u32 = b'T' as u32;
 pub const C: u32 = b'C' as u32;
 pub const Z: u32 = b'Z' as u32;
@@ -20,8 +21,8 @@ pub const MAX_MATERIALS: usize = 8;
 pub const MAX_ELEMENTS: usize = 160;
 pub const MAX_EDGES: usize = 160;
 pub const MAX_CHANGES: usize = 64;
-/// H and F of every element, G of every edge, T of every node, and the changes.
-pub const MAX_LOADS: usize = 2 * MAX_ELEMENTS + MAX_EDGES + MAX_NODES + MAX_CHANGES;
+/// H, F and R of every element, G of every edge, T of every node, and the changes.
+pub const MAX_LOADS: usize = 3 * MAX_ELEMENTS + MAX_EDGES + MAX_NODES + MAX_CHANGES;
 /// D, every group full, and Z.
 pub const MAX_ROWS: usize = 2 + MAX_NODES + MAX_MATERIALS + MAX_ELEMENTS + MAX_LOADS;
 
@@ -31,21 +32,34 @@ pub const MAX_BYTES: usize = 65_536;
 /// The top of the temperature scale, in ticks of 1/65,536 K.
 pub const TOP: u32 = 33_554_432;
 
+/// The field of an M that is its emissivity in thousandths, 0 where it is blank.
+pub const EMISSIVITY: usize = 5;
+pub const MAX_EMISSIVITY: u32 = 1_000;
+
 /// The most steps that D asks for, and the last increment that a C names.
 pub const MAX_STEPS: u32 = 100_000;
 /// A new value in a C card: all that eight columns hold. Its own range is asked when the change is made.
 pub const MAX_VALUE: u32 = 99_999_999;
 
-/// How many fields a card uses; None of a letter that is none of the eleven. In a solid deck, one whose last
+/// How many fields of a card are numbers; None of a letter that is none of the twelve. In a solid deck, one whose last
 /// element is a V, an N has its z and an M its kz. A C has one new value where its letter's code is H's or T's.
 pub fn fields_used(card: &Card, solid: bool) -> Option<usize> {
     match card[0] {
-        H | T => Some(2),
+        H | R | T => Some(2),
         D | F => Some(3),
         C if card[2] == H || card[2] == T => Some(4),
         E | V | G | C | Z => Some(5),
         N => Some(2 + usize::from(solid)),
         M => Some(3 + usize::from(solid)),
         _ => None,
+    }
+}
+
+/// How many may be: an M has its emissivity last, which in any deck may be blank.
+pub fn fields_known(card: &Card) -> Option<usize> {
+    if card[0] == M {
+        Some(EMISSIVITY)
+    } else {
+        fields_used(card, true)
     }
 }

@@ -51,6 +51,12 @@ fn film_share(film: u32, s: i64) -> i64 {
     nearest(i64::from(film) * s, 9_600_000)
 }
 
+/// S of a triangle that a step doesn't judge.
+pub fn doubled_area(deck: &Deck, corners: [usize; 3]) -> u64 {
+    let (b, c) = sides(corners.map(|node| deck.point(node)));
+    twice_area(b, c).unsigned_abs()
+}
+
 /// What a film brings to each corner of its element, which a step doesn't judge.
 pub fn film_load(deck: &Deck, corners: [usize; 3], film: u32, ambient: u32) -> i64 {
     let (b, c) = sides(corners.map(|node| deck.point(node)));

@@ -86,7 +86,7 @@ fn try_import(table: &[u32], records: &[u8], second: &mut [u32]) -> Result<(), R
     let records = || records.chunks_exact(RECORD_BYTES).map(Record::of);
     let count = judge_all(&deck, records(), &Record::of(tail))?;
 
-    // Of each element one H, of each triangle one F, of each node one T at most, and the deck's own G and C: never too many.
+    // Of each element one H, of each triangle one F, of each node one T at most, and the deck's own G, R and C: never too many.
     let rows = deck.counts.rows() + count;
     if second.len() < 6 * rows {
         return Err(Refusal::whole(SHORT));
@@ -98,7 +98,7 @@ fn try_import(table: &[u32], records: &[u8], second: &mut [u32]) -> Result<(), R
     };
     let own = |letter: u32| deck.loads().filter(move |card| card[0] == letter);
     let cards = deck.cards().take(first);
-    let cards = cards.chain(new(false)).chain(own(G));
+    let cards = cards.chain(new(false)).chain(own(G)).chain(own(R));
     let cards = cards.chain(new(true)).chain(own(C));
     let cards = cards.chain([trailer(&deck, count)]);
     for (row, card) in second.chunks_exact_mut(6).zip(cards) {

@@ -65,9 +65,9 @@ fn within(value: u32, least: u32, most: u32) -> bool {
     least <= value && value <= most
 }
 
-/// A letter that is one of the eleven, and nothing in the fields that it uses in no deck.
+/// A letter that is one of the twelve, and nothing in the fields that it uses in no deck.
 pub fn well_formed(card: &Card) -> bool {
-    match fields_used(card, true) {
+    match fields_known(card) {
         Some(used) => card[1 + used..].iter().all(|&field| field == 0),
         None => false,
     }
@@ -75,7 +75,11 @@ pub fn well_formed(card: &Card) -> bool {
 
 /// Does a card of a table have a z or kz, as only in a solid deck it may? A 0 is none.
 fn filled(card: &Card) -> bool {
-    fields_used(card, false).is_some_and(|used| card[1 + used..].iter().any(|&field| field != 0))
+    match card[0] {
+        N => card[3] != 0,
+        M => card[4] != 0,
+        _ => false,
+    }
 }
 
 /// How many cards there are so far of the kinds that have a most of their own.
@@ -98,8 +102,9 @@ fn allowed(counts: &Counts, index: usize, before: u32, seen: Seen, letter: u32) 
     } else {
         match letter {
             H => before == E || before == V || before == H,
-            F => before != G && before != T && before != C,
-            G => before != T && before != C && seen.edges < MAX_EDGES,
+            F => ![G, R, T, C].contains(&before),
+            G => ![R, T, C].contains(&before) && seen.edges < MAX_EDGES,
+            R => ![T, C].contains(&before),
             T => before != C,
             C => seen.changes < MAX_CHANGES,
             _ => false,
@@ -122,6 +127,7 @@ pub fn in_range(counts: &Counts, solid: bool, card: &Card) -> bool {
                 && within(b, 1, 500_000)
                 && within(c, 1, 5_000)
                 && (!solid || within(d, 1, 500_000))
+                && e <= MAX_EMISSIVITY
         }
         E => {
             [a, b, c].iter().all(|&node| within(node, 1, nodes))
@@ -138,6 +144,7 @@ pub fn in_range(counts: &Counts, solid: bool, card: &Card) -> bool {
                 && d <= TOP
                 && within(e, 1, 4_000)
         }
+        R => within(a, 1, elements) && b <= TOP,
         T => within(a, 1, nodes) && b <= TOP,
         // Its key is asked with the cards before it.
         C => within(a, 1, MAX_STEPS) && turn(b).is_some() && d <= MAX_VALUE && e <= MAX_VALUE,
@@ -150,12 +157,12 @@ fn turn(letter: u32) -> Option<usize> {
     [E, H, F, T].iter().position(|&named| named == letter)
 }
 
-/// In H, F and T the first field rises strictly within the group, in G the two nodes as a pair, in C the increment, the letter as
+/// In H, F, R and T the first field rises strictly within the group, in G the two nodes as a pair, in C the increment, the letter as
 /// it stands in the deck and the key.
 pub fn rising(before: &Card, card: &Card) -> bool {
     before[0] != card[0]
         || match card[0] {
-            H | F | T => before[1] < card[1],
+            H | F | R | T => before[1] < card[1],
             G => before[1] < card[1] || (before[1] == card[1] && before[2] < card[2]),
             C => {
                 let by = |card: &Card| (card[1], turn(card[2]), card[3]);
@@ -199,14 +206,13 @@ impl Turn {
         }
     }
 
-    /// The next card: 3, then 4. `filled` says that it has a z or kz where the deck is flat.
+    /// The next card: 3, then 4. `filled` says that it has a z or kz where the deck is flat, or an emissivity written as 0.
     pub fn judge(&mut self, card: &Card, filled: bool) -> Result<(), Refusal> {
         let (counts, index, before) = (&self.counts, self.index, &self.before);
         if !well_formed(card) || !allowed(counts, index, before[0], self.seen, card[0]) {
             return Err(Refusal::at_index(FORM, index));
         }
-        let flat_and_filled = filled && !self.solid;
-        if flat_and_filled
+        if filled
             || !in_range(counts, self.solid, card)
             || !self.lies_well(card)
             || !rising(before, card)
@@ -228,12 +234,12 @@ impl Turn {
         Ok(())
     }
 
-    /// The nodes of an E, which are in range, lie at one z; the element of an F is an E; there is a card that a C changes.
+    /// The nodes of an E, which are in range, lie at one z; the element of an F or an R is an E; there is a card that a C changes.
     fn lies_well(&self, card: &Card) -> bool {
         let level = |field: usize| self.levels[card[field] as usize - 1];
         match card[0] {
             E => level(1) == level(2) && level(1) == level(3),
-            F => card[1] as usize <= self.triangles,
+            F | R => card[1] as usize <= self.triangles,
             C => self.has(card[2], card[3]),
             _ => true,
         }
@@ -299,7 +305,7 @@ impl<'a> Deck<'a> {
         let mut turn = Turn::first(counts, solid);
         for index in 0..last {
             let card = card_of(table, index);
-            turn.judge(&card, filled(&card))?;
+            turn.judge(&card, !solid && filled(&card))?;
         }
         Ok(Deck {
             table,
@@ -357,6 +363,11 @@ impl<'a> Deck<'a> {
         [card[1], card[2], card[3], card[4]].map(i64::from)
     }
 
+    /// The emissivity of a material, counted from 0, in thousandths; 0 where it has none.
+    pub fn emissivity(&self, material: usize) -> u32 {
+        self.card(self.counts.first_material() + material)[EMISSIVITY]
+    }
+
     /// The E or V card of an element, counted from 0.
     pub fn element(&self, element: usize) -> Card {
         self.card(self.counts.first_element() + element)
@@ -368,7 +379,7 @@ impl<'a> Deck<'a> {
         elements.take_while(|card| card[0] == E).count()
     }
 
-    /// The H, F, G, T and C cards.
+    /// The H, F, G, R, T and C cards.
     pub fn loads(&self) -> impl Iterator<Item = Card> + 'a {
         let counts = self.counts;
         self.cards().skip(counts.first_load()).take(counts.loads)

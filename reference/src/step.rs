@@ -6,6 +6,7 @@ use crate::edge;
 use crate::element::{corners, film_load, heat_loads};
 use crate::judge::Deck;
 use crate::layout::{Layout, Vector, FINE};
+use crate::radiation::Sources;
 use crate::round::{nearest, ONE};
 use crate::solid;
 
@@ -19,7 +20,8 @@ pub struct Stepper<'a, L> {
     a: &'a [i64],
     factor: &'a [i64],
     fixed: [Option<i64>; MAX_NODES],
-    /// The right side without P times the old temperatures and without the carried residuals.
+    sources: Sources,
+    /// The right side without P times the old temperatures, what is radiated by them and the carried residuals.
     constant: Vector,
     /// The sum of |A'| along each row.
     tolerance: Vector,
@@ -71,6 +73,7 @@ impl<'a, L: Layout> Stepper<'a, L> {
             a,
             factor,
             fixed,
+            sources: Sources::of(deck),
             constant,
             tolerance,
         }
@@ -84,9 +87,10 @@ impl<'a, L: Layout> Stepper<'a, L> {
 
         let mut right = self.constant;
         let capacity = self.layout.product(self.p, &new, |number| number);
+        let lost = self.sources.losses(&new);
         for i in 0..self.n {
             if self.fixed[i].is_none() {
-                right[i] += capacity[i] + carried[i];
+                right[i] += capacity[i] + carried[i] - lost[i];
             }
         }
 

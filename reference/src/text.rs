@@ -1,12 +1,12 @@
 //! A card as 42 bytes: a letter, five fields of 8 columns, a newline.
 
-use crate::card::{fields_used, Card, CARD_BYTES};
+use crate::card::{fields_known, fields_used, Card, CARD_BYTES, EMISSIVITY, M};
 
 const COLUMNS: usize = 8;
 
-/// The card that the bytes spell; None if the letter is none of the eleven, or
+/// The card that the bytes spell; None if the letter is none of the twelve, or
 /// the columns or the newline are wrong. Ranges are the judge's, and so is a z or
-/// kz that a flat deck has no use for: told beside the card, since a 0 is filled too.
+/// kz that a flat deck has no use for and an emissivity of 0: told beside the card, since a 0 is filled too.
 pub fn scan(bytes: &[u8], solid: bool) -> Option<(Card, bool)> {
     if bytes.len() != CARD_BYTES || bytes[CARD_BYTES - 1] != b'\n' {
         return None;
@@ -19,14 +19,18 @@ pub fn scan(bytes: &[u8], solid: bool) -> Option<(Card, bool)> {
         if i < fields_used(&card, solid)? {
             card[i + 1] = number(columns)?;
         } else if columns.iter().any(|&byte| byte != b' ') {
-            if i >= fields_used(&card, true)? {
+            if i >= fields_known(&card)? {
                 return None;
             }
             card[i + 1] = number(columns)?;
-            filled = true;
+            filled |= !is_emissivity(&card, i + 1) || card[i + 1] == 0;
         }
     }
     Some((card, filled))
+}
+
+fn is_emissivity(card: &Card, field: usize) -> bool {
+    card[0] == M && field == EMISSIVITY
 }
 
 /// Blanks, then a decimal number without leading zeros. Eight digits fit 32 bits.
@@ -52,7 +56,8 @@ pub fn print(card: &Card, solid: bool, bytes: &mut [u8]) {
     bytes[0] = card[0] as u8;
     bytes[CARD_BYTES - 1] = b'\n';
     let used = fields_used(card, solid).unwrap_or(0);
-    for i in 0..used {
+    let emits = is_emissivity(card, EMISSIVITY) && card[EMISSIVITY] != 0;
+    for i in (0..used).chain(emits.then_some(EMISSIVITY - 1)) {
         let mut rest = card[i + 1];
         for column in bytes[1 + i * COLUMNS..1 + (i + 1) * COLUMNS]
             .iter_mut()

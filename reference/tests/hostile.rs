@@ -190,7 +190,7 @@ fn longest_sum() {
 fn any_slices() {
     let mut chance = Chance::seeded(12);
     for _ in 0..20_000 {
-        let length = chance.pick(&[0, 1, 5, 6, 12, 18, 42, 48, 5_436, 5_442]);
+        let length = chance.pick(&[0, 1, 5, 6, 12, 18, 42, 48, 6_396, 6_402]);
         let table: Vec<u32> = (0..length).map(|_| chance.unsigned()).collect();
         let size = chance.within(0, 40) as usize;
         let mut lent = Lent {

@@ -6,7 +6,7 @@ use common::kind::*;
 use common::*;
 use reference::{import, Answer};
 
-const ROOM: usize = 5_436;
+const ROOM: usize = 6_396;
 const NAN: u32 = INFINITY | 1 << 22;
 /// The least NaN, a signalling one.
 const NAN_ONE: u32 = INFINITY | 1;
@@ -139,7 +139,7 @@ fn largest() {
         let right = groups.measured(&records);
         becomes(&groups.bare().table(), &records, &right.table());
         let cards = right.table().len() / 6;
-        assert_eq!(cards, if groups.solids.is_empty() { 906 } else { 756 });
+        assert_eq!(cards, if groups.solids.is_empty() { 1_066 } else { 766 });
         // And one more of any kind.
         for last in [HEAT, FILM, HELD] {
             let mut more = records.clone();
@@ -505,7 +505,7 @@ fn deck_first() {
     let decks = [
         (vec![], 1, 0),
         (table[1..].to_vec(), 1, 0),
-        (vec![0; 5_442], 1, 0),
+        (vec![0; 6_402], 1, 0),
         (with(&table, rows - 1, 2, 4), 2, 0),
         (with(&table, 1, 0, M), 3, 2),
         (with(&table, 1, 1, 4_096), 4, 2),

@@ -26,11 +26,11 @@ fn r1_length() {
     table_refused(&[], 1, 0);
     table_refused(&[0; 6], 1, 0);
     table_refused(&[0; 13], 1, 0);
-    table_refused(&[0; 5_435], 1, 0);
-    table_refused(&[0; 5_442], 1, 0);
+    table_refused(&[0; 6_395], 1, 0);
+    table_refused(&[0; 6_402], 1, 0);
     // The ends of the lengths allowed come to the trailer.
     table_refused(&[0; 12], 2, 0);
-    table_refused(&[0; 5_436], 2, 0);
+    table_refused(&[0; 6_396], 2, 0);
     bytes_refused(&[b' '; 42], 2, 0);
     bytes_refused(&[b' '; 65_536], 2, 0);
 }
@@ -71,7 +71,7 @@ fn r2_trailer() {
     many.nodes = vec![[0, 0]; 97];
     table_refused(&many.table(), 2, 0);
     let mut many = Groups::base();
-    many.heats = vec![[1, 1]; 641];
+    many.heats = vec![[1, 1]; 801];
     table_refused(&many.table(), 2, 0);
 
     let bytes = bytes_of(&table);
@@ -132,11 +132,10 @@ fn r3_form() {
                 table_refused(&table, 3, row as u32 + 1);
             }
         }
-        // An N's third and an M's fourth are used in solid decks: 4 here.
+        // An N's third and an M's fourth are used in solid decks, 4 here, and an M's fifth in all.
         let used = match table[6 * row] {
             D | N | F => 3,
-            M => 4,
-            E | G => 5,
+            E | M | G => 5,
             _ => 2,
         };
         for field in used + 1..6 {
@@ -315,10 +314,10 @@ fn the_161st_edge() {
 fn the_largest_deck() {
     let groups = Groups::largest(&mut Chance::seeded(14));
     let table = groups.table();
-    assert_eq!(table.len(), 5_436);
+    assert_eq!(table.len(), 6_396);
     let mut lent = Lent::built(table.clone());
     assert!(matches!(lent.step(), Stepped::Settled(_)));
-    assert_eq!(bytes_of(&table).len(), 38_052);
+    assert_eq!(bytes_of(&table).len(), 44_772);
     accepts(&table);
     // One row more, whatever it is, has no trailer that may say so.
     let mut longer = groups.clone();
@@ -691,8 +690,9 @@ fn r13_replacement() {
         own.answers(number, [u32::MAX; 6], refused(3, number));
         own.answers(number, [H, 1, 9, 0, 0, 1], refused(3, number));
         own.answers(number, [N, 1, 9, 1, 1, 0], refused(3, number));
-        own.answers(number, [M, 1, 9, 1, 1, 1], refused(3, number));
     }
+    // Every field of an M is used.
+    own.answers(5, [M, 1, 9, 1, 1, 1], refused(13, 5));
     // 13 before 4, and 4 at the number asked for.
     own.answers(9, card(H, &[2, 0]), refused(13, 9));
     own.answers(9, card(H, &[1, 0]), refused(4, 9));

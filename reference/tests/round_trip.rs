@@ -63,7 +63,7 @@ fn read_bytes_are_written_again() {
                 let at = chance.index(bytes.len());
                 bytes[at] = chance.pick(b"0123456789 \nDNMEVHFGTCZ\0\xff");
             }
-            let mut table = vec![9; 5_436];
+            let mut table = vec![9; 6_396];
             let (answer, start, end) = read(&bytes, &mut table);
             match answer {
                 Answer::Done => {
@@ -73,7 +73,7 @@ fn read_bytes_are_written_again() {
                 }
                 Answer::Refused(refusal) => {
                     assert_eq!((start, end), (0, 0));
-                    assert_eq!(table, vec![9; 5_436]);
+                    assert_eq!(table, vec![9; 6_396]);
                     refusals[solid][refusal.number as usize] += 1;
                 }
             }

@@ -179,7 +179,8 @@ fn accepted_decks() {
     }
     most.solids = vec![[1, 2, 13, 96, 1]];
     most.films.pop();
-    assert_eq!(most.table().len(), 5_430);
+    most.sources.pop();
+    assert_eq!(most.table().len(), 6_384);
     accepts(&most.table());
     // 160 together, and one more.
     most.solids.push([1, 2, 13, 96, 1]);
@@ -337,7 +338,7 @@ fn z_and_kz_of_a_solid_deck() {
                 continue;
             }
             let bytes = put(&bytes, row, field, columns);
-            let mut table = vec![9; 5_436];
+            let mut table = vec![9; 6_396];
             let answer = read(&bytes, &mut table).0;
             // A foot of the triangle that is not level with the others: 4 there.
             let place = if row == NODE && !wrong && columns != b"       0" {
@@ -350,14 +351,15 @@ fn z_and_kz_of_a_solid_deck() {
                 false => assert_eq!(answer, Answer::Done),
             }
         }
-        // The fields past it stay unused.
-        bytes_refused(&put(&bytes, row, 5, b"       0"), 3, row as u32 + 1);
+        // The fields past a z stay unused; a 0 is no emissivity.
+        let number = if row == MATERIAL { 4 } else { 3 };
+        bytes_refused(&put(&bytes, row, 5, b"       0"), number, row as u32 + 1);
     }
     bytes_refused(&put(&bytes, NODE, 4, b"       0"), 3, NODE as u32 + 1);
     // In a table a z of 0 is a number, a kz of 0 is out of its range.
     accepts(&with(&each(), NODE + 3, 3, 0));
     refuses(&with(&each(), MATERIAL, 4, 0), 4, MATERIAL as u32 + 1);
-    for (row, field) in [(MATERIAL, 5), (NODE, 4), (NODE, 5)] {
+    for (row, field) in [(NODE, 4), (NODE, 5)] {
         let mut lent = Lent::new(with(&each(), row, field, 1));
         assert_eq!(lent.build(), refused(3, row as u32 + 1));
     }
@@ -376,9 +378,9 @@ fn z_and_kz_of_a_flat_deck() {
         for columns in NO_NUMBERS {
             bytes_refused(&put(&bytes, row, field, columns), 3, place);
         }
-        // 3 before 4 of one card: an unused field, a field before it, the newline.
+        // 3 before 4 of one card: an unused field, or an emissivity that is no number, a field before it, the newline.
         let filled = put(&bytes, row, field, b"       7");
-        bytes_refused(&put(&filled, row, 5, b"       0"), 3, place);
+        bytes_refused(&put(&filled, row, 5, b"      07"), 3, place);
         bytes_refused(&put(&filled, row, 1, BLANK), 3, place);
         let mut broken = filled.clone();
         broken[42 * row + 41] = b' ';
@@ -394,7 +396,8 @@ fn z_and_kz_of_a_flat_deck() {
             let mut bytes = vec![0; 7 * filled.len()];
             assert_eq!(write(&filled, &mut bytes), refused(4, place));
             lent.table = with(&filled, row, 5, 1);
-            assert_eq!(lent.build(), refused(3, place));
+            let number = if field == 4 { 4 } else { 3 };
+            assert_eq!(lent.build(), refused(number, place));
         }
         accepts(&with(&table, row, field, 0));
     }
@@ -551,7 +554,7 @@ fn r13_and_4_of_replacements() {
         (5, [N, 0, 0, 100, 0, 0], 13),
         (7, [M, 1_000, 1_000, 2_400, 1_000, 0], 13),
         (7, [M, 1_000, 1_000, 2_400, 0, 0], 13),
-        (7, [M, 1_000, 1_000, 2_400, 1_000, 1], 3),
+        (7, [M, 1_000, 1_000, 2_400, 1_000, 1], 13),
         (2, [N, 0, 0, 0, 1, 0], 3),
         (13, [F, 2, 9, 9, 0, 0], 13),
     ] {

@@ -18,7 +18,7 @@ use Rattle.paper.specs.declared.Refusal.the-variants.{Form, Range}
 use Rattle.paper.specs.declared.About.{About}
 use Rattle.paper.specs.declared.Counts.{Counts}
 use Rattle.paper.specs.declared.Kind.{Kind}
-use Rattle.paper.specs.declared.Kind.the-variants.{D, N, M, E, «V», H, F, G, T, C, Z, Other}
+use Rattle.paper.specs.declared.Kind.the-variants.{D, N, M, E, «V», H, F, G, R, T, C, Z, Other}
 use Rattle.laws.proofs.Letters.{kind-letter, kind-of}
 use Rattle.laws.proofs.Judging.{formed-on, formed-not, formed-crowded, ranged-on, ranged-not, ranged-unordered, form-refused, range-refused, card-done}
 
@@ -107,20 +107,26 @@ module _ (z : Counts) (row : ℕ → List ℕ) (i : ℕ) (card : List ℕ) where
   unfolding asks
   of-triangle = refl
 
-  pub asks-none : (kind : Kind) → (letterOf kind ≡ letterOf E → ⊥) → (letterOf kind ≡ letterOf F → ⊥) → (kind ≡ C → ⊥) → true ≡ asks z row i card kind
+  -- a source asks what a film does
+  pub source-asks : asks z row i card F ≡ asks z row i card R
   unfolding asks
-  asks-none D e f h = refl
-  asks-none N e f h = refl
-  asks-none M e f h = refl
-  asks-none E e f h = absurd (e refl)
-  asks-none «V» e f h = refl
-  asks-none H e f h = refl
-  asks-none F e f h = absurd (f refl)
-  asks-none G e f h = refl
-  asks-none T e f h = refl
-  asks-none C e f h = absurd (h refl)
-  asks-none Z e f h = refl
-  asks-none Other e f h = refl
+  source-asks = refl
+
+  pub asks-none : (kind : Kind) → (letterOf kind ≡ letterOf E → ⊥) → (letterOf kind ≡ letterOf F → ⊥) → (letterOf kind ≡ letterOf R → ⊥) → (kind ≡ C → ⊥) → true ≡ asks z row i card kind
+  unfolding asks
+  asks-none D e f r h = refl
+  asks-none N e f r h = refl
+  asks-none M e f r h = refl
+  asks-none E e f r h = absurd (e refl)
+  asks-none «V» e f r h = refl
+  asks-none H e f r h = refl
+  asks-none F e f r h = absurd (f refl)
+  asks-none G e f r h = refl
+  asks-none R e f r h = absurd (r refl)
+  asks-none T e f r h = refl
+  asks-none C e f r h = absurd (h refl)
+  asks-none Z e f r h = refl
+  asks-none Other e f r h = refl
 
   -- of a kind told by its letter
   pub asks-by : (kind k : Kind) → letterOf kind ≡ letterOf k → asks z row i card k ≡ asks z row i card kind
@@ -150,6 +156,7 @@ change-C «V» e = never e
 change-C H e = never e
 change-C F e = never e
 change-C G e = never e
+change-C R e = never e
 change-C T e = never e
 change-C C e = refl
 change-C Z e = never e

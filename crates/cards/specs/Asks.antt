@@ -13,7 +13,7 @@ pub record Loads (z : Counts) (row : ℕ → List ℕ) (n letter : ℕ) : Type 0
   pub past : Past z row n
   pub room : before z 4 ≤ n
   pub one : about (kindOf letter) .keys ≡ 1
-  pub real : about (kindOf letter) .order < 11
+  pub real : about (kindOf letter) .order < 12
 
 -- an element's letter, likewise
 pub record Bodies (z : Counts) (row : ℕ → List ℕ) (n letter : ℕ) : Type 0 where

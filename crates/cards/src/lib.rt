@@ -15,7 +15,7 @@ ghost use Rattle.laws.proofs.Past.{Past, Turn};
 ghost use Rattle.cards.specs.Asks.{Loads, Bodies, Naming};
 
 // The rows of the longest table.
-pub const MOST_ROWS: usize = 906;
+pub const MOST_ROWS: usize = 1_066;
 
 // ---- a table
 
@@ -174,7 +174,7 @@ fn is_level(t: &[u32], card: &[u32]) -> bool
     height == number_at(t, card[3] as usize, 3)
 }
 
-// Whether an F names a triangle.
+// Whether an F or an R names a triangle.
 fn on_triangle(counts: Counts, t: &[u32], card: &[u32]) -> bool
     requires { ⌜ length (now card) ≡ 6 ⌝ }
     ensures { λ r. ⌜ ((i : ℕ) → r ≡ asks counts (paper.rowAt (now (t .entry))) i (now (card .entry)) Kind.F) ⌝ }
@@ -272,6 +272,9 @@ pub fn asks_rows(counts: Counts, t: &[u32], k: Kind, card: &[u32]) -> bool
         return is_level(t, card);
     }
     if letter == kinds::about(Kind::F).letter {
+        return on_triangle(counts, t, card);
+    }
+    if letter == kinds::about(Kind::R).letter {
         return on_triangle(counts, t, card);
     }
     true

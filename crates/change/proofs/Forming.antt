@@ -18,7 +18,7 @@ use Rattle.paper.specs.Replacing.{formOf, stirs}
 use Rattle.paper.specs.declared.Answer.{Answer}
 use Rattle.paper.specs.declared.Answer.the-variants.{Done}
 use Rattle.paper.specs.declared.Kind.{Kind}
-use Rattle.paper.specs.declared.Kind.the-variants.{D, N, M, E, «V», H, F, G, T, C, Z, Other}
+use Rattle.paper.specs.declared.Kind.the-variants.{D, N, M, E, «V», H, F, G, R, T, C, Z, Other}
 use Rattle.laws.proofs.Decks.{In, Deck, Change, kindIn}
 use Rattle.laws.proofs.Letters.{Body, flat, solid, body-section}
 use Rattle.laws.proofs.Tables.{row-field}
@@ -45,6 +45,7 @@ conducts-is «V» q = solid refl
 conducts-is H q = never q
 conducts-is F q = never q
 conducts-is G q = never q
+conducts-is R q = never q
 conducts-is T q = never q
 conducts-is C q = never q
 conducts-is Z q = never q
@@ -60,6 +61,7 @@ films-is «V» q = never q
 films-is H q = never q
 films-is F q = refl
 films-is G q = refl
+films-is R q = never q
 films-is T q = never q
 films-is C q = never q
 films-is Z q = never q

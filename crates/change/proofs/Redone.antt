@@ -24,7 +24,7 @@ use Rattle.paper.specs.Building.{Slices}
 use Rattle.paper.specs.Replacing.{moved, firstRow, redone, replaced, stirs}
 use Rattle.paper.specs.declared.Answer.{Answer}
 use Rattle.paper.specs.declared.Kind.{Kind}
-use Rattle.paper.specs.declared.Kind.the-variants.{D, N, M, E, «V», H, F, G, T, C, Z, Other}
+use Rattle.paper.specs.declared.Kind.the-variants.{D, N, M, E, «V», H, F, G, R, T, C, Z, Other}
 use Rattle.laws.proofs.Decks.{kindIn}
 use Rattle.laws.proofs.Spans.{Inside, inside-each, part-corners, few-corners, names-F, lower-first}
 use Rattle.laws.proofs.Sizes.{Distinct}
@@ -98,6 +98,7 @@ module _ (t : List ℕ) (row : ℕ) (new : List ℕ) (h : Renews t row new) wher
   distinct-by H e q = never q
   distinct-by F e q = distinct t (rowAt t (namedRow t new)) (named-some (same-kind t row new (h .changes) ∙ e))
   distinct-by G e q = two-distinct (getD new 1 0) (getD new 2 0) (lower-new (same-kind t row new (h .changes) ∙ e))
+  distinct-by R e q = never q
   distinct-by T e q = never q
   distinct-by C e q = never q
   distinct-by Z e q = never q
@@ -127,6 +128,7 @@ module _ (t : List ℕ) (row : ℕ) (new : List ℕ) (h : Renews t row new) wher
         any-by H z q = unfold partOf in never q
         any-by F z q = unfold partOf in omega (arith, few-corners t (rowAt t (namedRow t new)))
         any-by G z q = unfold partOf in unfold spaceOf in unfold shapeOf in omega arith
+        any-by R z q = unfold partOf in never q
         any-by T z q = unfold partOf in never q
         any-by C z q = unfold partOf in never q
         any-by Z z q = unfold partOf in never q

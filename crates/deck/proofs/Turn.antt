@@ -9,20 +9,21 @@ use lib.Dec.{eqb, leb}
 use lib.ListN.{length, getD, take, drop}
 use Rattle.whole.specs.Sums.{sumN}
 use Rattle.paper.specs.Kinds.{about, aboutOf, bodies, kindOf, kindAt, letterOf}
-use Rattle.paper.specs.Cards.{before, columns, inRange}
+use Rattle.paper.specs.Cards.{_⋯_, before, columns, inRange}
 use Rattle.paper.specs.Judge.{full, judgeOne, asks}
 use Rattle.paper.specs.Calls.{cardAt}
 use Rattle.paper.specs.declared.About.{About}
 use Rattle.paper.specs.declared.Answer.the-variants.{Done}
 use Rattle.paper.specs.declared.Counts.{Counts}
 use Rattle.paper.specs.declared.Kind.{Kind}
-use Rattle.paper.specs.declared.Kind.the-variants.{D, N, M, E, «V», H, F, G, T, C, Z, Other}
+use Rattle.paper.specs.declared.Kind.the-variants.{D, N, M, E, «V», H, F, G, R, T, C, Z, Other}
 use Rattle.laws.proofs.Letters.{kind-letter}
 use Rattle.laws.proofs.CardText.{first-byte, length-card, card-letter}
 use Rattle.laws.proofs.Printing.{letter-known, lettered}
-use Rattle.laws.proofs.Judged.{passes, stands-told, one-told}
+use Rattle.laws.proofs.Judged.{passes, stands-told, one-told, range-each}
 use Rattle.laws.proofs.Past.{Past, node-in, film-in}
-use Rattle.deck.specs.Asks.{Asking, After, Elements, Reached}
+use Rattle.laws.proofs.Spans.{in-told}
+use Rattle.deck.specs.Asks.{Asking, After, Elements, Named, Reached}
 
 -- the test for a card too many, before and after there may be so many
 pub early : (i m : ℕ) (b : Bool) → i < m → false ≡ (leb m i && b)
@@ -41,6 +42,7 @@ some-most «V» = omega arith
 some-most H = omega arith
 some-most F = omega arith
 some-most G = omega arith
+some-most R = omega arith
 some-most T = omega arith
 some-most C = omega arith
 some-most Z = omega arith
@@ -99,7 +101,7 @@ module _ (z : Counts) (b : List ℕ) (start : ℕ) where
     asks-read r e = e ∙ (λ j. asks z row i (h .is j) ((h .kind ∙ ap kindAt (h .is)) j))
 
   module _ (card : List ℕ) where
-    -- the row of a node of an E, and that of the element of an F
+    -- the row of a node of an E, and that of the element of an F or an R
     pub node-room : Asking z b start card E → (n : ℕ) → n < 3 → start + getD card (n + 1) 0 * 42 + 42 ≤ length b
     unfolding about before sumN
     node-room r n l =
@@ -107,13 +109,27 @@ module _ (z : Counts) (b : List ℕ) (start : ℕ) where
         let h = node-in z row card (r .range) n l in
         subst (λ (k : ℕ). start + getD card k 0 * 42 + 42 ≤ length b) (sym e) (omega (arith, h .1, r .room))
 
-    pub element-in : Asking z b start card F → (1 ≤ getD card 1 0) × (before z bodies + getD card 1 0 - 1 < before z (about F .section))
-    unfolding about before sumN
-    element-in r = let h = film-in z row card (r .range) in (h .0, omega (arith, h .0, h .1))
+    pub film-named : Asking z b start card F → Named z b start card
+    unfolding about
+    film-named r =
+        let h = film-in z row card (r .range) in
+        record { six = r .six; some = h .0; few = h .1; elements = record { room = r .room; past = r .past } }
 
-    pub film-bytes : Asking z b start card F → (i : ℕ) → eqb (getD b (start + (before z bodies + getD card 1 0 - 1) * 42) 0) (letterOf E) ≡ asks z row i card F
+    pub source-named : Asking z b start card R → Named z b start card
+    unfolding about columns
+    source-named r =
+        let h = in-told (getD (columns z R) 0 (0 ⋯ 0)) (getD card 1 0) (range-each (columns z R) card 5 0 0 (r .range) (omega arith) (omega arith)) in
+        record { six = r .six; some = h .0; few = h .1; elements = record { room = r .room; past = r .past } }
+
+    pub element-in : Named z b start card → before z bodies + getD card 1 0 - 1 < before z 4
+    unfolding before sumN
+    element-in r = omega (arith, r .some, r .few)
+
+    pub named-bytes : Named z b start card → (i : ℕ) → eqb (getD b (start + (before z bodies + getD card 1 0 - 1) * 42) 0) (letterOf E) ≡ asks z row i card F
     unfolding asks
-    film-bytes r i = ap (λ (l : ℕ). eqb l (letterOf E)) (first-past (before z bodies + getD card 1 0 - 1) (r .past (before z bodies + getD card 1 0 - 1) (element-in r .1)))
+    named-bytes r i =
+        let at = before z bodies + getD card 1 0 - 1 in
+        ap (λ (l : ℕ). eqb l (letterOf E)) (first-past at (r .elements .past at (element-in r)))
 
   -- the element of a number, where there is one
   module _ (name : ℕ) (some : 1 ≤ name) (few : name ≤ z .elements) (e : Elements z b start) where

@@ -3,7 +3,7 @@ use mathlib.Core.Path.{_≡_}
 use mathlib.Core.Bool.{true}
 use mathlib.Core.List.{List}
 use Prim.Native.Nat.{ℕ, _+_, _*_, _≤_}
-use lib.ListN.{length}
+use lib.ListN.{length, getD}
 use Rattle.paper.specs.Kinds.{about, kindOf, kindAt}
 use Rattle.paper.specs.Cards.{before, columns, inRange, mostRows}
 use Rattle.paper.specs.Calls.{cardAt}
@@ -29,6 +29,13 @@ pub record After (z : Counts) (s : List ℕ) (start i : ℕ) (card : List ℕ) (
 pub record Elements (z : Counts) (s : List ℕ) (start : ℕ) : Type 0 where
   pub room : start + before z 4 * 42 ≤ length s
   pub past : Past z (cardAt (z .solid) s start) (before z 4)
+
+-- a card that names one of the elements, which have passed
+pub record Named (z : Counts) (s : List ℕ) (start : ℕ) (card : List ℕ) : Type 0 where
+  pub six : length card ≡ 6
+  pub some : 1 ≤ getD card 1 0
+  pub few : getD card 1 0 ≤ z .elements
+  pub elements : Elements z s start
 
 -- a code that a change may give, among the first n cards, which have passed
 pub record Naming (z : Counts) (s : List ℕ) (start n code : ℕ) : Type 0 where

@@ -16,7 +16,7 @@ ghost use Rattle.paper.specs.Text.{cardOf};
 ghost use Rattle.paper.specs.Judge.{cardNamed, asks, judgeCard, judgeFrom};
 ghost use Rattle.paper.specs.Calls as paper;
 ghost use Rattle.cards.specs.Asks.{Loads, Bodies};
-ghost use Rattle.deck.specs.Asks.{Asking, After, Elements, Naming, Reached};
+ghost use Rattle.deck.specs.Asks.{Asking, After, Elements, Named, Naming, Reached};
 
 // The most bytes that are read.
 pub const BYTES: usize = 65_536;
@@ -115,9 +115,9 @@ fn is_level(counts: Counts, s: &[u8], start: usize, card: &[u32]) -> bool
     h == height(solid, s, start, card[3] as usize)
 }
 
-// Whether an F names a triangle.
+// Whether an F or an R names a triangle.
 fn on_triangle(counts: Counts, s: &[u8], start: usize, card: &[u32]) -> bool
-    requires { ⌜ Asking counts (now s) start (now card) Kind.F ⌝ }
+    requires { ⌜ Named counts (now s) start (now card) ⌝ }
     ensures { λ r. ⌜ ((i : ℕ) → r ≡ asks counts (paper.cardAt (counts .solid) (now (s .entry)) start) i (now (card .entry)) Kind.F) ⌝ }
 {
     let row = kinds::cards_before(counts, kinds::about(Kind::E).section) + card[1] as usize - 1;
@@ -205,6 +205,9 @@ fn asks_part(counts: Counts, s: &[u8], start: usize, k: Kind, card: &[u32]) -> b
         return is_level(counts, s, start, card);
     }
     if l == kinds::about(Kind::F).letter {
+        return on_triangle(counts, s, start, card);
+    }
+    if l == kinds::about(Kind::R).letter {
         return on_triangle(counts, s, start, card);
     }
     true

@@ -17,7 +17,7 @@ use Rattle.laws.proofs.CardText.{used-kind}
 use Rattle.paper.specs.declared.About.{About}
 use Rattle.paper.specs.declared.Counts.{Counts}
 use Rattle.paper.specs.declared.Kind.{Kind}
-use Rattle.paper.specs.declared.Kind.the-variants.{D, N, M, E, «V», H, F, G, T, C, Z, Other}
+use Rattle.paper.specs.declared.Kind.the-variants.{D, N, M, E, «V», H, F, G, R, T, C, Z, Other}
 use Rattle.kinds.specs.Laid.{columnsAs, laid, inBounds}
 use Rattle.kinds.specs.declared.Columns.{Columns}
 
@@ -39,21 +39,21 @@ module _ (z : Counts) where
       go false = refl
 
   pub laid-M : {some down : ℕ} → some ≡ cond (z .solid) 1 0 → down ≡ cond (z .solid) 500000 0
-      → columnsAs 4 (1 ∷ 1 ∷ 1 ∷ some ∷ 0 ∷ []) (500000 ∷ 500000 ∷ 5000 ∷ down ∷ 0 ∷ []) ≡ laid (columns z M)
+      → columnsAs 5 (1 ∷ 1 ∷ 1 ∷ some ∷ 0 ∷ []) (500000 ∷ 500000 ∷ 5000 ∷ down ∷ 1000 ∷ []) ≡ laid (columns z M)
   unfolding laid columns
   laid-M s d =
-      (λ i. columnsAs 4 (1 ∷ 1 ∷ 1 ∷ s i ∷ 0 ∷ []) (500000 ∷ 500000 ∷ 5000 ∷ d i ∷ 0 ∷ [])) ∙ go (z .solid)
+      (λ i. columnsAs 5 (1 ∷ 1 ∷ 1 ∷ s i ∷ 0 ∷ []) (500000 ∷ 500000 ∷ 5000 ∷ d i ∷ 1000 ∷ [])) ∙ go (z .solid)
     where
       of : Bool → List Column
-      of b = (1 ⋯ 500000) ∷ (1 ⋯ 500000) ∷ (1 ⋯ 5000) ∷ cond b (1 ⋯ 500000) (blankOr 0) ∷ []
+      of b = (1 ⋯ 500000) ∷ (1 ⋯ 500000) ∷ (1 ⋯ 5000) ∷ cond b (1 ⋯ 500000) (blankOr 0) ∷ blankOr 1000 ∷ []
 
-      go : (b : Bool) → columnsAs 4 (1 ∷ 1 ∷ 1 ∷ cond b 1 0 ∷ 0 ∷ []) (500000 ∷ 500000 ∷ 5000 ∷ cond b 500000 0 ∷ 0 ∷ []) ≡ laid (of b)
+      go : (b : Bool) → columnsAs 5 (1 ∷ 1 ∷ 1 ∷ cond b 1 0 ∷ 0 ∷ []) (500000 ∷ 500000 ∷ 5000 ∷ cond b 500000 0 ∷ 1000 ∷ []) ≡ laid (of b)
       go true = refl
       go false = refl
 
-  pub laid-Z : {b : ℕ} → b ≡ before z ends → columnsAs 5 (42 * b ∷ 3 ∷ 1 ∷ 1 ∷ 0 ∷ []) (42 * b ∷ 96 ∷ 8 ∷ 160 ∷ 640 ∷ []) ≡ laid (columns z Z)
+  pub laid-Z : {b : ℕ} → b ≡ before z ends → columnsAs 5 (42 * b ∷ 3 ∷ 1 ∷ 1 ∷ 0 ∷ []) (42 * b ∷ 96 ∷ 8 ∷ 160 ∷ 800 ∷ []) ≡ laid (columns z Z)
   unfolding laid columns
-  laid-Z e = ap (λ (b : ℕ). columnsAs 5 (42 * b ∷ 3 ∷ 1 ∷ 1 ∷ 0 ∷ []) (42 * b ∷ 96 ∷ 8 ∷ 160 ∷ 640 ∷ [])) e
+  laid-Z e = ap (λ (b : ℕ). columnsAs 5 (42 * b ∷ 3 ∷ 1 ∷ 1 ∷ 0 ∷ []) (42 * b ∷ 96 ∷ 8 ∷ 160 ∷ 800 ∷ [])) e
 
 pub laid-used : (b : Columns) (cs : List Column) → b ≡ laid cs → b .used ≡ length cs
 unfolding laid
@@ -70,6 +70,7 @@ used-any z «V» = refl
 used-any z H = refl
 used-any z F = refl
 used-any z G = refl
+used-any z R = refl
 used-any z T = refl
 used-any z C = refl
 used-any z Z = refl
@@ -85,6 +86,7 @@ used-few «V» = omega arith
 used-few H = omega arith
 used-few F = omega arith
 used-few G = omega arith
+used-few R = omega arith
 used-few T = omega arith
 used-few C = omega arith
 used-few Z = omega arith

@@ -9,7 +9,7 @@ use Rattle.paper.specs.Cards.{before}
 use Rattle.paper.specs.declared.About.{About}
 use Rattle.paper.specs.declared.Counts.{Counts}
 use Rattle.paper.specs.declared.Kind.{Kind}
-use Rattle.paper.specs.declared.Kind.the-variants.{D, N, M, E, «V», H, F, G, T, C, Z, Other}
+use Rattle.paper.specs.declared.Kind.the-variants.{D, N, M, E, «V», H, F, G, R, T, C, Z, Other}
 
 module _ (z : Counts) where
   pub cards-are : before z ends ≡ 1 + z .nodes + z .materials + z .elements + z .loads
@@ -30,7 +30,7 @@ module _ (z : Counts) where
 -- how large the numbers about a kind are
 pub record Small (a : About) : Type 0 where
   pub letter : a .letter ≤ 255
-  pub order : a .order ≤ 11
+  pub order : a .order ≤ 12
   pub section : a .section ≤ 6
   pub keeps : a .keeps ≤ 4
 
@@ -44,6 +44,7 @@ small «V» = record { letter = omega arith; order = omega arith; section = omeg
 small H = record { letter = omega arith; order = omega arith; section = omega arith; keeps = omega arith }
 small F = record { letter = omega arith; order = omega arith; section = omega arith; keeps = omega arith }
 small G = record { letter = omega arith; order = omega arith; section = omega arith; keeps = omega arith }
+small R = record { letter = omega arith; order = omega arith; section = omega arith; keeps = omega arith }
 small T = record { letter = omega arith; order = omega arith; section = omega arith; keeps = omega arith }
 small C = record { letter = omega arith; order = omega arith; section = omega arith; keeps = omega arith }
 small Z = record { letter = omega arith; order = omega arith; section = omega arith; keeps = omega arith }

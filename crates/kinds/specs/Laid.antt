@@ -6,7 +6,7 @@ use lib.Dec.{leb}
 use lib.ListN.{length, getD}
 use Rattle.paper.specs.Cards.{Column, _⋯_}
 use Rattle.paper.specs.declared.Kind.{Kind}
-use Rattle.paper.specs.declared.Kind.the-variants.{D, N, M, E, «V», H, F, G, T, C, Z, Other}
+use Rattle.paper.specs.declared.Kind.the-variants.{D, N, M, E, «V», H, F, G, R, T, C, Z, Other}
 use Rattle.kinds.specs.declared.Columns.{Columns}
 
 -- a kind's columns: five of each, of an unused one 0
@@ -23,7 +23,7 @@ laid cs = record {
   most = column cs 0 .most ∷ column cs 1 .most ∷ column cs 2 .most ∷ column cs 3 .most ∷ column cs 4 .most ∷ [];
 }
 
--- the field, counted from 0, that may be blank in a flat deck; 5 where none may
+-- the field, counted from 0, that may be blank in a flat deck alone; 5 where none may
 unfoldable pub blankAt : Kind → ℕ
 blankAt D = 5
 blankAt N = 2
@@ -33,6 +33,7 @@ blankAt «V» = 5
 blankAt H = 5
 blankAt F = 5
 blankAt G = 5
+blankAt R = 5
 blankAt T = 5
 blankAt C = 5
 blankAt Z = 5

@@ -30,6 +30,8 @@ const F: u32 = 70;
 
 const G: u32 = 71;
 
+const R: u32 = 82;
+
 const T: u32 = 84;
 
 const C: u32 = 67;
@@ -61,6 +63,7 @@ pub fn kind(letter: u32) -> Kind
         H => Kind::H,
         F => Kind::F,
         G => Kind::G,
+        R => Kind::R,
         T => Kind::T,
         C => Kind::C,
         Z => Kind::Z,
@@ -105,10 +108,11 @@ pub fn about(k: Kind) -> About
         Kind::H => line(H, 5, LOADS, 1, 1, 0, 1, MANY),
         Kind::F => line(F, 6, LOADS, 1, 1, 0, 2, MANY),
         Kind::G => line(G, 7, LOADS, 2, 2, 2, 0, 160),
-        Kind::T => line(T, 8, LOADS, 1, 1, 0, 1, MANY),
-        Kind::C => line(C, 9, LOADS, 0, 3, 0, 0, 64),
-        Kind::Z => line(Z, 10, ENDS, 0, 0, 0, 0, MANY),
-        Kind::Other => line(0, 11, 6, 0, 0, 0, 0, MANY),
+        Kind::R => line(R, 8, LOADS, 0, 1, 0, 0, MANY),
+        Kind::T => line(T, 9, LOADS, 1, 1, 0, 1, MANY),
+        Kind::C => line(C, 10, LOADS, 0, 3, 0, 0, 64),
+        Kind::Z => line(Z, 11, ENDS, 0, 0, 0, 0, MANY),
+        Kind::Other => line(0, 12, 6, 0, 0, 0, 0, MANY),
     }
 }
 
@@ -180,17 +184,22 @@ pub fn columns_of(counts: Counts, k: Kind) -> Columns
     match k {
         Kind::D => laid_out(3, [1, 0, 1, 0, 0], [60_000, top, 100_000, 0, 0]),
         Kind::N => laid_out(3, [0, 0, 0, 0, 0], [reach, reach, depth, 0, 0]),
-        Kind::M => laid_out(4, [1, 1, 1, some, 0], [500_000, 500_000, 5_000, down, 0]),
+        Kind::M => laid_out(
+            5,
+            [1, 1, 1, some, 0],
+            [500_000, 500_000, 5_000, down, 1_000],
+        ),
         Kind::E => laid_out(5, [1, 1, 1, 1, 1], [n, n, n, m, 4_000]),
         Kind::V => laid_out(5, [1, 1, 1, 1, 1], [n, n, n, n, m]),
         Kind::H => laid_out(2, [1, 1, 0, 0, 0], [e, 5_000_000, 0, 0, 0]),
         Kind::F => laid_out(3, [1, 1, 0, 0, 0], [e, 100_000, top, 0, 0]),
         Kind::G => laid_out(5, [1, 1, 1, 0, 1], [n, n, 100_000, top, 4_000]),
+        Kind::R => laid_out(2, [1, 0, 0, 0, 0], [e, top, 0, 0, 0]),
         Kind::T => laid_out(2, [1, 0, 0, 0, 0], [n, top, 0, 0, 0]),
         Kind::C => laid_out(5, [1, 0, 0, 0, 0], [100_000, ANY8, ANY8, ANY8, ANY8]),
         Kind::Z => {
             let b = 42 * cards_before(counts, ENDS) as u64;
-            laid_out(5, [b, 3, 1, 1, 0], [b, 96, 8, 160, 640])
+            laid_out(5, [b, 3, 1, 1, 0], [b, 96, 8, 160, 800])
         }
         Kind::Other => laid_out(0, [0, 0, 0, 0, 0], [0, 0, 0, 0, 0]),
     }
@@ -226,7 +235,7 @@ pub fn used_by(k: Kind, code: u32) -> usize
 
 // ---- a card's numbers
 
-// The field, counted from 0, that may be blank in a flat deck: a node's z and a material's kz; 5 where none may.
+// The field, counted from 0, that may be blank in a flat deck alone: a node's z and a material's kz; 5 where none may.
 fn blank_at(k: Kind) -> usize
     ensures { λ r. ⌜ r ≡ blankAt k ⌝ }
 {
@@ -239,6 +248,7 @@ fn blank_at(k: Kind) -> usize
         Kind::H => 5,
         Kind::F => 5,
         Kind::G => 5,
+        Kind::R => 5,
         Kind::T => 5,
         Kind::C => 5,
         Kind::Z => 5,
@@ -246,11 +256,14 @@ fn blank_at(k: Kind) -> usize
     }
 }
 
-// Whether a field may be blank.
+// Whether a field may be blank: a material's last, its emissivity, in any deck.
 pub fn may_blank(solid: bool, k: Kind, field: usize) -> bool
     requires { ⌜ field < 5 ⌝ }
     ensures { λ r. ⌜ r ≡ cards.mayBlank solid k field ⌝ }
 {
+    if field == 4 {
+        return about(k).letter == M;
+    }
     if solid {
         return false;
     }

@@ -18,7 +18,7 @@ use Rattle.paper.specs.declared.Refusal.{Refusal}
 use Rattle.paper.specs.declared.Refusal.the-variants.{Range}
 use Rattle.paper.specs.declared.Counts.{Counts}
 use Rattle.paper.specs.declared.Kind.{Kind}
-use Rattle.paper.specs.declared.Kind.the-variants.{D, N, M, E, «V», H, F, G, T, C, Z, Other}
+use Rattle.paper.specs.declared.Kind.the-variants.{D, N, M, E, «V», H, F, G, R, T, C, Z, Other}
 use Rattle.laws.proofs.Decks.{In}
 use Rattle.laws.proofs.Spans.{in-told}
 use Rattle.laws.proofs.Judging.{full-same}
@@ -68,6 +68,7 @@ module _ (z : Counts) (f g : ℕ → List ℕ) (i p key : ℕ) (e : (j : ℕ) �
   asks-alike crowded card o H k = refl
   asks-alike crowded card o F k = ap (isA E) (e (before z bodies + getD card 1 0 - 1) (omega (arith, column-in z card F 0 k (o .range) (omega arith), begins-at z i p card F k (o .place))))
   asks-alike crowded card o G k = refl
+  asks-alike crowded card o R k = ap (isA E) (e (before z bodies + getD card 1 0 - 1) (omega (arith, column-in z card R 0 k (o .range) (omega arith), begins-at z i p card R k (o .place))))
   asks-alike crowded card o T k = refl
   asks-alike crowded card o C k =
       ap (λ (n : ℕ). leb 1 (about (kindOf (getD card 2 0)) .gives) && leb 1 n) (named-alike z f g i (getD card 2 0) (getD card 3 0) (λ j l. e j (omega arith)))

@@ -9,7 +9,7 @@ use lib.Dec.{ltb, eqb}
 use lib.ListN.{length, getD, take, drop, set, length-set, replicate, length-append, length-drop, take-append-drop, drop-of-length-le}
 use lib.Seq.{take-at, drop-append-add, getD-take, getD-drop, getD-at, drop-cons, drop-drop, length-take-le}
 use Rattle.paper.specs.declared.Kind.{Kind}
-use Rattle.paper.specs.declared.Kind.the-variants.{D, N, M, E, «V», H, F, G, T, C, Z, Other}
+use Rattle.paper.specs.declared.Kind.the-variants.{D, N, M, E, «V», H, F, G, R, T, C, Z, Other}
 use Rattle.paper.specs.declared.Field.{Field}
 use Rattle.paper.specs.declared.Field.the-variants.{Number, Malformed}
 use Rattle.paper.specs.Kinds.{about, kindOf, letterOf, change}
@@ -112,7 +112,7 @@ length-textOf solid card =
 
 -- ---- a letter that is a kind's
 
-used-order : (k : Kind) → (used k ≡ 0 → ⊥) → about k .order < 11
+used-order : (k : Kind) → (used k ≡ 0 → ⊥) → about k .order < 12
 unfolding used columns about
 used-order D h = omega arith
 used-order N h = omega arith
@@ -122,6 +122,7 @@ used-order «V» h = omega arith
 used-order H h = omega arith
 used-order F h = omega arith
 used-order G h = omega arith
+used-order R h = omega arith
 used-order T h = omega arith
 used-order C h = omega arith
 used-order Z h = omega arith

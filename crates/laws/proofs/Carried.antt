@@ -14,7 +14,8 @@ use Rattle.whole.proofs.Tests.{nor-told, cond-true, cond-false}
 use Rattle.whole.proofs.Linear.{zarith, plusL, minusL}
 use Rattle.whole.proofs.Sums.{sumN-ext, sumN-mono, sumN-once, any-none, any-each, table-at}
 use Rattle.paper.specs.Cards.{nodes}
-use Rattle.paper.specs.Matrices.{cleared, fixed, held, loadOf}
+use Rattle.paper.specs.Matrices.{cleared, fixed, held}
+use Rattle.paper.specs.Radiation.{loadNow}
 use Rattle.paper.specs.Building.{Slices}
 use Rattle.paper.specs.Lent.{rowSize, heavy, noFactor, foreign, laden, opened}
 use Rattle.paper.specs.Step.{boardOf, isFixed, rightSide, residual, rowBound}
@@ -47,7 +48,7 @@ module _ (t : List ℕ) (p a old carried : List ℤ) (i : ℕ) where
       let e = held-tells t i h ∙ f in
       let heat = sum n (λ j. entry p i j *ℤ cell old j) in
       let held-back = sum n (λ j. cond (isFixed (table n (held t)) j) (entry a i j *ℤ cell (table n (held t)) j) (pos 0)) in
-      rw (e, table-at n i (λ k. loadOf t k +ℤ cell carried k) h, table-at n i (λ k. loadOf t k +ℤ cell [] k) h) (last heat (loadOf t i) (cell carried i) held-back)
+      rw (e, table-at n i (λ k. loadNow t old k +ℤ cell carried k) h, table-at n i (λ k. loadNow t old k +ℤ cell [] k) h) (last heat (loadNow t old i) (cell carried i) held-back)
     where
       last : (x l c f : ℤ) → x +ℤ (l +ℤ c) -ℤ f ≡ x +ℤ (l +ℤ pos 0) -ℤ f +ℤ c
       last x l c f =

@@ -24,7 +24,7 @@ use Rattle.paper.specs.Matrices.{addsP, addsA, P, A, fixes, fixed}
 use Rattle.paper.specs.Replacing.{formOf}
 use Rattle.paper.specs.declared.Answer.the-variants.{Done}
 use Rattle.paper.specs.declared.Kind.{Kind}
-use Rattle.paper.specs.declared.Kind.the-variants.{D, N, M, E, «V», H, F, G, T, C, Z, Other}
+use Rattle.paper.specs.declared.Kind.the-variants.{D, N, M, E, «V», H, F, G, R, T, C, Z, Other}
 use Rattle.laws.proofs.Letters.{Body, flat, solid, body-section}
 use Rattle.laws.proofs.Tables.{row-field, row-here}
 use Rattle.laws.proofs.Decks.{In, kindIn, Deck, Change}
@@ -51,6 +51,7 @@ Names n m e card «V» = Based n m card
 Names n m e card H = In 1 e (getD card 1 0)
 Names n m e card F = In 1 e (getD card 1 0)
 Names n m e card G = Inside n (getD card 1 0 ∷ getD card 2 0 ∷ [])
+Names n m e card R = Unit {0}
 Names n m e card T = Unit {0}
 Names n m e card C = Unit {0}
 Names n m e card Z = Unit {0}
@@ -75,6 +76,7 @@ names t row d h = go (kindIn t row) refl
     go H e = rw (row-field t row 1 (omega arith)) (names-H t d row h e)
     go F e = rw (row-field t row 1 (omega arith)) (names-F t d row h e)
     go G e = rw (row-field t row 1 (omega arith), row-field t row 2 (omega arith)) (ends-G t d row h e)
+    go R e = tt
     go T e = tt
     go C e = tt
     go Z e = tt
@@ -189,6 +191,7 @@ module _ (t : List ℕ) (c : ℕ) (card : List ℕ) (d : Deck t) (g : Change t c
   part-of x H h = λ i. let s = named-same x h i in loaded (s .corners) (heatShare (length (s .corners)) (getD x 2 0))
   part-of x F h = λ i. let s = named-same x h i in filmed (s .corners) (faceFilm (getD x 2 0) s) (getD x 3 0)
   part-of x G h = λ i. let s = space-same (getD x 1 0 ∷ getD x 2 0 ∷ []) h i in filmed (s .shape .corners) (edgeFilm (getD x 3 0) (getD x 5 0) s) (getD x 4 0)
+  part-of x R h = refl
   part-of x T h = refl
   part-of x C h = refl
   part-of x Z h = refl
@@ -251,6 +254,7 @@ module _ (t : List ℕ) (c : ℕ) (card : List ℕ) (d : Deck t) (g : Change t c
   idle-by H e s = ap (λ (s : Shape). still (loaded (s .corners) (λ a. pos 0))) (own-shape (names-H t d c (g .inside) e))
   idle-by F e s = never (sym s)
   idle-by G e s = never (sym s)
+  idle-by R e s = refl
   idle-by T e s = refl
   idle-by C e s = refl
   idle-by Z e s = refl
@@ -270,6 +274,7 @@ module _ (t : List ℕ) (c : ℕ) (card : List ℕ) (d : Deck t) (g : Change t c
   corners-by H e = ap (λ (s : Shape). s .corners) (own-shape (names-H t d c (g .inside) e))
   corners-by F e = ap (λ (s : Shape). s .corners) (own-shape (names-F t d c (g .inside) e))
   corners-by G e = λ i. own-key i ∷ own-end e i ∷ []
+  corners-by R e = refl
   corners-by T e = refl
   corners-by C e = refl
   corners-by Z e = refl

@@ -27,7 +27,7 @@ use Rattle.paper.specs.Matrices.{addsP, addsA, P, A, fixed, cleared}
 use Rattle.paper.specs.Coupled.{joinsAt, corner, coupled, firstOf}
 use Rattle.paper.specs.KeptCalls.{keptLong}
 use Rattle.paper.specs.declared.Kind.{Kind}
-use Rattle.paper.specs.declared.Kind.the-variants.{D, N, M, E, «V», H, F, G, T, C, Z, Other}
+use Rattle.paper.specs.declared.Kind.the-variants.{D, N, M, E, «V», H, F, G, R, T, C, Z, Other}
 use Rattle.laws.proofs.Letters.{Body, flat, solid}
 use Rattle.laws.proofs.Tables.{row-field}
 use Rattle.laws.proofs.Decks.{In, kindIn, Deck, Change}
@@ -115,6 +115,7 @@ module _ (t : List ℕ) where
     joins-by row H h e = named-joins row (names-H t d row h e)
     joins-by row F h e = named-joins row (names-F t d row h e)
     joins-by row G h e = edge-joins row h e
+    joins-by row R h e = λ a b i j la. absurd (omega arith)
     joins-by row T h e = λ a b i j la. absurd (omega arith)
     joins-by row C h e = λ a b i j la. absurd (omega arith)
     joins-by row Z h e = λ a b i j la. absurd (omega arith)
@@ -223,6 +224,7 @@ joins-kept «V» = omega arith
 joins-kept H = omega arith
 joins-kept F = omega arith
 joins-kept G = omega arith
+joins-kept R = omega arith
 joins-kept T = omega arith
 joins-kept C = omega arith
 joins-kept Z = omega arith

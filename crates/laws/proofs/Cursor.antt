@@ -15,7 +15,7 @@ use Rattle.paper.specs.KeptCalls.{Kept, leftKept}
 use Rattle.paper.specs.Changes.{falls, changesFrom, changesAt}
 use Rattle.paper.specs.declared.Answer.the-variants.{Done}
 use Rattle.paper.specs.declared.Kind.{Kind}
-use Rattle.paper.specs.declared.Kind.the-variants.{D, N, M, E, «V», H, F, G, T, C, Z, Other}
+use Rattle.paper.specs.declared.Kind.the-variants.{D, N, M, E, «V», H, F, G, R, T, C, Z, Other}
 use Rattle.laws.proofs.Letters.{letter-of, kind-of}
 use Rattle.laws.proofs.Tables.{row-field}
 use Rattle.laws.proofs.Decks.{kindIn, Deck}
@@ -62,7 +62,7 @@ module _ (t : List ℕ) (d : Deck t) where
   unfolding about
   not-first e = omega (arith, ap (λ (k : Kind). about k .order) (sym (is-D t d) ∙ change-kind 0 e))
 
-  order-few : (k : Kind) → about k .order ≤ 11
+  order-few : (k : Kind) → about k .order ≤ 12
   unfolding about
   order-few D = omega arith
   order-few N = omega arith
@@ -72,6 +72,7 @@ module _ (t : List ℕ) (d : Deck t) where
   order-few H = omega arith
   order-few F = omega arith
   order-few G = omega arith
+  order-few R = omega arith
   order-few T = omega arith
   order-few C = omega arith
   order-few Z = omega arith
@@ -101,7 +102,7 @@ module _ (t : List ℕ) (d : Deck t) where
       go (no q) = let q′ : r ≡ s → ⊥ = q in up (omega arith)
 
   -- a card before Z that is of no earlier order is one
-  late-change : (s : ℕ) (k : Kind) → suc s < rows t → kindIn t s ≡ k → 9 ≤ about k .order → letter t s ≡ letterOf C
+  late-change : (s : ℕ) (k : Kind) → suc s < rows t → kindIn t s ≡ k → 10 ≤ about k .order → letter t s ≡ letterOf C
   unfolding about before sumN
   late-change s D h q o = absurd (omega arith)
   late-change s N h q o = absurd (omega arith)
@@ -111,6 +112,7 @@ module _ (t : List ℕ) (d : Deck t) where
   late-change s H h q o = absurd (omega arith)
   late-change s F h q o = absurd (omega arith)
   late-change s G h q o = absurd (omega arith)
+  late-change s R h q o = absurd (omega arith)
   late-change s T h q o = absurd (omega arith)
   late-change s C h q o = letter-of (letter t s) C q (omega arith)
   late-change s Z h q o = absurd (omega (arith, within-at t d s 5 (omega arith) (ap (λ (k : Kind). about k .section) q) .0, begins t .atZ, d .all))

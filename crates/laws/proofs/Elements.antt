@@ -31,7 +31,7 @@ use Rattle.paper.specs.declared.Answer.the-variants.{Done, Refused}
 use Rattle.paper.specs.declared.Refusal.{Refusal}
 use Rattle.paper.specs.declared.Refusal.the-variants.{Flat, Stiff, Thin}
 use Rattle.paper.specs.declared.Kind.{Kind}
-use Rattle.paper.specs.declared.Kind.the-variants.{D, N, M, E, «V», H, F, G, T, C, Z, Other}
+use Rattle.paper.specs.declared.Kind.the-variants.{D, N, M, E, «V», H, F, G, R, T, C, Z, Other}
 use Rattle.laws.proofs.Outcomes.{done-refused, cond-done}
 use Rattle.laws.proofs.Letters as kinds
 use Rattle.laws.proofs.Tables.{row-field}
@@ -255,6 +255,7 @@ module _ (t : List ℕ) (d : Deck t) (pass : elementsFrom (elements t) 1 t ≡ D
   distinct-kind row G h e =
       two-distinct (getD (rowAt t row) 1 0) (getD (rowAt t row) 2 0)
       (omega (arith, row-field t row 1 (omega arith), row-field t row 2 (omega arith), lower-first t d row h e))
+  distinct-kind row R h e = nothing-distinct
   distinct-kind row T h e = nothing-distinct
   distinct-kind row C h e = nothing-distinct
   distinct-kind row Z h e = nothing-distinct

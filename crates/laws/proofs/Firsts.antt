@@ -15,7 +15,7 @@ use Rattle.paper.specs.Cards.{Column, _⋯_, columns, field, rows, nodes, count
 use Rattle.paper.specs.Coupled.{joinsAt, coupled, firstOf}
 use Rattle.paper.specs.declared.Counts.{Counts}
 use Rattle.paper.specs.declared.Kind.{Kind}
-use Rattle.paper.specs.declared.Kind.the-variants.{D, N, M, E, «V», H, F, G, T, C, Z, Other}
+use Rattle.paper.specs.declared.Kind.the-variants.{D, N, M, E, «V», H, F, G, R, T, C, Z, Other}
 use Rattle.laws.proofs.Decks.{Deck, In, kindIn}
 use Rattle.laws.proofs.Spans.{nodes-are, in-bodies, in-loads, field-in}
 
@@ -58,6 +58,7 @@ joined-columns z F a h = absurd (omega arith)
 joined-columns z G zero h = (omega arith, refl)
 joined-columns z G (suc zero) h = (omega arith, refl)
 joined-columns z G (suc (suc a)) h = absurd (omega arith)
+joined-columns z R a h = absurd (omega arith)
 joined-columns z T a h = absurd (omega arith)
 joined-columns z C a h = absurd (omega arith)
 joined-columns z Z a h = absurd (omega arith)
@@ -73,6 +74,7 @@ joining-section «V» h = inl refl
 joining-section H h = absurd (omega arith)
 joining-section F h = absurd (omega arith)
 joining-section G h = inr refl
+joining-section R h = absurd (omega arith)
 joining-section T h = absurd (omega arith)
 joining-section C h = absurd (omega arith)
 joining-section Z h = absurd (omega arith)
@@ -88,6 +90,7 @@ joins-few «V» = omega arith
 joins-few H = omega arith
 joins-few F = omega arith
 joins-few G = omega arith
+joins-few R = omega arith
 joins-few T = omega arith
 joins-few C = omega arith
 joins-few Z = omega arith

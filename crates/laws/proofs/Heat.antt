@@ -18,7 +18,7 @@ use Rattle.paper.specs.Corners.{share}
 use Rattle.paper.specs.Parts.{Part, heatShare, namedRow, partOf, partAt}
 use Rattle.paper.specs.Matrices.{addsLoad, heatOf, powers}
 use Rattle.paper.specs.declared.Kind.{Kind}
-use Rattle.paper.specs.declared.Kind.the-variants.{D, N, M, E, «V», H, F, G, T, C, Z, Other}
+use Rattle.paper.specs.declared.Kind.the-variants.{D, N, M, E, «V», H, F, G, R, T, C, Z, Other}
 use Rattle.laws.proofs.Letters.{kind-of}
 use Rattle.laws.proofs.Tables.{row-field}
 use Rattle.laws.proofs.Decks.{In, kindIn, Deck}
@@ -70,6 +70,7 @@ unloaded t card i «V» h f g = share-none _ _ i (λ a. refl)
 unloaded t card i H h f g = absurd (h refl)
 unloaded t card i F h f g = absurd (f refl)
 unloaded t card i G h f g = absurd (g refl)
+unloaded t card i R h f g = share-none _ _ i (λ a. refl)
 unloaded t card i T h f g = share-none _ _ i (λ a. refl)
 unloaded t card i C h f g = share-none _ _ i (λ a. refl)
 unloaded t card i Z h f g = share-none _ _ i (λ a. refl)

@@ -21,7 +21,7 @@ use Rattle.paper.specs.declared.Answer.the-variants.{Done}
 use Rattle.paper.specs.declared.Refusal.the-variants.{Length, Short, Replacement}
 use Rattle.paper.specs.declared.Counts.{Counts}
 use Rattle.paper.specs.declared.Kind.{Kind}
-use Rattle.paper.specs.declared.Kind.the-variants.{E, «V», F, G, C}
+use Rattle.paper.specs.declared.Kind.the-variants.{E, «V», F, G, R, C}
 use Rattle.laws.proofs.Outcomes.{both-done, cond-done, cond-rest}
 use Rattle.laws.proofs.Letters.{letter-of, kind-of}
 use Rattle.laws.proofs.Tables.{row-field, row-length}
@@ -149,29 +149,50 @@ module _ (t bs : List ℕ) (room : ℕ) (ok : imports t bs room ≡ Done) where
   load-section : (j : ℕ) → base ≤ j → j < cards z → about (kindAt (row j)) .section ≡ 4
   load-section j l h = ap (λ (k : Kind). about k .section) (row-kind t j) ∙ section-at t dk j 4 (omega (arith, rows-is)) (l, h)
 
-  edge-at : (j : ℕ) → base ≤ j → j < place → kindAt (row j) ≡ G
+  -- an edge, or a source
+  edge-at : (j : ℕ) → base ≤ j → j < place → (kindAt (row j) ≡ G) ⊎ (kindAt (row j) ≡ R)
   unfolding firstMade
   edge-at j l h =
       edge-kind (row j) (load-section j l (omega (arith, place-cards)))
       (first-none (rows t - 1) 0 (λ (r : ℕ). isMade (row r)) (acc .bare) j (omega arith) (omega (arith, rows-is, place-cards))) (place-below z row j h)
 
-  -- kinds do not fall, so all from that place on are changes
-  late-order : (j : ℕ) → place ≤ j → j < cards z → 8 < orderOf (row j)
-  late-order j l h = go (decLt place j)
+  -- which come in this order, and are none that a change names
+  edge-order : (j : ℕ) → base ≤ j → j < place → (7 ≤ orderOf (row j)) × (orderOf (row j) ≤ 8)
+  unfolding about
+  edge-order j l h = go (edge-at j l h)
     where
-      go : Dec (place < j) → 8 < orderOf (row j)
-      go (yes m) =
-          omega (arith, place-here z row (omega arith), dk .order place j m (omega (arith, rows-is)), ap (λ (k : Kind). about k .order) (row-kind t place), ap (λ (k : Kind). about k .order) (row-kind t j))
+      go : (kindAt (row j) ≡ G) ⊎ (kindAt (row j) ≡ R) → (7 ≤ orderOf (row j)) × (orderOf (row j) ≤ 8)
+      go (inl e) = let o = ap (λ (k : Kind). about k .order) e in (omega (arith, o), omega (arith, o))
+      go (inr e) = let o = ap (λ (k : Kind). about k .order) e in (omega (arith, o), omega (arith, o))
+
+  edge-gives : (j : ℕ) → base ≤ j → j < place → about (kindAt (row j)) .gives ≡ 0
+  unfolding about
+  edge-gives j l h = go (edge-at j l h)
+    where
+      go : (kindAt (row j) ≡ G) ⊎ (kindAt (row j) ≡ R) → about (kindAt (row j)) .gives ≡ 0
+      go (inl e) = ap (λ (k : Kind). about k .gives) e
+      go (inr e) = ap (λ (k : Kind). about k .gives) e
+
+  -- kinds do not fall
+  orders : (i j : ℕ) → i ≤ j → j < cards z → orderOf (row i) ≤ orderOf (row j)
+  orders i j l h = go (decLt i j)
+    where
+      go : Dec (i < j) → orderOf (row i) ≤ orderOf (row j)
+      go (yes m) = omega (arith, dk .order i j m (omega (arith, rows-is)), ap (λ (k : Kind). about k .order) (row-kind t i), ap (λ (k : Kind). about k .order) (row-kind t j))
       go (no m) =
-          let m′ : place < j → ⊥ = m in
-          let e : place ≡ j = omega arith in
-          subst (λ (r : ℕ). 8 < orderOf (row r)) e (place-here z row (omega arith))
+          let m′ : i < j → ⊥ = m in
+          let e : i ≡ j = omega arith in
+          subst (λ (r : ℕ). orderOf (row i) ≤ orderOf (row r)) e (omega arith)
+
+  -- so all from that place on are changes
+  late-order : (j : ℕ) → place ≤ j → j < cards z → 9 < orderOf (row j)
+  late-order j l h = omega (arith, place-here z row (omega arith), orders place j l h)
 
   change-at : (j : ℕ) → place ≤ j → j < cards z → kindAt (row j) ≡ C
   change-at j l h = change-kind (kindAt (row j)) (load-section j (omega (arith, place-up)) h) (late-order j l h)
 
   -- the judge lets no more of a kind pass than there may be
-  few-of : (q : Kind) (first last : ℕ) → ((j : ℕ) → first ≤ j → j < last → kindAt (row j) ≡ q) → last ≤ cards z → about q .order < 11 → last ≤ first + about q .most
+  few-of : (q : Kind) (first last : ℕ) → ((j : ℕ) → first ≤ j → j < last → kindAt (row j) ≡ q) → last ≤ cards z → about q .order < 12 → last ≤ first + about q .most
   unfolding full
   few-of q first last is u o = go (decLt (first + about q .most) last)
     where
@@ -185,9 +206,58 @@ module _ (t bs : List ℕ) (room : ℕ) (ok : imports t bs room ≡ Done) where
           let x : false ≡ true = sym spare ∙ (λ j. le-leb (about q .most) i (omega arith) j && eq-eqb (getD (row (i - about q .most)) 0 0) (about q .letter) same j) in
           never x
 
-  few-edges : place ≤ base + 160
+  -- up to an edge all are edges, so it is one of 160
+  edges-up : (j : ℕ) → base ≤ j → j < place → kindAt (row j) ≡ G → j < base + 160
   unfolding about
-  few-edges = few-of G base place edge-at place-cards (omega arith)
+  edges-up j l h e = few-of G base (suc j) (λ i a b. go i (omega arith) (edge-at i a (omega arith))) (omega (arith, place-cards)) (omega arith)
+    where
+      go : (i : ℕ) → i ≤ j → (kindAt (row i) ≡ G) ⊎ (kindAt (row i) ≡ R) → kindAt (row i) ≡ G
+      go i m (inl q) = q
+      go i m (inr q) =
+          absurd (omega (arith, orders i j m (omega (arith, place-cards)), ap (λ (k : Kind). about k .order) q, ap (λ (k : Kind). about k .order) e))
+
+  source-key : (j : ℕ) → j < cards z → kindAt (row j) ≡ R → (1 ≤ getD (row j) 1 0) × (getD (row j) 1 0 ≤ 160)
+  unfolding columns
+  source-key j h e = let w = column-in z (row j) R 0 e (old j h .range) (omega arith) in (w .0, omega (arith, w .1, fair .elements-most))
+
+  -- sources rise by their elements, so each is one of as many past the edges as its element's number
+  next-source : (j : ℕ) → suc j < cards z → kindAt (row j) ≡ R → kindAt (row (suc j)) ≡ R → getD (row j) 1 0 < getD (row (suc j)) 1 0
+  unfolding about
+  next-source j h e g =
+      let same : letter t j ≡ letter t (suc j) =
+      sym (row-field t j 0 (omega arith)) ∙ letter-of (getD (row j) 0 0) R e (omega arith)
+      ∙ sym (letter-of (getD (row (suc j)) 0 0) R g (omega arith)) ∙ row-field t (suc j) 0 (omega arith) in
+      let keys : 1 ≤ about (kindIn t j) .keys = omega (arith, ap (λ (k : Kind). about k .keys) (sym (row-kind t j) ∙ e)) in
+      let rise = dk .rising j (suc j) (omega arith) (omega (arith, rows-is)) keys same in
+      omega (arith, rise, rank-one (aboutOf (row j)) (row j) (ap (λ (k : Kind). about k .keys) e), rank-one (aboutOf (row (suc j))) (row (suc j)) (ap (λ (k : Kind). about k .keys) g))
+
+  sources-up : (j : ℕ) → base ≤ j → j < place → kindAt (row j) ≡ R → suc j ≤ base + 160 + getD (row j) 1 0
+  sources-up zero l h e = absurd (omega (arith, base-some))
+  sources-up (suc j) l h e = go (decLt j base) (sources-up j)
+    where
+      key : (1 ≤ getD (row (suc j)) 1 0) × (getD (row (suc j)) 1 0 ≤ 160)
+      key = source-key (suc j) (omega (arith, place-cards)) e
+
+      by : base ≤ j → (base ≤ j → j < place → kindAt (row j) ≡ R → suc j ≤ base + 160 + getD (row j) 1 0)
+          → (kindAt (row j) ≡ G) ⊎ (kindAt (row j) ≡ R) → suc (suc j) ≤ base + 160 + getD (row (suc j)) 1 0
+      by m before (inl q) = omega (arith, edges-up j m (omega arith) q, key .0)
+      by m before (inr q) = omega (arith, before m (omega arith) q, next-source j (omega (arith, place-cards)) q e)
+
+      go : Dec (j < base) → (base ≤ j → j < place → kindAt (row j) ≡ R → suc j ≤ base + 160 + getD (row j) 1 0) → suc (suc j) ≤ base + 160 + getD (row (suc j)) 1 0
+      go (yes m) before = omega (arith, key .0)
+      go (no m) before = let m′ : j < base → ⊥ = m in by (omega arith) before (edge-at j (omega arith) (omega arith))
+
+  -- 160 edges and 160 sources at most
+  few-edges : place ≤ base + 320
+  few-edges = go (decLt base place)
+    where
+      last : base < place → (kindAt (row (place - 1)) ≡ G) ⊎ (kindAt (row (place - 1)) ≡ R) → place ≤ base + 320
+      last m (inl e) = omega (arith, edges-up (place - 1) (omega arith) (omega arith) e)
+      last m (inr e) = omega (arith, sources-up (place - 1) (omega arith) (omega arith) e, source-key (place - 1) (omega (arith, place-cards)) e .1)
+
+      go : Dec (base < place) → place ≤ base + 320
+      go (yes m) = last m (edge-at (place - 1) (omega arith) (omega arith))
+      go (no m) = let m′ : base < place → ⊥ = m in omega arith
 
   few-changes : cards z ≤ place + 64
   unfolding about
@@ -218,31 +288,30 @@ module _ (t bs : List ℕ) (room : ℕ) (ok : imports t bs room ≡ Done) where
           let b : recordKind (recordAt bs (i - base)) < 3 = early-below bs n 0 (i - base) (omega arith) (omega arith) in
           omega (arith, ap orderOf (early-row i (omega arith) k u), load-at (i - base) k .order)
 
-  edge-low : (i : ℕ) → i < place + f → orderOf (row2 i) ≤ 7
-  unfolding about
+  edge-low : (i : ℕ) → i < place + f → orderOf (row2 i) ≤ 8
   edge-low i u = go (decLt i (base + f))
     where
-      go : Dec (i < base + f) → orderOf (row2 i) ≤ 7
+      go : Dec (i < base + f) → orderOf (row2 i) ≤ 8
       go (yes l) = omega (arith, early-low i l)
       go (no l) =
           let l′ : i < base + f → ⊥ = l in
-          omega (arith, ap orderOf (at-edge z row bs i (omega arith) u), ap (λ (k : Kind). about k .order) (edge-at (i - f) (omega arith) (omega arith)))
+          omega (arith, ap orderOf (at-edge z row bs i (omega arith) u), edge-order (i - f) (omega arith) (omega arith) .1)
 
-  late-low : (i : ℕ) → i < place + n → orderOf (row2 i) ≤ 8
+  late-low : (i : ℕ) → i < place + n → orderOf (row2 i) ≤ 9
   late-low i u = go (decLt i (place + f))
     where
-      go : Dec (i < place + f) → orderOf (row2 i) ≤ 8
+      go : Dec (i < place + f) → orderOf (row2 i) ≤ 9
       go (yes l) = omega (arith, edge-low i l)
       go (no l) =
           let l′ : i < place + f → ⊥ = l in
           let k : i - place < n = omega arith in
           omega (arith, ap orderOf (late-row i (omega arith) k), load-at (i - place) k .order, load-at (i - place) k .some)
 
-  change-low : (i : ℕ) → i < cards z + n → orderOf (row2 i) ≤ 9
+  change-low : (i : ℕ) → i < cards z + n → orderOf (row2 i) ≤ 10
   unfolding about
   change-low i u = go (decLt i (place + n))
     where
-      go : Dec (i < place + n) → orderOf (row2 i) ≤ 9
+      go : Dec (i < place + n) → orderOf (row2 i) ≤ 10
       go (yes l) = omega (arith, late-low i l)
       go (no l) =
           let l′ : i < place + n → ⊥ = l in
@@ -340,7 +409,7 @@ module _ (t bs : List ℕ) (room : ℕ) (ok : imports t bs room ≡ Done) where
           let e : suc i - place ≡ suc j = omega arith in
           next-passes i j h g (at-late z row bs i place-up (omega arith) (omega arith) ∙ card-at j g) (at-late z row bs (suc i) place-up l u ∙ ap (recordRow bs) e ∙ card-at (suc j) h) (omega (arith, place-up)) (omega (arith, place-cards))
 
-  -- ---- an edge and a change pass as they passed
+  -- ---- an edge, a source and a change pass as they passed
 
   not-kind : (i : ℕ) (q : Kind) → orderOf (row2 i) < about q .order → getD (row2 i) 0 0 ≡ about q .letter → ⊥
   not-kind i q l e = omega (arith, ap (λ (k : Kind). about k .order) (kind-of (getD (row2 i) 0 0) q e))
@@ -379,14 +448,39 @@ module _ (t bs : List ℕ) (room : ℕ) (ok : imports t bs room ≡ Done) where
           ∙ (λ j. rises (orderBefore row (sym x j)) (rankBefore row (sym x j)) (aboutOf (row (suc i - s))) (row (suc i - s))) ∙ was .rise
 
   edge-passes : (i : ℕ) → base + f ≤ suc i → suc i < place + f → passes z2 row2 (suc i) ≡ Done
-  unfolding about asks
-  edge-passes i l u =
-      own-passes i f G (at-edge z row bs (suc i) l u) (edge-at (suc i - f) (omega arith) (omega arith)) refl (omega arith) (omega (arith, place-cards, few-early)) (omega (arith, place-cards))
-      (edge-low i (omega arith)) (λ m. omega (arith, early-low (suc i - 160) (omega (arith, few-edges, base-some)))) (after (decLt i (base + f))) refl
+  unfolding about asks columns
+  edge-passes i l u = go (edge-at j (omega arith) (omega arith))
     where
-      after : Dec (i < base + f) → Next i f G
-      after (yes m) = inl (omega (arith, early-low i m))
-      after (no m) = let m′ : i < base + f → ⊥ = m in inr (omega arith, at-edge z row bs i (omega arith) (omega arith))
+      j : ℕ
+      j = suc i - f
+
+      low : Dec (i < base + f) → orderOf (row2 i) ≤ orderOf (row j)
+      low (yes m) = omega (arith, early-low i m, edge-order j (omega arith) (omega arith) .0)
+      low (no m) =
+          let m′ : i < base + f → ⊥ = m in
+          omega (arith, ap orderOf (at-edge z row bs i (omega arith) (omega arith)), orders (i - f) j (omega arith) (omega (arith, place-cards)))
+
+      after : (q : Kind) → 6 < about q .order → Dec (i < base + f) → Next i f q
+      after q o (yes m) = inl (omega (arith, early-low i m))
+      after q o (no m) = let m′ : i < base + f → ⊥ = m in inr (omega arith, at-edge z row bs i (omega arith) (omega arith))
+
+      on-triangle : kindAt (row j) ≡ R → asks z2 row2 (suc i) (row j) R ≡ true
+      on-triangle e =
+          let was = old j (omega (arith, place-cards)) in
+          let w = column-in z (row j) R 0 e (was .range) (omega arith) in
+          let at = before z 3 + getD (row j) 1 0 - 1 in
+          let inner : at < base = omega (arith, begins t .atE, begins t .atLoads, elements-are t, w .0, w .1) in
+          grown-asks z n row2 (suc i) (row j) R ∙ ap (isA E) (at-body z row bs at inner) ∙ sym (ap (asks z row j (row j)) e) ∙ was .asked
+
+      go : (kindAt (row j) ≡ G) ⊎ (kindAt (row j) ≡ R) → passes z2 row2 (suc i) ≡ Done
+      go (inl e) =
+          own-passes i f G (at-edge z row bs (suc i) l u) e refl (omega arith) (omega (arith, place-cards, few-early)) (omega (arith, place-cards))
+          (omega (arith, low (decLt i (base + f)), ap (λ (k : Kind). about k .order) e))
+          (λ m. omega (arith, early-low (suc i - 160) (omega (arith, edges-up j (omega arith) (omega arith) e, base-some)))) (after G (omega arith) (decLt i (base + f))) refl
+      go (inr e) =
+          own-passes i f R (at-edge z row bs (suc i) l u) e refl (omega arith) (omega (arith, place-cards, few-early)) (omega (arith, place-cards))
+          (omega (arith, low (decLt i (base + f)), ap (λ (k : Kind). about k .order) e))
+          (λ m. absurd (omega (arith, few, rows-is, dk .few, place-cards, few-early))) (after R (omega arith) (decLt i (base + f))) (on-triangle e)
 
   -- the card that a change names is an element: the deck has no heat, no film and no fixed node
   named-body : (j code : ℕ) → j < cards z → getD (row j) 0 0 ≡ code → 1 ≤ about (kindOf code) .gives → j < base
@@ -398,7 +492,7 @@ module _ (t bs : List ℕ) (room : ℕ) (ok : imports t bs room ≡ Done) where
 
       go : Dec (j < base) → Dec (j < place) → j < base
       go (yes l) m = l
-      go (no l) (yes m) = let l′ : j < base → ⊥ = l in absurd (omega (arith, is, ap (λ (k : Kind). about k .gives) (edge-at j (omega arith) m)))
+      go (no l) (yes m) = let l′ : j < base → ⊥ = l in absurd (omega (arith, is, edge-gives j (omega arith) m))
       go (no l) (no m) = let m′ : j < place → ⊥ = m in absurd (omega (arith, is, ap (λ (k : Kind). about k .gives) (change-at j (omega arith) h)))
 
   -- and stands where it stood
@@ -574,7 +668,7 @@ module _ (t bs : List ℕ) (room : ℕ) (ok : imports t bs room ≡ Done) where
   pub body-rows : (k : ℕ) → k < before (countsAt t) 4 → rowAt (secondTable t bs) k ≡ rowAt t k
   body-rows k h = row-second k (omega (arith, rows-is, all-is)) ∙ at-body z row bs k h
 
-  -- so are the edges, each so many rows further on as records stand before them,
+  -- so are the edges and sources, each so many rows further on as records stand before them,
   pub edge-rows : (k : ℕ) → before (countsAt t) 4 ≤ k → k < fixedPlace (countsAt t) (rowAt t) → rowAt (secondTable t bs) (k + early bs) ≡ rowAt t k
   edge-rows k l h =
       let e : k + f - f ≡ k = omega arith in

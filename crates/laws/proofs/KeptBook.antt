@@ -1,17 +1,17 @@
 -- The heat book over kept rows: the steps that are not refused are document 01's, with the packed triangles of what is lent.
 use mathlib.Core.Path.{_≡_, refl, sym, ap, subst, _∙_}
 use mathlib.Core.List.{List, [], _∷_}
-use Prim.Native.Nat.{ℕ, _+_}
+use Prim.Native.Nat.{ℕ, zero, suc, _+_}
 use native.Mathlib.Nat.{add-zero}
 use native.Mathlib.Omega.{arith}
-use lib.IntN.{ℤ, pos, _+ℤ_, _*ℤ_}
+use lib.IntN.{ℤ, pos, _+ℤ_, _*ℤ_, +ℤ-idr}
 use Rattle.paper.specs.Building.{Slices}
 use Rattle.paper.specs.Calls.{Lent, StepExit, stepCall}
 use Rattle.paper.specs.Running.{runCall}
-use Rattle.paper.specs.Book.{stored, carriedIn, power, book, Closed, OwnMatrices, lentTo, Account, counted, stepOn, stepsOn, AllOwn}
-use Rattle.paper.specs.KeptCalls.{Kept, widened, KeptStepExit, KeptRunExit, nodesJudged, keptRun}
+use Rattle.paper.specs.Book.{stored, carriedIn, power, powerNow, book, Closed, Dark, OwnMatrices, lentTo, Account, opening, counted, fellBy, stepOn, stepsOn, fellIn, AllOwn}
+use Rattle.paper.specs.KeptCalls.{Kept, widened, KeptStepExit, KeptRunExit, nodesJudged, keptStep, keptRun}
 use Rattle.paper.specs.KeptReplacements.{KeptHolds}
-use Rattle.paper.specs.KeptBook.{KeptOwn, keptLentTo, KeptAccount, keptStepOn, keptStepsOn, AllKeptOwn}
+use Rattle.paper.specs.KeptBook.{KeptOwn, keptLentTo, KeptAccount, keptOpening, keptStepOn, keptStepsOn, keptFellIn, AllKeptOwn}
 use Rattle.paper.specs.declared.Answer.{Answer}
 use Rattle.paper.specs.declared.Answer.the-variants.{Done, Refused}
 use Rattle.paper.specs.declared.Refusal.{Refusal}
@@ -22,8 +22,9 @@ use Rattle.laws.proofs.Running as running
 use Rattle.laws.proofs.Book as packed
 use Rattle.laws.proofs.KeptCalls.{working, step-working}
 use Rattle.laws.proofs.KeptCalls as calls
-use Rattle.laws.proofs.Widened.{all-present, widened-blank, step-answer, step-kept, run-answer, run-kept}
+use Rattle.laws.proofs.Widened.{all-present, widened-blank, step-answer, step-kept, step-widened, run-answer, run-kept}
 use Rattle.laws.proofs.KeptLeft.{step-untouched}
+use Rattle.laws.proofs.Changes.{judged-again}
 
 -- THEOREM. A deck's own slices have its own P and A.
 pub own-matrices : (z : Kept) → KeptHolds z → KeptOwn (z .lent .table) (z .lent .slices)
@@ -44,6 +45,7 @@ record Shows (x : KeptAccount) (a : Account) : Type 0 where
   temperatures : a .lent .temperatures ≡ x .kept .lent .temperatures
   carried : a .lent .carried ≡ x .kept .lent .carried
   steps : a .steps ≡ x .steps
+  fallen : a .fallen ≡ x .fallen
 
 -- one of document 01's for each that passes 9 and 17
 record Told (t : List ℕ) (x : KeptAccount) (a : Account) : Type 0 where
@@ -75,6 +77,7 @@ module _ (s : Slices) (x : KeptAccount) (a : Account) (h : Shows x a) where
         temperatures = ap (λ (y : StepExit). y .lent .temperatures) stepped-is ∙ ap (λ (y : Kept). y .lent .temperatures) (sym is);
         carried = ap (λ (y : StepExit). y .lent .carried) stepped-is ∙ ap (λ (y : Kept). y .lent .carried) (sym is);
         steps = λ i. h .steps i + counted ((ap (λ (y : StepExit). y .answer) stepped-is ∙ sym (step-answer z ok)) i);
+        fallen = λ i. h .fallen i +ℤ fellBy ((ap (λ (y : StepExit). y .answer) stepped-is ∙ sym (step-answer z ok)) i) (powerNow (h .table i) (h .temperatures i));
       }
 
   shows-none : {r : Refusal} → nodesJudged z ≡ Refused r → Shows (keptStepOn s x) a
@@ -86,6 +89,7 @@ module _ (s : Slices) (x : KeptAccount) (a : Account) (h : Shows x a) where
         temperatures = h .temperatures ∙ ap (λ (y : KeptStepExit). y .kept .lent .temperatures) (sym is);
         carried = h .carried ∙ ap (λ (y : KeptStepExit). y .kept .lent .carried) (sym is);
         steps = h .steps ∙ sym (ap (λ (y : KeptStepExit). x .steps + counted (y .answer)) is ∙ add-zero (x .steps));
+        fallen = h .fallen ∙ sym (ap (λ (y : KeptStepExit). x .fallen +ℤ fellBy (y .answer) (powerNow (x .kept .lent .table) (x .kept .lent .temperatures))) is ∙ +ℤ-idr (x .fallen));
       }
 
 -- THEOREM. The steps over kept rows are steps of document 01, fewer where 9 or 17 refused.
@@ -107,32 +111,49 @@ steps-told t (s ∷ ss) x a e (o, os) h = go (nodesJudged (keptLentTo s (x .kept
         let own : OwnMatrices t (widened (z .lent) .slices) = subst (λ (u : List ℕ). OwnMatrices u (widened (z .lent) .slices)) e (wide-own (z .lent) (subst (λ (u : List ℕ). KeptOwn u s) (sym e) o)) in
         record { lent = widened (z .lent) .slices ∷ rest .lent; all-own = (own, rest .all-own); shows = rest .shows }
 
--- THEOREM (the heat book). With no film and no fixed node, after any steps, each lent the deck's own P and A in kept rows, refused ones counted as none:
--- the book shows what it showed at the start, and the sum of the loads as many times as there were accepted steps.
-pub heat-book : (z : Kept) (ss : List Slices) → Closed (z .lent .table) → AllKeptOwn (z .lent .table) ss
-    → let x = keptStepsOn ss (record { kept = z; steps = 0 }) in book (x .kept .lent) ≡ book (z .lent) +ℤ pos (x .steps) *ℤ power (z .lent .table)
-heat-book z ss c os =
-    let t = z .lent .table in
-    let x = keptStepsOn ss (record { kept = z; steps = 0 }) in
-    let k = steps-told t ss (record { kept = z; steps = 0 }) (record { lent = z .lent; steps = 0 }) refl os (record { table = refl; temperatures = refl; carried = refl; steps = refl }) in
-    let h = k .shows in
-    sym (λ i. stored (h .table i) (h .temperatures i) +ℤ carriedIn (h .table i) (h .carried i))
-    ∙ packed.heat-book (z .lent) (k .lent) c (k .all-own)
-    ∙ ap (λ (n : ℕ). book (z .lent) +ℤ pos n *ℤ power t) (h .steps)
+module _ (z : Kept) (ss : List Slices) (os : AllKeptOwn (z .lent .table) ss) where
+  told : Told (z .lent .table) (keptStepsOn ss (keptOpening z)) (opening (z .lent))
+  told = steps-told (z .lent .table) ss (keptOpening z) (opening (z .lent)) refl os (record { table = refl; temperatures = refl; carried = refl; steps = refl; fallen = refl })
+
+  -- THEOREM (the heat book). With no film and no fixed node, after any steps, each lent the deck's own P and A in kept rows, refused ones counted as none:
+  -- the book shows what it showed at the start, and the loads of the accepted steps as they fell.
+  pub heat-book : Closed (z .lent .table) → let x = keptStepsOn ss (keptOpening z) in book (x .kept .lent) ≡ book (z .lent) +ℤ x .fallen
+  heat-book c =
+      let h = told .shows in
+      sym (λ i. stored (h .table i) (h .temperatures i) +ℤ carriedIn (h .table i) (h .carried i))
+      ∙ packed.heat-book (z .lent) (told .lent) c (told .all-own)
+      ∙ ap (λ (b : ℤ). book (z .lent) +ℤ b) (h .fallen)
+
+  -- THEOREM. Where nothing radiates, these are the sum of the loads as many times as there were accepted steps.
+  pub dark-book : Dark (z .lent .table) → let x = keptStepsOn ss (keptOpening z) in x .fallen ≡ pos (x .steps) *ℤ power (z .lent .table)
+  dark-book dark =
+      let h = told .shows in
+      sym (h .fallen) ∙ packed.dark-book (z .lent) (told .lent) dark ∙ ap (λ (n : ℕ). pos n *ℤ power (z .lent .table)) (h .steps)
+
+-- ---- a run
+
+-- past 9 and 17 its loads are those of document 01's steps
+kept-fell : (k : ℕ) (z : Kept) → nodesJudged z ≡ Done → keptFellIn k z ≡ fellIn k (widened (z .lent))
+unfolding keptFellIn fellIn widened
+kept-fell zero z ok = refl
+kept-fell (suc k) z ok =
+    let again : nodesJudged (keptStep z .kept) ≡ Done = ap nodesJudged (step-kept z ok) ∙ judged-again z ∙ ok in
+    ap (λ (x : ℤ). powerNow (z .lent .table) (z .lent .temperatures) +ℤ x) (kept-fell k (keptStep z .kept) again ∙ ap (fellIn k) (step-widened z ok))
 
 -- THEOREM. So it does over a run of all of D's steps.
 pub run-book : (z : Kept) (count : ℕ) → Closed (z .lent .table) → KeptOwn (z .lent .table) (z .lent .slices) → keptRun z .answer ≡ runAnswer.Finished count
-    → book (keptRun z .kept .lent) ≡ book (z .lent) +ℤ pos count *ℤ power (z .lent .table)
+    → book (keptRun z .kept .lent) ≡ book (z .lent) +ℤ keptFellIn count z
 unfolding widened
 run-book z count c o e = go (nodesJudged z) refl
   where
     W : Lent
     W = widened (z .lent)
 
-    go : (b : Answer) → nodesJudged z ≡ b → book (keptRun z .kept .lent) ≡ book (z .lent) +ℤ pos count *ℤ power (z .lent .table)
+    go : (b : Answer) → nodesJudged z ≡ b → book (keptRun z .kept .lent) ≡ book (z .lent) +ℤ keptFellIn count z
     go (Refused r) q = absurd (let x = ap (λ (y : KeptRunExit). y .answer) (calls.run-refused z r q) ∙ e in let y : _≡_ {A = ℕ} 0 1 = cc in omega arith)
     go Done q =
         let u = running.run-untouched W .table in
         ap (λ (y : Kept). book (y .lent)) (run-kept z q)
         ∙ (λ i. stored (sym u i) (runCall W .lent .temperatures) +ℤ carriedIn (sym u i) (runCall W .lent .carried))
         ∙ packed.run-book W count c (wide-own (z .lent) o) (sym (run-answer z q) ∙ e)
+        ∙ ap (λ (b : ℤ). book (z .lent) +ℤ b) (sym (kept-fell count z q))

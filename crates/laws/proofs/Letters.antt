@@ -9,24 +9,24 @@ use lib.ListN.{getD}
 use borrow.Author.Tests.{eqb-true}
 use Rattle.paper.specs.Kinds.{about, letterOf, kindOf}
 use Rattle.paper.specs.declared.Kind.{Kind}
-use Rattle.paper.specs.declared.Kind.the-variants.{D, N, M, E, «V», H, F, G, T, C, Z, Other}
+use Rattle.paper.specs.declared.Kind.the-variants.{D, N, M, E, «V», H, F, G, R, T, C, Z, Other}
 
 -- ---- a letter by its kind
 
-named : (l : ℕ) (k rest : Kind) → (about rest .order < 11 → letterOf rest ≡ l) → about (cond (eqb l (letterOf k)) k rest) .order < 11 → letterOf (cond (eqb l (letterOf k)) k rest) ≡ l
+named : (l : ℕ) (k rest : Kind) → (about rest .order < 12 → letterOf rest ≡ l) → about (cond (eqb l (letterOf k)) k rest) .order < 12 → letterOf (cond (eqb l (letterOf k)) k rest) ≡ l
 named l k rest f h = go (eqb l (letterOf k)) refl h
   where
-    go : (b : Bool) → eqb l (letterOf k) ≡ b → about (cond b k rest) .order < 11 → letterOf (cond b k rest) ≡ l
+    go : (b : Bool) → eqb l (letterOf k) ≡ b → about (cond b k rest) .order < 12 → letterOf (cond b k rest) ≡ l
     go true e h = sym (eqb-true l (letterOf k) e)
     go false e h = f h
 
 -- THEOREM. Every letter but Other's is its kind's.
-pub known : (l : ℕ) → about (kindOf l) .order < 11 → letterOf (kindOf l) ≡ l
+pub known : (l : ℕ) → about (kindOf l) .order < 12 → letterOf (kindOf l) ≡ l
 unfolding kindOf about
 known l =
-    named l D _ (named l N _ (named l M _ (named l E _ (named l «V» _ (named l H _ (named l F _ (named l G _ (named l T _ (named l C _ (named l Z Other (λ h. absurd (omega arith))))))))))))
+    named l D _ (named l N _ (named l M _ (named l E _ (named l «V» _ (named l H _ (named l F _ (named l G _ (named l R _ (named l T _ (named l C _ (named l Z Other (λ h. absurd (omega arith)))))))))))))
 
-pub letter-of : (l : ℕ) (k : Kind) → kindOf l ≡ k → about k .order < 11 → l ≡ letterOf k
+pub letter-of : (l : ℕ) (k : Kind) → kindOf l ≡ k → about k .order < 12 → l ≡ letterOf k
 letter-of l k e h = sym (known l (rw e h)) ∙ ap letterOf e
 
 pub kind-letter : (k : Kind) → kindOf (letterOf k) ≡ k
@@ -39,6 +39,7 @@ kind-letter «V» = refl
 kind-letter H = refl
 kind-letter F = refl
 kind-letter G = refl
+kind-letter R = refl
 kind-letter T = refl
 kind-letter C = refl
 kind-letter Z = refl
@@ -59,6 +60,7 @@ node-kind «V» e = absurd (omega arith)
 node-kind H e = absurd (omega arith)
 node-kind F e = absurd (omega arith)
 node-kind G e = absurd (omega arith)
+node-kind R e = absurd (omega arith)
 node-kind T e = absurd (omega arith)
 node-kind C e = absurd (omega arith)
 node-kind Z e = absurd (omega arith)
@@ -79,6 +81,7 @@ body-kind «V» e = solid refl
 body-kind H e = absurd (omega arith)
 body-kind F e = absurd (omega arith)
 body-kind G e = absurd (omega arith)
+body-kind R e = absurd (omega arith)
 body-kind T e = absurd (omega arith)
 body-kind C e = absurd (omega arith)
 body-kind Z e = absurd (omega arith)
@@ -100,6 +103,7 @@ replaced-section «V» h = (omega arith, omega arith)
 replaced-section H h = (omega arith, omega arith)
 replaced-section F h = (omega arith, omega arith)
 replaced-section G h = (omega arith, omega arith)
+replaced-section R h = absurd (omega arith)
 replaced-section T h = (omega arith, omega arith)
 replaced-section C h = absurd (omega arith)
 replaced-section Z h = absurd (omega arith)
@@ -116,6 +120,7 @@ rising-section «V» h = absurd (omega arith)
 rising-section H h = refl
 rising-section F h = refl
 rising-section G h = refl
+rising-section R h = refl
 rising-section T h = refl
 rising-section C h = refl
 rising-section Z h = absurd (omega arith)
@@ -132,6 +137,7 @@ keys-kept «V» h = omega arith
 keys-kept H h = omega arith
 keys-kept F h = omega arith
 keys-kept G h = omega arith
+keys-kept R h = omega arith
 keys-kept T h = omega arith
 keys-kept C h = omega arith
 keys-kept Z h = omega arith
@@ -148,12 +154,13 @@ given-one «V» h n = absurd (omega arith)
 given-one H h n = refl
 given-one F h n = refl
 given-one G h n = absurd (omega arith)
+given-one R h n = absurd (omega arith)
 given-one T h n = refl
 given-one C h n = absurd (omega arith)
 given-one Z h n = absurd (omega arith)
 given-one Other h n = absurd (omega arith)
 
-pub given-real : (k : Kind) → 1 ≤ about k .gives → about k .order < 11
+pub given-real : (k : Kind) → 1 ≤ about k .gives → about k .order < 12
 unfolding about
 given-real D h = omega arith
 given-real N h = omega arith
@@ -163,6 +170,7 @@ given-real «V» h = omega arith
 given-real H h = omega arith
 given-real F h = omega arith
 given-real G h = omega arith
+given-real R h = omega arith
 given-real T h = omega arith
 given-real C h = omega arith
 given-real Z h = omega arith
@@ -179,6 +187,7 @@ first-kind «V» e = absurd (omega arith)
 first-kind H e = absurd (omega arith)
 first-kind F e = absurd (omega arith)
 first-kind G e = absurd (omega arith)
+first-kind R e = absurd (omega arith)
 first-kind T e = absurd (omega arith)
 first-kind C e = absurd (omega arith)
 first-kind Z e = absurd (omega arith)
@@ -194,6 +203,7 @@ material-kind «V» e = absurd (omega arith)
 material-kind H e = absurd (omega arith)
 material-kind F e = absurd (omega arith)
 material-kind G e = absurd (omega arith)
+material-kind R e = absurd (omega arith)
 material-kind T e = absurd (omega arith)
 material-kind C e = absurd (omega arith)
 material-kind Z e = absurd (omega arith)
@@ -209,6 +219,7 @@ change-kind «V» e = absurd (omega arith)
 change-kind H e = absurd (omega arith)
 change-kind F e = absurd (omega arith)
 change-kind G e = absurd (omega arith)
+change-kind R e = absurd (omega arith)
 change-kind T e = absurd (omega arith)
 change-kind C e = refl
 change-kind Z e = absurd (omega arith)
@@ -217,7 +228,7 @@ change-kind Other e = absurd (omega arith)
 -- ---- a kind by its order
 
 abbrev inOrder : List Kind
-inOrder = D ∷ N ∷ M ∷ E ∷ «V» ∷ H ∷ F ∷ G ∷ T ∷ C ∷ Z ∷ Other ∷ []
+inOrder = D ∷ N ∷ M ∷ E ∷ «V» ∷ H ∷ F ∷ G ∷ R ∷ T ∷ C ∷ Z ∷ Other ∷ []
 
 by-order : (k : Kind) → getD inOrder (about k .order) Other ≡ k
 unfolding about
@@ -229,6 +240,7 @@ by-order «V» = refl
 by-order H = refl
 by-order F = refl
 by-order G = refl
+by-order R = refl
 by-order T = refl
 by-order C = refl
 by-order Z = refl

@@ -7,6 +7,7 @@ pub mod KeptFactor
 pub mod Narrowed
 pub mod Finished
 pub mod Letters
+pub mod Flux
 pub mod Decks
 pub mod Joined
 pub mod Sizes
@@ -41,6 +42,7 @@ pub mod Changed
 pub mod Least
 pub mod Assembled
 pub mod Heat
+pub mod Losses
 pub mod Refused
 pub mod Replaced
 pub mod Demand3

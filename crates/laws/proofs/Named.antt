@@ -46,7 +46,7 @@ module _ (z : Counts) (row : ℕ → List ℕ) (letter name : ℕ) where
   kind-at k e = ap kindOf (eqb-true (getD (row k) 0 0) letter (and-told (eqb (getD (row k) 0 0) letter) (eqb (nameAt z row k) name) e .0))
 
   -- ---- among the loads, of a kind that rises by one key
-  module _ (n : ℕ) (past : Past z row n) (one : about (kindOf letter) .keys ≡ 1) (real : about (kindOf letter) .order < 11) where
+  module _ (n : ℕ) (past : Past z row n) (one : about (kindOf letter) .keys ≡ 1) (real : about (kindOf letter) .order < 12) where
     abbrev wanted : ℕ
     wanted = about (kindOf letter) .order
 

@@ -16,7 +16,7 @@ use Rattle.paper.specs.Judge.{clean, stands, rises, ordered, full, nameAt, card
 use Rattle.paper.specs.declared.Answer.the-variants.{Done}
 use Rattle.paper.specs.declared.Refusal.the-variants.{Form, Range, Replacement}
 use Rattle.paper.specs.declared.Kind.{Kind}
-use Rattle.paper.specs.declared.Kind.the-variants.{D, N, M, E, «V», H, F, G, T, C, Z, Other}
+use Rattle.paper.specs.declared.Kind.the-variants.{D, N, M, E, «V», H, F, G, R, T, C, Z, Other}
 use Rattle.laws.proofs.Outcomes.{cond-done}
 use Rattle.laws.proofs.Letters.{keys-kept}
 use Rattle.laws.proofs.Tables.{row-field, length-put, row-here}
@@ -71,6 +71,7 @@ keeps-few «V» = omega arith
 keeps-few H = omega arith
 keeps-few F = omega arith
 keeps-few G = omega arith
+keeps-few R = omega arith
 keeps-few T = omega arith
 keeps-few C = omega arith
 keeps-few Z = omega arith
@@ -236,6 +237,10 @@ module _ (t : List ℕ) (card : ℕ) (new : List ℕ) (six : length new ≡ 6) (
       ap (λ (k : ℕ). isA E (rowAt t′ (before (countsAt t) bodies + k - 1))) (first-same r)
       ∙ ap (λ (l : ℕ). eqb l (letterOf E)) (field-same x 0 (omega arith) (letter-same t c new dk change x))
   asks-same r h G e = refl
+  asks-same r h R e =
+      let x = before (countsAt t) bodies + getD (rowAt t r) 1 0 - 1 in
+      ap (λ (k : ℕ). isA E (rowAt t′ (before (countsAt t) bodies + k - 1))) (first-same r)
+      ∙ ap (λ (l : ℕ). eqb l (letterOf E)) (field-same x 0 (omega arith) (letter-same t c new dk change x))
   asks-same r h T e = refl
   asks-same r h C e =
       let same = still-C r h e in

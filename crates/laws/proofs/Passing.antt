@@ -17,7 +17,7 @@ use Rattle.paper.specs.Records.{isMade}
 use Rattle.paper.specs.declared.About.{About}
 use Rattle.paper.specs.declared.Counts.{Counts}
 use Rattle.paper.specs.declared.Kind.{Kind}
-use Rattle.paper.specs.declared.Kind.the-variants.{D, N, M, E, «V», H, F, G, T, C, Z, Other}
+use Rattle.paper.specs.declared.Kind.the-variants.{D, N, M, E, «V», H, F, G, R, T, C, Z, Other}
 use Rattle.laws.proofs.Letters.{letter-of}
 use Rattle.laws.proofs.Judged.{passes}
 use Rattle.laws.proofs.Alike.{card-same}
@@ -61,7 +61,7 @@ passes-same z f g (suc i) e =
     (λ j. judgeCard z f (suc i) (orderOf (e i (omega arith) j)) (rank (e i (omega arith) j))) ∙ card-same z f g (suc i) (orderOf (g i)) (rank (g i)) e
 
 -- Z with counts in their bounds
-pub trailer-of : (x a m e n : ℕ) → x ≡ 42 * (1 + a + m + e + n) → 3 ≤ a → a ≤ 96 → 1 ≤ m → m ≤ 8 → 1 ≤ e → e ≤ 160 → n ≤ 640 → trailer (90 ∷ x ∷ a ∷ m ∷ e ∷ n ∷ []) ≡ true
+pub trailer-of : (x a m e n : ℕ) → x ≡ 42 * (1 + a + m + e + n) → 3 ≤ a → a ≤ 96 → 1 ≤ m → m ≤ 8 → 1 ≤ e → e ≤ 160 → n ≤ 800 → trailer (90 ∷ x ∷ a ∷ m ∷ e ∷ n ∷ []) ≡ true
 unfolding trailer columns inRange before sumN kindOf about
 trailer-of x a m e n q p1 p2 p3 p4 p5 p6 p7 =
     rw (
@@ -74,5 +74,5 @@ trailer-of x a m e n q p1 p2 p3 p4 p5 p6 p7 =
       le-leb 1 e p5,
       le-leb e 160 p6,
       le-leb 0 n (omega arith),
-      le-leb n 640 p7,
+      le-leb n 800 p7,
     )

@@ -27,7 +27,7 @@ use Rattle.paper.specs.declared.Answer.{Answer}
 use Rattle.paper.specs.declared.Answer.the-variants.{Done, Refused}
 use Rattle.paper.specs.declared.Refusal.the-variants.{Form, Range, Replacement}
 use Rattle.paper.specs.declared.Kind.{Kind}
-use Rattle.paper.specs.declared.Kind.the-variants.{D, N, M, E, «V», H, F, G, T, C, Z, Other}
+use Rattle.paper.specs.declared.Kind.the-variants.{D, N, M, E, «V», H, F, G, R, T, C, Z, Other}
 use Rattle.laws.proofs.Outcomes.{done-refused, both-done}
 use Rattle.laws.proofs.Tables.{row-field, row-length, field-here, field-other}
 use Rattle.laws.proofs.Puts.{put-commutes, put-back}
@@ -76,6 +76,7 @@ stirring t card t′ card′ «V» = refl
 stirring t card t′ card′ H = refl
 stirring t card t′ card′ F = refl
 stirring t card t′ card′ G = refl
+stirring t card t′ card′ R = refl
 stirring t card t′ card′ T = refl
 stirring t card t′ card′ C = refl
 stirring t card t′ card′ Z = refl
@@ -318,6 +319,7 @@ replaced-kind «V» h = omega arith
 replaced-kind H h = omega arith
 replaced-kind F h = omega arith
 replaced-kind G h = omega arith
+replaced-kind R h = omega arith
 replaced-kind T h = omega arith
 replaced-kind C h = omega arith
 replaced-kind Z h = omega arith

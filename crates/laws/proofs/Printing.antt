@@ -15,7 +15,7 @@ use Rattle.paper.specs.Judge.{stands, clean, judgeCard, trailer}
 use Rattle.paper.specs.declared.Answer.the-variants.{Done}
 use Rattle.paper.specs.declared.Counts.{Counts}
 use Rattle.paper.specs.declared.Kind.{Kind}
-use Rattle.paper.specs.declared.Kind.the-variants.{D, N, M, E, «V», H, F, G, T, C, Z, Other}
+use Rattle.paper.specs.declared.Kind.the-variants.{D, N, M, E, «V», H, F, G, R, T, C, Z, Other}
 use Rattle.laws.proofs.Judged.{passed, stands-told, range-each}
 use Rattle.laws.proofs.CardText.{Printable, usedOf, used-kind}
 use Rattle.laws.proofs.Reading.{trailer-told}
@@ -32,6 +32,7 @@ other-of «V» e = absurd (omega arith)
 other-of H e = absurd (omega arith)
 other-of F e = absurd (omega arith)
 other-of G e = absurd (omega arith)
+other-of R e = absurd (omega arith)
 other-of T e = absurd (omega arith)
 other-of C e = absurd (omega arith)
 other-of Z e = absurd (omega arith)
@@ -64,12 +65,13 @@ all-small z h D = (omega arith, (omega arith, (omega arith, tt)))
 all-small z h N =
     let reach = by-solid (z .solid) (0 ⋯ 1023) (0 ⋯ 4095) (omega arith) (omega arith) in
     (reach, (reach, (by-solid (z .solid) (cond (z .solid) (0 ⋯ 1023) (0 ⋯ 4095)) (blankOr 0) reach (omega arith), tt)))
-all-small z h M = (omega arith, (omega arith, (omega arith, (by-solid (z .solid) (1 ⋯ 500000) (blankOr 0) (omega arith) (omega arith), tt))))
+all-small z h M = (omega arith, (omega arith, (omega arith, (by-solid (z .solid) (1 ⋯ 500000) (blankOr 0) (omega arith) (omega arith), (omega arith, tt)))))
 all-small z h E = (omega arith, (omega arith, (omega arith, (omega arith, (omega arith, tt)))))
 all-small z h «V» = (omega arith, (omega arith, (omega arith, (omega arith, (omega arith, tt)))))
 all-small z h H = (omega arith, (omega arith, tt))
 all-small z h F = (omega arith, (omega arith, (omega arith, tt)))
 all-small z h G = (omega arith, (omega arith, (omega arith, (omega arith, (omega arith, tt)))))
+all-small z h R = (omega arith, (omega arith, tt))
 all-small z h T = (omega arith, (omega arith, tt))
 all-small z h C = (omega arith, (omega arith, (omega arith, (omega arith, (omega arith, tt)))))
 all-small z h Z = (omega arith, (omega arith, (omega arith, (omega arith, (omega arith, tt)))))

@@ -91,16 +91,16 @@ made-card place bs card = go (eqb k 1) (eqb k 2) (eqb k 3) refl refl refl
 pub record Loads (kind : ℕ) (card : List ℕ) : Type 0 where
   pub some : (1 ≤ kind) × (kind ≤ 3)
   pub section : about (kindAt card) .section ≡ 4
-  pub order : orderOf card ≡ 4 + kind + kind / 3
+  pub order : orderOf card ≡ 4 + kind + 2 * (kind / 3)
   pub keys : about (kindAt card) .keys ≡ 1
   pub most : about (kindAt card) .most ≡ 2000
 
 by-kind : (kind : ℕ) (card : List ℕ) (q : Kind) (m : ℕ) → kind ≡ m → kindAt card ≡ q → (1 ≤ m) × (m ≤ 3)
-    → about q .section ≡ 4 → about q .order ≡ 4 + m + m / 3 → about q .keys ≡ 1 → about q .most ≡ 2000 → Loads kind card
+    → about q .section ≡ 4 → about q .order ≡ 4 + m + 2 * (m / 3) → about q .keys ≡ 1 → about q .most ≡ 2000 → Loads kind card
 by-kind kind card q m e k s a b c d = record {
   some = (omega (arith, s .0), omega (arith, s .1));
   section = ap (λ (x : Kind). about x .section) k ∙ a;
-  order = ap (λ (x : Kind). about x .order) k ∙ b ∙ sym (ap (λ (x : ℕ). 4 + x + x / 3) e);
+  order = ap (λ (x : Kind). about x .order) k ∙ b ∙ sym (ap (λ (x : ℕ). 4 + x + 2 * (x / 3)) e);
   keys = ap (λ (x : Kind). about x .keys) k ∙ c;
   most = ap (λ (x : Kind). about x .most) k ∙ d;
 }

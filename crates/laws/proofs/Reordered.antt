@@ -37,7 +37,7 @@ use Rattle.paper.specs.declared.Answer.the-variants.{Done, Refused}
 use Rattle.paper.specs.declared.Area.the-variants as area
 use Rattle.paper.specs.declared.Refusal.the-variants.{Flat, Stiff, Thin}
 use Rattle.paper.specs.declared.Kind.{Kind}
-use Rattle.paper.specs.declared.Kind.the-variants.{D, N, M, E, «V», H, F, G, T, C, Z, Other}
+use Rattle.paper.specs.declared.Kind.the-variants.{D, N, M, E, «V», H, F, G, R, T, C, Z, Other}
 use Rattle.laws.proofs.Outcomes.{done-inj, done-refused}
 use Rattle.laws.proofs.Letters.{Body, flat, solid, body-section, kind-of}
 use Rattle.laws.proofs.Tables.{row-field, row-length}
@@ -117,6 +117,7 @@ joins-plain «V» h = (refl, refl)
 joins-plain H h = absurd (omega arith)
 joins-plain F h = absurd (omega arith)
 joins-plain G h = (refl, refl)
+joins-plain R h = absurd (omega arith)
 joins-plain T h = absurd (omega arith)
 joins-plain C h = absurd (omega arith)
 joins-plain Z h = absurd (omega arith)
@@ -308,6 +309,7 @@ module _ (t t′ : List ℕ) (π : ℕ → ℕ) (o : Reordered t t′ π) where
       let ends : Inside (nodes t) (getD x 1 0 ∷ getD x 2 0 ∷ []) = rw (row-field t r 1 (omega arith), row-field t r 2 (omega arith)) (ends-G t d r h e) in
       ap (λ (c : List ℕ). still (partOf t′ c G)) same
       ∙ (λ i. let s = space-same t t′ front (getD x 1 0 ∷ getD x 2 0 ∷ []) ends i in still (filmed (s .shape .corners) (edgeFilm (getD x 3 0) (getD x 5 0) s) 0))
+  still-by r R h e = refl
   still-by r T h e = refl
   still-by r C h e = refl
   still-by r Z h e = refl

@@ -22,7 +22,7 @@ use Rattle.paper.specs.Replacing.{formOf, moved, firstRow, redone, stirs}
 use Rattle.paper.specs.declared.Answer.{Answer}
 use Rattle.paper.specs.declared.Answer.the-variants.{Done}
 use Rattle.paper.specs.declared.Kind.{Kind}
-use Rattle.paper.specs.declared.Kind.the-variants.{D, N, M, E, «V», H, F, G, T, C, Z, Other}
+use Rattle.paper.specs.declared.Kind.the-variants.{D, N, M, E, «V», H, F, G, R, T, C, Z, Other}
 use Rattle.laws.proofs.Letters.{Body, flat, solid, body-section}
 use Rattle.laws.proofs.Decks.{In, kindIn, Deck, Change}
 use Rattle.laws.proofs.Spans.{is-body, in-bodies, names-F, part-corners}
@@ -96,6 +96,7 @@ module _ (t : List ℕ) (c : ℕ) (card : List ℕ) (d : Deck t) (g : Change t c
     form-by G e q =
         let far : (Body (kindIn t c) → ⊥) = λ z. omega (arith, body-section (kindIn t c) z, ap (λ (k : Kind). about k .section) e) in
         form-all far ∙ sym (form-edge t c card d g (rw e))
+    form-by R e q = never q
     form-by T e q = never q
     form-by C e q = never q
     form-by Z e q = never q

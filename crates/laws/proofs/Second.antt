@@ -1,6 +1,7 @@
 -- The rows of a second table by its parts, and what more loads change of the judge.
 use mathlib.Core.Path.{_≡_, refl, sym, ap, subst, _∙_}
 use mathlib.Core.Bool.{Bool, true, false, cond, _||_}
+use mathlib.Core.Logic.{_⊎_, inl, inr}
 use mathlib.Core.List.{List}
 use Prim.Native.Nat.{ℕ, zero, suc, _+_, _-_, _≤_, _<_}
 use native.Mathlib.Omega.{arith}
@@ -17,7 +18,7 @@ use Rattle.paper.specs.Judge.{stands, nameAt, cardNamed, asks}
 use Rattle.paper.specs.Records.{isMade, recordCount, early, recordRow, lastRow, orAll, fixedPlace, secondRow}
 use Rattle.paper.specs.declared.Counts.{Counts}
 use Rattle.paper.specs.declared.Kind.{Kind}
-use Rattle.paper.specs.declared.Kind.the-variants.{D, N, M, E, «V», H, F, G, T, C, Z, Other}
+use Rattle.paper.specs.declared.Kind.the-variants.{D, N, M, E, «V», H, F, G, R, T, C, Z, Other}
 use Rattle.laws.proofs.Letters.{letter-of}
 use Rattle.laws.proofs.Judged.{stands-told}
 use Rattle.laws.proofs.Recorded.{early-most}
@@ -34,7 +35,7 @@ before-six z = refl
 
 module _ (z : Counts) (row : ℕ → List ℕ) where
   abbrev behind : ℕ → Bool
-  behind j = ltb 8 (orderOf (row j))
+  behind j = ltb 9 (orderOf (row j))
 
   abbrev found : ℕ
   found = firstFrom (cards z) 0 behind
@@ -55,21 +56,21 @@ module _ (z : Counts) (row : ℕ → List ℕ) where
       go (suc k) e = omega (arith, first-of k e, first-most (cards z) 0 behind)
 
   -- no card before it comes after the fixed nodes; the card there, if it isn't Z, does
-  pub place-below : (j : ℕ) → j < fixedPlace z row → orderOf (row j) ≤ 8
+  pub place-below : (j : ℕ) → j < fixedPlace z row → orderOf (row j) ≤ 9
   place-below j h = go found refl
     where
-      go : (k : ℕ) → found ≡ k → orderOf (row j) ≤ 8
-      go zero e = ltb-false 8 (orderOf (row j)) (first-none (cards z) 0 behind e j (omega arith) (omega (arith, all-of e)))
-      go (suc k) e = ltb-false 8 (orderOf (row j)) (first-least (cards z) 0 j behind (omega arith) (omega (arith, first-of k e)))
+      go : (k : ℕ) → found ≡ k → orderOf (row j) ≤ 9
+      go zero e = ltb-false 9 (orderOf (row j)) (first-none (cards z) 0 behind e j (omega arith) (omega (arith, all-of e)))
+      go (suc k) e = ltb-false 9 (orderOf (row j)) (first-least (cards z) 0 j behind (omega arith) (omega (arith, first-of k e)))
 
-  pub place-here : fixedPlace z row < cards z → 8 < orderOf (row (fixedPlace z row))
+  pub place-here : fixedPlace z row < cards z → 9 < orderOf (row (fixedPlace z row))
   place-here h = go found refl
     where
-      go : (k : ℕ) → found ≡ k → 8 < orderOf (row (fixedPlace z row))
+      go : (k : ℕ) → found ≡ k → 9 < orderOf (row (fixedPlace z row))
       go zero e = absurd (omega (arith, all-of e))
       go (suc k) e =
           let q : found - 1 ≡ fixedPlace z row = omega (arith, first-of k e) in
-          subst (λ (j : ℕ). 8 < orderOf (row j)) q (ltb-true 8 (orderOf (row (found - 1))) (first-holds (cards z) 0 behind (omega arith)))
+          subst (λ (j : ℕ). 9 < orderOf (row j)) q (ltb-true 9 (orderOf (row (found - 1))) (first-holds (cards z) 0 behind (omega arith)))
 
 -- ---- rows by part
 
@@ -117,11 +118,11 @@ module _ (z : Counts) (row : ℕ → List ℕ) (bs : List ℕ) (i : ℕ) where
 
 -- ---- the loads of a deck that records are imported into
 
-not-letter : (card : List ℕ) (k : Kind) → isA k card ≡ false → kindAt card ≡ k → about k .order < 11 → ⊥
+not-letter : (card : List ℕ) (k : Kind) → isA k card ≡ false → kindAt card ≡ k → about k .order < 12 → ⊥
 not-letter card k h e l = let x : false ≡ true = sym h ∙ eq-eqb (getD card 0 0) (letterOf k) (letter-of (getD card 0 0) k e l) in never x
 
--- a load that is none of H, F and T is a G, or a C where it comes after the fixed nodes
-pub edge-kind : (card : List ℕ) → about (kindAt card) .section ≡ 4 → isMade card ≡ false → orderOf card ≤ 8 → kindAt card ≡ G
+-- a load that is none of H, F and T is a G or an R, or a C where it comes after the fixed nodes
+pub edge-kind : (card : List ℕ) → about (kindAt card) .section ≡ 4 → isMade card ≡ false → orderOf card ≤ 9 → (kindAt card ≡ G) ⊎ (kindAt card ≡ R)
 unfolding about
 edge-kind card s m o = go (kindAt card) refl s o
   where
@@ -131,7 +132,7 @@ edge-kind card s m o = go (kindAt card) refl s o
         let (x, y) = nor-told (isA H card) (isA F card) a in
         (x, y, c)
 
-    go : (k : Kind) → kindAt card ≡ k → about k .section ≡ 4 → about k .order ≤ 8 → k ≡ G
+    go : (k : Kind) → kindAt card ≡ k → about k .section ≡ 4 → about k .order ≤ 9 → (k ≡ G) ⊎ (k ≡ R)
     go D e h u = absurd (omega arith)
     go N e h u = absurd (omega arith)
     go M e h u = absurd (omega arith)
@@ -139,13 +140,14 @@ edge-kind card s m o = go (kindAt card) refl s o
     go «V» e h u = absurd (omega arith)
     go H e h u = absurd (not-letter card H (told .0) e (omega arith))
     go F e h u = absurd (not-letter card F (told .1) e (omega arith))
-    go G e h u = refl
+    go G e h u = inl refl
+    go R e h u = inr refl
     go T e h u = absurd (not-letter card T (told .2) e (omega arith))
     go C e h u = absurd (omega arith)
     go Z e h u = absurd (omega arith)
     go Other e h u = absurd (omega arith)
 
-pub change-kind : (k : Kind) → about k .section ≡ 4 → 8 < about k .order → k ≡ C
+pub change-kind : (k : Kind) → about k .section ≡ 4 → 9 < about k .order → k ≡ C
 unfolding about
 change-kind D h u = absurd (omega arith)
 change-kind N h u = absurd (omega arith)
@@ -155,6 +157,7 @@ change-kind «V» h u = absurd (omega arith)
 change-kind H h u = absurd (omega arith)
 change-kind F h u = absurd (omega arith)
 change-kind G h u = absurd (omega arith)
+change-kind R h u = absurd (omega arith)
 change-kind T h u = absurd (omega arith)
 change-kind C h u = refl
 change-kind Z h u = absurd (omega arith)
@@ -183,6 +186,7 @@ grown-stands z n i p «V» l h = h
 grown-stands z n i p H l h = absurd (omega (arith, stands-told z i p (about H) h .lo, l))
 grown-stands z n i p F l h = absurd (omega (arith, stands-told z i p (about F) h .lo, l))
 grown-stands z n i p G l h = absurd (omega (arith, stands-told z i p (about G) h .lo, l))
+grown-stands z n i p R l h = absurd (omega (arith, stands-told z i p (about R) h .lo, l))
 grown-stands z n i p T l h = absurd (omega (arith, stands-told z i p (about T) h .lo, l))
 grown-stands z n i p C l h = absurd (omega (arith, stands-told z i p (about C) h .lo, l))
 grown-stands z n i p Z l h = absurd (omega (arith, stands-told z i p (about Z) h .lo, l, before-five z))
@@ -199,6 +203,7 @@ body-order z i «V» l h = omega arith
 body-order z i H l h = absurd (omega arith)
 body-order z i F l h = absurd (omega arith)
 body-order z i G l h = absurd (omega arith)
+body-order z i R l h = absurd (omega arith)
 body-order z i T l h = absurd (omega arith)
 body-order z i C l h = absurd (omega arith)
 body-order z i Z l h = absurd (omega (arith, before-five z))
@@ -215,6 +220,7 @@ grown-columns z n «V» h = refl
 grown-columns z n H h = refl
 grown-columns z n F h = refl
 grown-columns z n G h = refl
+grown-columns z n R h = refl
 grown-columns z n T h = refl
 grown-columns z n C h = refl
 grown-columns z n Z h = absurd (h refl)
@@ -230,6 +236,7 @@ grown-asks z n row i card «V» = refl
 grown-asks z n row i card H = refl
 grown-asks z n row i card F = refl
 grown-asks z n row i card G = refl
+grown-asks z n row i card R = refl
 grown-asks z n row i card T = refl
 grown-asks z n row i card C = refl
 grown-asks z n row i card Z = refl

@@ -21,7 +21,7 @@ use Rattle.paper.specs.Elements.{bodyOf, flatOf, tetrahedronOf, solidOf, elemen
 use Rattle.paper.specs.Parts.{namedRow, namedShape, partOf, partAt}
 use Rattle.paper.specs.declared.Counts.{Counts}
 use Rattle.paper.specs.declared.Kind.{Kind}
-use Rattle.paper.specs.declared.Kind.the-variants.{D, N, M, E, «V», H, F, G, T, C, Z, Other}
+use Rattle.paper.specs.declared.Kind.the-variants.{D, N, M, E, «V», H, F, G, R, T, C, Z, Other}
 use Rattle.laws.proofs.Letters.{letter-of, kind-of, first-kind, node-kind, material-kind, Body, flat, solid, body-kind, body-section, rising-section}
 use Rattle.laws.proofs.Tables.{row-field}
 use Rattle.laws.proofs.Decks.{In, kindIn, loads, Within, Deck}
@@ -268,6 +268,10 @@ module _ (t : List ℕ) (d : Deck t) where
     unfolding columns
     capacity-in = field-in t (materialRow t m) 2 M d inner (is-M t d m h) (omega arith)
 
+    pub emissivity-in : field t (materialRow t m) 5 ≤ 1000
+    unfolding columns
+    emissivity-in = field-in t (materialRow t m) 4 M d inner (is-M t d m h) (omega arith) .1
+
     -- of a solid deck
     pub kz-in : countsAt t .solid ≡ true → In 1 500000 (field t (materialRow t m) 4)
     unfolding columns
@@ -373,6 +377,23 @@ module _ (t : List ℕ) (d : Deck t) where
     unfolding columns about
     edge-thickness-in e = field-in t row 4 G d (load-inner (rw e)) e (omega arith)
 
+    -- a source's triangle and temperature
+    pub names-R : kindIn t row ≡ R → In 1 (elements t) (field t row 1)
+    unfolding columns about
+    names-R e = rw (← elements-are t) (field-in t row 0 R d (load-inner (rw e)) e (omega arith))
+
+    pub source-flat : kindIn t row ≡ R → kindIn t (namedRow t (rowAt t row)) ≡ E
+    unfolding asks about
+    source-flat e =
+        let card = rowAt t row in
+        let q : asks (countsAt t) (rowAt t) row card R ≡ true = subst (λ (k : Kind). asks (countsAt t) (rowAt t) row card k ≡ true) e (d .asked row (load-inner (rw e))) in
+        let at : before (countsAt t) 3 + getD card 1 0 - 1 ≡ namedRow t card = omega (arith, begins t .atE) in
+        sym (row-kind t (namedRow t card)) ∙ kind-of (getD (rowAt t (namedRow t card)) 0 0) E (eqb-true _ _ (subst (λ (r : ℕ). isA E (rowAt t r) ≡ true) at q))
+
+    pub source-in : kindIn t row ≡ R → In 0 top (field t row 2)
+    unfolding columns about
+    source-in e = field-in t row 1 R d (load-inner (rw e)) e (omega arith)
+
     pub names-T : kindIn t row ≡ T → In 1 (nodes t) (field t row 1)
     unfolding columns about
     names-T e = rw (← nodes-are t) (field-in t row 0 T d (load-inner (rw e)) e (omega arith))
@@ -410,7 +431,7 @@ module _ (t : List ℕ) (d : Deck t) where
   named-corners : (e : ℕ) → In 1 (elements t) e → Inside (nodes t) (elementAt t (elementRow t e) .shape .corners)
   named-corners e h = rw (element-corners t (rowAt t (elementRow t e))) (body-corners t d (elementRow t e) (omega (arith, d .all, h .1)) (is-body t d e h))
 
-  named-at : (row : ℕ) → In 1 (elements t) (field t row 1) → Inside (nodes t) (namedShape t (rowAt t row) .corners)
+  pub named-at : (row : ℕ) → In 1 (elements t) (field t row 1) → Inside (nodes t) (namedShape t (rowAt t row) .corners)
   named-at row h = named-corners (getD (rowAt t row) 1 0) (rw (row-field t row 1 (omega arith)) h)
 
   corners-by : (row : ℕ) (kind : Kind) → row < rows t → kindIn t row ≡ kind → Inside (nodes t) (partOf t (rowAt t row) kind .corners)
@@ -423,6 +444,7 @@ module _ (t : List ℕ) (d : Deck t) where
   corners-by row H h e = named-at row (names-H t d row h e)
   corners-by row F h e = named-at row (names-F t d row h e)
   corners-by row G h e = rw (row-field t row 1 (omega arith), row-field t row 2 (omega arith)) (ends-G t d row h e)
+  corners-by row R h e = tt
   corners-by row T h e = tt
   corners-by row C h e = tt
   corners-by row Z h e = tt

@@ -21,7 +21,7 @@ use Rattle.paper.specs.Elements.{Element, bodyOf, flatOf, tetrahedronOf, solidO
 use Rattle.paper.specs.Parts.{Part, nothing, nowhere, bulk, partOf, partAt}
 use Rattle.paper.specs.Matrices.{addsP, addsA, P, A}
 use Rattle.paper.specs.declared.Kind.{Kind}
-use Rattle.paper.specs.declared.Kind.the-variants.{D, N, M, E, «V», H, F, G, T, C, Z, Other}
+use Rattle.paper.specs.declared.Kind.the-variants.{D, N, M, E, «V», H, F, G, R, T, C, Z, Other}
 use Rattle.laws.proofs.Solids as solid
 
 -- ---- a square over n corners
@@ -129,6 +129,7 @@ card-sound t card «V» = bulk-sound (elementOf t card) (between-symmetric t car
 card-sound t card H = plain (partOf t card H) refl
 card-sound t card F = plain (partOf t card F) refl
 card-sound t card G = plain (partOf t card G) refl
+card-sound t card R = plain nothing refl
 card-sound t card T = plain nothing refl
 card-sound t card C = plain nothing refl
 card-sound t card Z = plain nothing refl

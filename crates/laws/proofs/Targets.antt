@@ -16,7 +16,7 @@ use Rattle.paper.specs.Judge.{cardNamed, asks, judged}
 use Rattle.paper.specs.Changes.{target, renewed}
 use Rattle.paper.specs.declared.Answer.the-variants.{Done}
 use Rattle.paper.specs.declared.Kind.{Kind}
-use Rattle.paper.specs.declared.Kind.the-variants.{D, N, M, E, «V», H, F, G, T, C, Z, Other}
+use Rattle.paper.specs.declared.Kind.the-variants.{D, N, M, E, «V», H, F, G, R, T, C, Z, Other}
 use Rattle.laws.proofs.Letters.{kind-of}
 use Rattle.laws.proofs.Tables.{row-field}
 use Rattle.laws.proofs.Decks.{kindIn}
@@ -70,6 +70,7 @@ gives-few «V» = omega arith
 gives-few H = omega arith
 gives-few F = omega arith
 gives-few G = omega arith
+gives-few R = omega arith
 gives-few T = omega arith
 gives-few C = omega arith
 gives-few Z = omega arith

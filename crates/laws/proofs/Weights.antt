@@ -26,7 +26,7 @@ use Rattle.paper.specs.Matrices.{addsP, addsA}
 use Rattle.paper.specs.Building.{elementsFrom}
 use Rattle.paper.specs.declared.Answer.the-variants.{Done}
 use Rattle.paper.specs.declared.Kind.{Kind}
-use Rattle.paper.specs.declared.Kind.the-variants.{D, N, M, E, «V», H, F, G, T, C, Z, Other}
+use Rattle.paper.specs.declared.Kind.the-variants.{D, N, M, E, «V», H, F, G, R, T, C, Z, Other}
 use Rattle.laws.proofs.Letters.{Body, flat, solid}
 use Rattle.laws.proofs.Tables.{row-field}
 use Rattle.laws.proofs.Decks.{In, kindIn, Deck}
@@ -231,6 +231,7 @@ module _ (t : List ℕ) (d : Deck t) (pass : elementsFrom (elements t) 1 t ≡ D
   weighs-by row H h e = weighs-none _ _ _
   weighs-by row F h e = weighs-F row h e
   weighs-by row G h e = weighs-G row h e
+  weighs-by row R h e = weighs-none [] _ _
   weighs-by row T h e = weighs-none [] _ _
   weighs-by row C h e = weighs-none [] _ _
   weighs-by row Z h e = weighs-none [] _ _

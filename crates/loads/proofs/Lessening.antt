@@ -13,12 +13,12 @@ use Rattle.whole.specs.Sums.{table}
 use Rattle.whole.specs.Packed.{cell}
 use Rattle.whole.proofs.Calc.{rd, num, size-of}
 use Rattle.whole.proofs.Sums.{filled, filled-none, filled-more, filled-next, filled-length, filled-end, table-at, table-ext, table-length}
-use Rattle.paper.specs.Cards.{rows, nodes}
-use Rattle.paper.specs.Matrices.{loadOf}
+use Rattle.paper.specs.Cards.{nodes}
+use Rattle.paper.specs.Radiation.{loadNow}
 use Rattle.laws.proofs.Decks.{Deck}
-use Rattle.lent.specs.Rows.{Borne}
+use Rattle.lent.specs.Rows.{Mild, Borne}
 use Rattle.loads.specs.Asks.{Each, Lessens, Unloads}
-use Rattle.loads.proofs.Walk.{load-size}
+use Rattle.loads.proofs.Walk.{now-size}
 
 -- ---- number by number
 
@@ -58,26 +58,25 @@ module _ {by r₀ r : List ℤ} {k : ℕ} (q : Lessens r₀ by) (v : LessInv by 
 
 -- ---- loads alone: on top of zeros
 
-module _ {t : List ℕ} {r room : List ℤ} (q : Unloads t r room) where
+module _ {t : List ℕ} {old r room : List ℤ} (q : Unloads t old r room) where
   nought : (s : List ℤ) → s ≡ replicate (length room) (pos 0) → (i : ℕ) → i < nodes t → cell s i ≡ pos 0
   nought s e i h = ap (λ (x : List ℤ). cell x i) e ∙ getD-replicate (length room) i (pos 0) (pos 0) (omega (arith, q .long))
 
-  pub load-asks : (s : List ℤ) → s ≡ replicate (length room) (pos 0) → Each t s × Borne s (nodes t)
+  pub load-asks : (s : List ℤ) → s ≡ replicate (length room) (pos 0) → Each t s × Mild old (nodes t) × Borne s (nodes t)
   load-asks s e =
       let l : length s ≡ nodes t = ap length e ∙ length-replicate (length room) (pos 0) ∙ q .long in
-      (record { deck = q .each .deck; long = l }, record { long = l; each = λ i h. subst (λ (z : ℤ). natAbs z ≤ 2 ^ 33) (sym (nought s e i h)) (omega arith) })
+      (record { deck = q .each .deck; long = l }, q .warm, record { long = l; each = λ i h. subst (λ (z : ℤ). natAbs z ≤ 2 ^ 33) (sym (nought s e i h)) (omega arith) })
 
-  module _ (s by : List ℤ) (e : s ≡ replicate (length room) (pos 0)) (f : by ≡ table (nodes t) (λ i. loadOf t i +ℤ cell s i)) where
+  module _ (s by : List ℤ) (e : s ≡ replicate (length room) (pos 0)) (f : by ≡ table (nodes t) (λ i. loadNow t old i +ℤ cell s i)) where
     by-long : length by ≡ nodes t
-    by-long = ap length f ∙ table-length (nodes t) (λ i. loadOf t i +ℤ cell s i)
+    by-long = ap length f ∙ table-length (nodes t) (λ i. loadNow t old i +ℤ cell s i)
 
-    by-at : (i : ℕ) → i < nodes t → cell by i ≡ loadOf t i
+    by-at : (i : ℕ) → i < nodes t → cell by i ≡ loadNow t old i
     by-at i h =
-        ap (λ (x : List ℤ). cell x i) f ∙ table-at (nodes t) i (λ i. loadOf t i +ℤ cell s i) h ∙ ap (λ (z : ℤ). loadOf t i +ℤ z) (nought s e i h) ∙ +ℤ-idr (loadOf t i)
+        ap (λ (x : List ℤ). cell x i) f ∙ table-at (nodes t) i (λ i. loadNow t old i +ℤ cell s i) h ∙ ap (λ (z : ℤ). loadNow t old i +ℤ z) (nought s e i h) ∙ +ℤ-idr (loadNow t old i)
 
-    load-small : (i : ℕ) → natAbs (loadOf t i) ≤ 2 ^ 58
-    unfolding loadOf
-    load-small i = omega (arith, load-size (q .each .deck) i (rows t) (omega arith))
+    load-small : (i : ℕ) → natAbs (loadNow t old i) ≤ 2 ^ 58
+    load-small i = omega (arith, now-size (q .each .deck) (q .warm) i)
 
     pub less-ready : Lessens r by
     less-ready = record {
@@ -86,6 +85,6 @@ module _ {t : List ℕ} {r room : List ℤ} (q : Unloads t r room) where
       by-small = λ i h. subst (λ (z : ℤ). natAbs z ≤ 2 ^ 58) (sym (by-at i (omega (arith, by-long)))) (load-small i);
     }
 
-    pub unloaded-is : {u : List ℤ} → u ≡ table (length by) (λ i. cell r i -ℤ cell by i) → u ≡ table (nodes t) (λ i. cell r i -ℤ loadOf t i)
+    pub unloaded-is : {u : List ℤ} → u ≡ table (length by) (λ i. cell r i -ℤ cell by i) → u ≡ table (nodes t) (λ i. cell r i -ℤ loadNow t old i)
     unloaded-is g =
-        g ∙ ap (λ (m : ℕ). table m (λ i. cell r i -ℤ cell by i)) by-long ∙ table-ext (nodes t) (λ i. cell r i -ℤ cell by i) (λ i. cell r i -ℤ loadOf t i) (λ i h. ap (λ (z : ℤ). cell r i -ℤ z) (by-at i h))
+        g ∙ ap (λ (m : ℕ). table m (λ i. cell r i -ℤ cell by i)) by-long ∙ table-ext (nodes t) (λ i. cell r i -ℤ cell by i) (λ i. cell r i -ℤ loadNow t old i) (λ i h. ap (λ (z : ℤ). cell r i -ℤ z) (by-at i h))

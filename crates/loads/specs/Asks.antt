@@ -10,6 +10,7 @@ use Rattle.whole.specs.Packed.{cell}
 use Rattle.paper.specs.Cards.{rows, nodes}
 use Rattle.laws.proofs.Decks.{Deck}
 use Rattle.laws.proofs.Spans.{Inside}
+use Rattle.lent.specs.Rows.{Mild}
 
 -- a number for each node
 pub record Each (t : List ℕ) (r : List ℤ) : Type 0 where
@@ -48,8 +49,9 @@ pub record Lessens (r by : List ℤ) : Type 0 where
   pub r-small : (i : ℕ) → i < length by → natAbs (cell r i) ≤ 2 ^ 58
   pub by-small : (i : ℕ) → i < length by → natAbs (cell by i) ≤ 2 ^ 58
 
--- numbers with loads on top of them, and room for as many
-pub record Unloads (t : List ℕ) (r room : List ℤ) : Type 0 where
+-- numbers with loads on top of them, by these temperatures, and room for as many
+pub record Unloads (t : List ℕ) (old r room : List ℤ) : Type 0 where
   pub each : Each t r
+  pub warm : Mild old (nodes t)
   pub small : (i : ℕ) → i < nodes t → natAbs (cell r i) ≤ 2 ^ 58
   pub long : length room ≡ nodes t

@@ -13,9 +13,10 @@ ghost use Rattle.whole.specs.Packed.{cell};
 ghost use Rattle.paper.specs.Cards.{field, nodes, materials, elements};
 ghost use Rattle.paper.specs.Corners.{share};
 ghost use Rattle.paper.specs.Parts.{partAt};
-ghost use Rattle.paper.specs.Matrices.{addsLoad, loadOf, fixes, held};
+ghost use Rattle.paper.specs.Matrices.{addsLoad, fixes, held};
+ghost use Rattle.paper.specs.Radiation.{loadNow};
 ghost use Rattle.laws.proofs.Decks.{Deck};
-ghost use Rattle.lent.specs.Rows.{Borne};
+ghost use Rattle.lent.specs.Rows.{Mild, Borne};
 ghost use Rattle.part.specs.Forms.{cornersOf};
 ghost use Rattle.part.specs.Asks.{Full};
 ghost use Rattle.loads.specs.Asks.{Each, AtRow, Room, Corner, plusAt, Spread, Lessens, Unloads};
@@ -65,15 +66,16 @@ fn add_card(table: &[u32], r: &mut [i64], row: usize)
     spread(&mut r[..], corners, shares);
 }
 
-// The loads of each node, more than what r holds of it. Z adds none.
-pub fn load(table: &[u32], r: &mut [i64])
-    requires { ⌜ Each (now table) (now r) × Borne (now r) (nodes (now table)) ⌝ }
-    ensures { λ _. ⌜ now (r .exit) ≡ list (nodes (now (table .entry))) (λ i. loadOf (now (table .entry)) i +ℤ cell (now (r .entry)) i) ⌝ }
+// The loads of each node by the temperatures before the step, more than what r holds of it. Z adds none.
+pub fn load(table: &[u32], old: &[i64], r: &mut [i64])
+    requires { ⌜ Each (now table) (now r) × Mild (now old) (nodes (now table)) × Borne (now r) (nodes (now table)) ⌝ }
+    ensures { λ _. ⌜ now (r .exit) ≡ list (nodes (now (table .entry))) (λ i. loadNow (now (table .entry)) (now (old .entry)) i +ℤ cell (now (r .entry)) i) ⌝ }
 {
     let mut row = first_row(table);
     let end = table.len() / 6 - 1;
     while row < end {
         add_card(table, &mut r[..], row);
+        losses::take(table, old, &mut r[..], row);
         row += 1;
     }
 }
@@ -92,12 +94,12 @@ fn less(r: &mut [i64], by: &[i64])
 }
 
 // The loads taken from r again: `room` is for them.
-pub fn unload(table: &[u32], r: &mut [i64], room: &mut [i64])
-    requires { ⌜ Unloads (now table) (now r) (now room) ⌝ }
-    ensures { λ _. ⌜ now (r .exit) ≡ list (nodes (now (table .entry))) (λ i. cell (now (r .entry)) i -ℤ loadOf (now (table .entry)) i) ⌝ }
+pub fn unload(table: &[u32], old: &[i64], r: &mut [i64], room: &mut [i64])
+    requires { ⌜ Unloads (now table) (now old) (now r) (now room) ⌝ }
+    ensures { λ _. ⌜ now (r .exit) ≡ list (nodes (now (table .entry))) (λ i. cell (now (r .entry)) i -ℤ loadNow (now (table .entry)) (now (old .entry)) i) ⌝ }
 {
     whole::slices::fill(&mut room[..], 0);
-    load(table, &mut room[..]);
+    load(table, old, &mut room[..]);
     less(&mut r[..], &room[..]);
 }
 

@@ -19,7 +19,7 @@ use Rattle.paper.specs.Corners.{mass, spread}
 use Rattle.paper.specs.Parts.{Part, partOf, partFor, partAt}
 use Rattle.paper.specs.Matrices.{addsP, addsA}
 use Rattle.paper.specs.declared.Kind.{Kind}
-use Rattle.paper.specs.declared.Kind.the-variants.{D, N, M, E, «V», H, F, G, T, C, Z, Other}
+use Rattle.paper.specs.declared.Kind.the-variants.{D, N, M, E, «V», H, F, G, R, T, C, Z, Other}
 use Rattle.laws.proofs.Letters.{Body, flat, solid}
 use Rattle.laws.proofs.Decks.{kindIn, Deck}
 use Rattle.laws.proofs.Tables.{row-field}
@@ -115,6 +115,7 @@ module _ (t : List ℕ) (row : ℕ) (d : Deck t) (h : row < rows t) where
   inner-kind H e q = never q
   inner-kind F e q = in-loads t d row h (rw e) .1
   inner-kind G e q = in-loads t d row h (rw e) .1
+  inner-kind R e q = never q
   inner-kind T e q = never q
   inner-kind C e q = never q
   inner-kind Z e q = never q
@@ -133,6 +134,7 @@ module _ (t : List ℕ) (row : ℕ) (d : Deck t) (h : row < rows t) where
   conducts-kind H q = never q
   conducts-kind F q = never q
   conducts-kind G q = never q
+  conducts-kind R q = never q
   conducts-kind T q = never q
   conducts-kind C q = never q
   conducts-kind Z q = never q

@@ -17,12 +17,13 @@ use Rattle.paper.specs.Triangle.{b, c, S, side², longest², thin, pair,
 use Rattle.paper.specs.Elements.{bodyOf, flatOf, elementOf, fair, areaOf, formJudged, elementJudged}
 use Rattle.paper.specs.Parts.{heatShare, partOf}
 use Rattle.paper.specs.Matrices.{addsP, addsA, addsLoad, P, A, loadOf, fixed, held, cleared}
+use Rattle.paper.specs.Radiation.{takes, lossAt, loadNow}
 use Rattle.paper.specs.Factor.{w, l, rowFrom, rowsFrom}
 use Rattle.paper.specs.Building.{elementsFrom, build, Slices, slices}
 use Rattle.paper.specs.Lent.{rowSize, heavy, badRow, noFactor, foreign, laden, enough, opened, lentJudged}
 use Rattle.paper.specs.Step.{boardOf, rightSide, residual, residuals, rowBound, yAt, forwardFrom, xAt, backFrom, warmed, addFrom, correct, unsettled, attempts, stepped, carriedOn, offScale}
 use Rattle.paper.specs.Calls.{closed, leaves, buildCall, stepCall, Lent, lent}
-use Rattle.paper.specs.Book.{stored, carriedIn, power, book, lentTo, Account, stepOn, stepsOn}
+use Rattle.paper.specs.Book.{stored, carriedIn, power, powerNow, book, opening, stepOn, stepsOn}
 use Rattle.paper.specs.declared.Kind.the-variants.{T}
 use Rattle.paper.proofs.Cases.{same, eqZ, figures-told}
 use Rattle.paper.proofs.Checked.{deck, element, right, base, heated, built, afterStep}
@@ -59,7 +60,7 @@ none = slices [] [] []
 
 -- steps from zeros carried: how many were accepted, and the book
 abbrev shown : List Slices → List ℤ
-shown ss = let x = stepsOn ss (record { lent = with heated none warm (replicate 3 (pos 0)); steps = 0 }) in pos (x .steps) ∷ book (x .lent) ∷ []
+shown ss = let x = stepsOn ss (opening (with heated none warm (replicate 3 (pos 0)))) in pos (x .steps) ∷ book (x .lent) ∷ []
 
 pub record Case : Type 0 where
   pub got : List ℤ
@@ -85,7 +86,7 @@ cases =
     ∷ []
 
 run : same (same eqZ) (map (λ (k : Case). k .got) cases) (map (λ (k : Case). k .want) cases) ≡ true
-unfolding cases same eqZ nearestN nearest sum sumN any firstFrom table tri place lower toldStep packed about kindOf before columns used usedBy zeros inRange ranked field nodes materials elements stands clean rises ordered full formed ranged judgeOne asks judgeCard judgeFrom trailer judgeRows judged square mass spread share shapeOf area b c S side² longest² thin pair u bodyOf flatOf elementOf fair areaOf formJudged elementJudged heatShare partOf addsP addsA addsLoad P A loadOf fixed held cleared w l rowFrom rowsFrom elementsFrom build rowSize heavy badRow noFactor foreign laden enough opened lentJudged boardOf rightSide residual residuals rowBound yAt forwardFrom xAt backFrom warmed addFrom correct unsettled attempts stepped carriedOn offScale closed leaves buildCall stepCall stored carriedIn power stepOn stepsOn
+unfolding cases same eqZ nearestN nearest sum sumN any firstFrom table tri place lower toldStep packed about kindOf before columns used usedBy zeros inRange ranked field nodes materials elements stands clean rises ordered full formed ranged judgeOne asks judgeCard judgeFrom trailer judgeRows judged square mass spread share shapeOf area b c S side² longest² thin pair u bodyOf flatOf elementOf fair areaOf formJudged elementJudged heatShare partOf addsP addsA addsLoad P A loadOf takes lossAt loadNow fixed held cleared w l rowFrom rowsFrom elementsFrom build rowSize heavy badRow noFactor foreign laden enough opened lentJudged boardOf rightSide residual residuals rowBound yAt forwardFrom xAt backFrom warmed addFrom correct unsettled attempts stepped carriedOn offScale closed leaves buildCall stepCall stored carriedIn power powerNow stepOn stepsOn
 run = refl
 
 pub all-checked : map (λ (k : Case). k .got) cases ≡ map (λ (k : Case). k .want) cases

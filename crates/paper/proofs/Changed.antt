@@ -21,6 +21,7 @@ use Rattle.paper.specs.Edge.{length², reaches, edgeFilm}
 use Rattle.paper.specs.Elements.{bodyOf, flatOf, elementOf, fair, areaOf, formJudged, elementJudged}
 use Rattle.paper.specs.Parts.{heatShare, partOf, least}
 use Rattle.paper.specs.Matrices.{addsP, addsA, addsLoad, P, A, loadOf, fixed, held, cleared}
+use Rattle.paper.specs.Radiation.{takes, lossAt, loadNow}
 use Rattle.paper.specs.Factor.{w, l, rowFrom, rowsFrom}
 use Rattle.paper.specs.Building.{elementsFrom, build}
 use Rattle.paper.specs.Replacing.{formOf, moved, redone, replaced}
@@ -123,7 +124,7 @@ figures =
     ∷ []
 
 runFigures : same (same eqZ) (map (λ (x : Figure). x .got) figures) (map (λ (x : Figure). x .want) figures) ≡ true
-unfolding figures same eqZ nearestN nearest sum sumN any firstFrom table tri place lower starts rowStarts keptLower keptCell keptEntry expand shrink climb told toldRun about kindOf before columns used usedBy zeros inRange agree ranked field nodes materials elements put stands clean rises ordered full nameAt cardNamed formed ranged judgeOne asks judgeCard judgeFrom trailer judgeRows judged answers newJudged square mass spread share shapeOf spaceOf area b c S side² longest² thin pair u faceFilm length² reaches edgeFilm bodyOf flatOf elementOf fair areaOf formJudged elementJudged heatShare partOf least addsP addsA addsLoad P A loadOf fixed held cleared w l rowFrom rowsFrom elementsFrom build formOf moved redone replaced rowSize heavy badRow noFactor foreign laden enough opened lentJudged boardOf rightSide residual residuals rowBound yAt forwardFrom xAt backFrom warmed addFrom correct unsettled attempts stepped carriedOn offScale closed leaves buildCall replaceCall stepCall corner coupled firstOf strayRow widened narrowed keptEnough lengthsJudged startsJudged keptBuild keptReplace keptStep target renewed falls changed changesFrom changingFrom changingRun handChanged handChanges handStep handRun
+unfolding figures same eqZ nearestN nearest sum sumN any firstFrom table tri place lower starts rowStarts keptLower keptCell keptEntry expand shrink climb told toldRun about kindOf before columns used usedBy zeros inRange agree ranked field nodes materials elements put stands clean rises ordered full nameAt cardNamed formed ranged judgeOne asks judgeCard judgeFrom trailer judgeRows judged answers newJudged square mass spread share shapeOf spaceOf area b c S side² longest² thin pair u faceFilm length² reaches edgeFilm bodyOf flatOf elementOf fair areaOf formJudged elementJudged heatShare partOf least addsP addsA addsLoad P A loadOf takes lossAt loadNow fixed held cleared w l rowFrom rowsFrom elementsFrom build formOf moved redone replaced rowSize heavy badRow noFactor foreign laden enough opened lentJudged boardOf rightSide residual residuals rowBound yAt forwardFrom xAt backFrom warmed addFrom correct unsettled attempts stepped carriedOn offScale closed leaves buildCall replaceCall stepCall corner coupled firstOf strayRow widened narrowed keptEnough lengthsJudged startsJudged keptBuild keptReplace keptStep target renewed falls changed changesFrom changingFrom changingRun handChanged handChanges handStep handRun
 runFigures = refl
 
 pub as-changed : map (λ (x : Figure). x .got) figures ≡ map (λ (x : Figure). x .want) figures

@@ -20,6 +20,7 @@ use Rattle.paper.specs.Edge.{length², reaches, edgeFilm}
 use Rattle.paper.specs.Elements.{bodyOf, flatOf, elementOf, fair, areaOf, formJudged, elementJudged, elementAt}
 use Rattle.paper.specs.Parts.{heatShare, partOf, least, partAt}
 use Rattle.paper.specs.Matrices.{addsP, addsA, addsLoad, P, A, loadOf, fixed, held, cleared}
+use Rattle.paper.specs.Radiation.{takes, lossAt, loadNow}
 use Rattle.paper.specs.Factor.{w, l, rowFrom, rowsFrom}
 use Rattle.paper.specs.Building.{elementsFrom, build, Slices}
 use Rattle.paper.specs.Replacing.{formOf, moved, redone, replaced}
@@ -173,7 +174,7 @@ cases =
     ∷ []
 
 run : same (same eqZ) (map (λ (k : Case). k .got) cases) (map (λ (k : Case). k .want) cases) ≡ true
-unfolding cases same eqZ nearestN nearest sum sumN any firstFrom table tri place lower toldStep packed about kindOf before columns used usedBy zeros inRange agree ranked field nodes materials elements put stands clean rises ordered full nameAt formed ranged judgeOne asks judgeCard judgeFrom trailer judgeRows judged answers newJudged square mass spread share shapeOf spaceOf area b c S pair u faceFilm climb length² reaches edgeFilm bodyOf flatOf elementOf fair formJudged elementJudged heatShare partOf least addsP addsA addsLoad P A loadOf fixed held cleared w l rowFrom rowsFrom elementsFrom build formOf moved redone replaced rowSize heavy badRow noFactor foreign laden enough opened lentJudged boardOf rightSide residual residuals rowBound yAt forwardFrom xAt backFrom warmed addFrom correct unsettled attempts stepped carriedOn offScale closed leaves buildCall replaceCall stepCall side² longest² thin areaOf
+unfolding cases same eqZ nearestN nearest sum sumN any firstFrom table tri place lower toldStep packed about kindOf before columns used usedBy zeros inRange agree ranked field nodes materials elements put stands clean rises ordered full nameAt formed ranged judgeOne asks judgeCard judgeFrom trailer judgeRows judged answers newJudged square mass spread share shapeOf spaceOf area b c S pair u faceFilm climb length² reaches edgeFilm bodyOf flatOf elementOf fair formJudged elementJudged heatShare partOf least addsP addsA addsLoad P A loadOf takes lossAt loadNow fixed held cleared w l rowFrom rowsFrom elementsFrom build formOf moved redone replaced rowSize heavy badRow noFactor foreign laden enough opened lentJudged boardOf rightSide residual residuals rowBound yAt forwardFrom xAt backFrom warmed addFrom correct unsettled attempts stepped carriedOn offScale closed leaves buildCall replaceCall stepCall side² longest² thin areaOf
 run = refl
 
 pub all-checked : map (λ (k : Case). k .got) cases ≡ map (λ (k : Case). k .want) cases

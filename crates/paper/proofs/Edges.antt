@@ -8,7 +8,7 @@ use lib.IntN.{pos, negsuc, natAbs}
 use Rattle.whole.specs.Nearest.{nearestN, nearest}
 use Rattle.whole.specs.Sums.{sum, sumN, any, firstFrom, table}
 use Rattle.whole.specs.Packed.{tri, place, lower}
-use Rattle.paper.specs.Kinds.{about, kindOf}
+use Rattle.paper.specs.Kinds.{about, kindOf, letterOf}
 use Rattle.paper.specs.Cards.{before, columns, used, usedBy, zeros, inRange, ranked, field, nodes, materials, elements}
 use Rattle.paper.specs.Judge.{stands, clean, rises, ordered, full, formed, ranged, judgeOne, asks, judgeCard, judgeFrom, trailer, judgeRows, judged}
 use Rattle.paper.specs.Corners.{square, mass, spread, share, shapeOf, area}
@@ -19,6 +19,7 @@ use Rattle.paper.specs.Lent.{rowSize, heavy, badRow, noFactor, laden}
 use Rattle.paper.specs.Refusals.{Outcome, refused, done, numberOf}
 use Rattle.paper.specs.declared.Answer.{Answer}
 use Rattle.paper.specs.declared.Answer.the-variants.{Done, Refused}
+use Rattle.paper.specs.declared.Kind.the-variants.{M}
 use Rattle.paper.proofs.Cases.{same, numbers-told}
 use Rattle.paper.proofs.Checked.{deck, node, element, right, rim, point, material, tetra, counted}
 
@@ -81,6 +82,10 @@ crowd i = judgeCard (record { nodes = 3; materials = 1; elements = 1; loads = 20
 abbrev reach : ℕ → ℕ → ℕ → ℕ → ℕ
 reach x y z kz = number (judged (counted 1000 (point 0 0 0 ++ point 100 0 0 ++ point 0 100 0 ++ point x y z) (material 1 1 kz 1) (tetra 1 2 3 4 1) []))
 
+-- and of an emissivity
+abbrev emissive : ℕ → ℕ
+emissive e = number (judged (counted 1000 right (letterOf M ∷ 1 ∷ 1 ∷ 1 ∷ 0 ∷ e ∷ []) (element 1 2 3 1) []))
+
 unfoldable pub edges : List Edge
 edges =
     edge (ends (rowsFrom 1 0 (pos 16 ∷ []))) (ends (rowsFrom 1 0 (pos 15 ∷ []))) 7
@@ -91,6 +96,8 @@ edges =
     ∷ edge (reach 0 0 1023 1) (reach 0 0 1024 1) 4
     ∷ edge (reach 0 0 1 500000) (reach 0 0 1 500001) 4
     ∷ edge (reach 0 0 1 1) (reach 0 0 1 0) 4
+    ∷ edge (emissive 1000) (emissive 1001) 4
+    ∷ edge (emissive 0) (emissive 1001) 4
     ∷ edge (number (crowd 165)) (number (crowd 166)) 3
     ∷ edge (number (elementJudged (bent 1) 1)) (number (elementJudged (bent 0) 1)) 5
     ∷ edge (number (elementJudged (turned 3) 1)) (number (elementJudged (turned 1) 1)) 5

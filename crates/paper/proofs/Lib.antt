@@ -2,6 +2,7 @@
 pub mod Cases
 pub mod Checked
 pub mod Carried
+pub mod Radiated
 pub mod Built
 pub mod Texts
 pub mod Edges

@@ -27,6 +27,7 @@ use Rattle.paper.specs.Calls.{closed, leaves, buildCall, replaceCall, st
 use Rattle.paper.specs.declared.Answer.{Answer}
 use Rattle.paper.specs.declared.Stepped.{Stepped}
 use Rattle.paper.specs.declared.Kind.the-variants.{D, N, M, E, «V», H, F, C, Z}
+use Rattle.paper.specs.declared.Kind.the-variants as kind
 use Rattle.paper.proofs.Cases.{same, numbers-told}
 use Rattle.paper.proofs.Checked.{deck, node, element, right, rim, base, heated, point, material, tetra, cube, counted}
 use Rattle.paper.proofs.Edges.{sliver}
@@ -96,6 +97,10 @@ low = element 1 2 3 1000
 abbrev film : ℕ → List ℕ
 film e = letterOf F ∷ e ∷ 1 ∷ 0 ∷ 0 ∷ 0 ∷ []
 
+-- R on an element
+abbrev source : ℕ → ℕ → List ℕ
+source e ts = letterOf kind.R ∷ e ∷ ts ∷ 0 ∷ 0 ∷ 0 ∷ []
+
 -- C: increment, letter, key, new values
 abbrev alter : ℕ → ℕ → ℕ → ℕ → ℕ → List ℕ
 alter k letter key v v′ = letterOf C ∷ k ∷ letter ∷ key ∷ v ∷ v′ ∷ []
@@ -136,6 +141,14 @@ cases =
     ∷ both (says (judged (block low (heat 2 3 0)))) 0 0
     ∷ both (says (judged (block low (film 1)))) 0 0
     ∷ both (builds (block low (film 2)) 0) 4 9
+    -- R on an E and on a V, two on one element, before a film, past the scale; it is not replaced, and no change names it
+    ∷ both (says (judged (block low (film 1 ++ source 1 33554432)))) 0 0
+    ∷ both (builds (block low (source 2 0)) 0) 4 9
+    ∷ both (says (judged (block low (source 1 0 ++ source 1 0)))) 4 10
+    ∷ both (says (judged (block low (source 1 0 ++ film 1)))) 3 10
+    ∷ both (says (judged (block low (source 1 33554433)))) 4 9
+    ∷ both (says (newJudged (block low (source 1 0)) 9 (source 1 0))) 13 9
+    ∷ both (says (judged (block low (source 1 0 ++ alter 1 (letterOf kind.R) 1 5 0)))) 4 10
     -- a change names a card that may be changed: an E, and no V, an H that is there, no other letter
     ∷ both (says (judged (altered (alter 1 (letterOf E) 1 1 1000)))) 0 0
     ∷ both (says (judged (altered (alter 1 (letterOf E) 2 1 1000)))) 4 11

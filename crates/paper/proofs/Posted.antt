@@ -38,7 +38,7 @@ use Rattle.paper.specs.KeptCalls.{Kept, kept, widened, narrowed, keptEno
 use Rattle.paper.specs.KeptReplacements.{keptAfterAll}
 use Rattle.paper.specs.Posted.{posted, inTurn, workZeroed, AllApart, Shuffled, byElement, renumbered, Reordered}
 use Rattle.paper.specs.declared.Answer.{Answer}
-use Rattle.paper.specs.declared.Kind.the-variants.{E, H, F, T, C}
+use Rattle.paper.specs.declared.Kind.the-variants.{E, H, F, R, T, C}
 use Rattle.paper.proofs.Cases.{same, same-told, eqZ, figures-told}
 use Rattle.paper.proofs.Checked.{element, right, rim, material, tetra, cube, counted}
 
@@ -49,6 +49,9 @@ heat e µW = letterOf H ∷ e ∷ µW ∷ 0 ∷ 0 ∷ 0 ∷ []
 
 abbrev pub film : ℕ → ℕ → List ℕ
 film e value = letterOf F ∷ e ∷ value ∷ 19660800 ∷ 0 ∷ 0 ∷ []
+
+abbrev source : ℕ → ℕ → List ℕ
+source e ticks = letterOf R ∷ e ∷ ticks ∷ 0 ∷ 0 ∷ 0 ∷ []
 
 abbrev hold : ℕ → ℕ → List ℕ
 hold n ticks = letterOf T ∷ n ∷ ticks ∷ 0 ∷ 0 ∷ 0 ∷ []
@@ -122,21 +125,21 @@ shuffled z qs rs = record { got = saidAll z qs ++ saidAll z rs ++ all (keptAfter
 
 -- ---- elements in another order
 
--- two triangles and two tetrahedra over four nodes: 7 to 10 are their rows, H in 11 to 13, F in 14 and 15, G, T, then C from 18 to 22
+-- two triangles and two tetrahedra over four nodes: 7 to 10 are their rows, H in 11 to 13, F in 14 and 15, G, R in 17 and 18, T, then C from 20 to 24
 abbrev several : List ℕ → List ℕ → List ℕ
 several es loads = counted 1000 cube (material 1000 2000 3000 2400 ++ material 500 500 500 1200) es loads
 
 abbrev listed : List ℕ
 listed =
     several (element 1 2 3 1000 ++ element 3 1 2 700 ++ tetra 1 2 3 4 1 ++ tetra 4 2 3 1 2)
-    (heat 1 3 ++ heat 3 5 ++ heat 4 7 ++ film 1 1000 ++ film 2 90000 ++ rim 1 4 1000 1000 ++ hold 4 19660800
+    (heat 1 3 ++ heat 3 5 ++ heat 4 7 ++ film 1 1000 ++ film 2 90000 ++ rim 1 4 1000 1000 ++ source 1 19005440 ++ source 2 0 ++ hold 4 19660800
     ++ from 1 (letterOf E) 1 1 900 ++ from 1 (letterOf E) 2 1 800 ++ from 1 (letterOf H) 3 9 0 ++ from 2 (letterOf F) 2 10 19660800 ++ from 2 (letterOf T) 4 19726336 0)
 
 -- each triangle in the place of the other, and each tetrahedron; what names them renumbered, and in rising order again
 abbrev turned : List ℕ
 turned =
     several (element 3 1 2 700 ++ element 1 2 3 1000 ++ tetra 4 2 3 1 2 ++ tetra 1 2 3 4 1)
-    (heat 2 3 ++ heat 3 7 ++ heat 4 5 ++ film 1 90000 ++ film 2 1000 ++ rim 1 4 1000 1000 ++ hold 4 19660800
+    (heat 2 3 ++ heat 3 7 ++ heat 4 5 ++ film 1 90000 ++ film 2 1000 ++ rim 1 4 1000 1000 ++ source 1 0 ++ source 2 19005440 ++ hold 4 19660800
     ++ from 1 (letterOf E) 1 1 800 ++ from 1 (letterOf E) 2 1 900 ++ from 1 (letterOf H) 4 9 0 ++ from 2 (letterOf F) 1 10 19660800 ++ from 2 (letterOf T) 4 19726336 0)
 
 abbrev exchange : ℕ → ℕ → ℕ → ℕ
@@ -147,7 +150,7 @@ unfoldable pub numbered : ℕ → ℕ
 numbered e = exchange 1 2 (exchange 3 4 e)
 
 unfoldable pub turn : ℕ → ℕ
-turn r = exchange 7 8 (exchange 9 10 (exchange 12 13 (exchange 14 15 (exchange 18 19 r))))
+turn r = exchange 7 8 (exchange 9 10 (exchange 12 13 (exchange 14 15 (exchange 17 18 (exchange 20 21 r)))))
 
 -- what a build makes: its answer, the starts, P, A and the factor
 abbrev makes : List ℕ → List ℤ
@@ -222,19 +225,19 @@ three-shuffled = (warmer ∷ [], thicker ∷ [], refl, (warmer ∷ [], [], refl,
 each-told : (n : ℕ) (test : ℕ → Bool) → any n (λ r. not (test r)) ≡ false → (r : ℕ) → r < n → test r ≡ true
 each-told n test e r h = not-false (test r) (any-each n (λ r. not (test r)) e r h)
 
-turn-back : (r : ℕ) → r < 24 → turn (turn r) ≡ r
+turn-back : (r : ℕ) → r < 26 → turn (turn r) ≡ r
 unfolding any turn
-turn-back r h = eqb-true (turn (turn r)) r (each-told 24 (λ r. eqb (turn (turn r)) r) refl r h)
+turn-back r h = eqb-true (turn (turn r)) r (each-told 26 (λ r. eqb (turn (turn r)) r) refl r h)
 
-turn-in : (r : ℕ) → r < 24 → turn r < 24
+turn-in : (r : ℕ) → r < 26 → turn r < 26
 unfolding any turn
-turn-in r h = ltb-true (turn r) 24 (each-told 24 (λ r. ltb (turn r) 24) refl r h)
+turn-in r h = ltb-true (turn r) 26 (each-told 26 (λ r. ltb (turn r) 26) refl r h)
 
-moved-row : (r : ℕ) → r < 24 → rowAt turned (turn r) ≡ renumbered numbered (rowAt listed r)
+moved-row : (r : ℕ) → r < 26 → rowAt turned (turn r) ≡ renumbered numbered (rowAt listed r)
 unfolding any turn numbered renumbered same kindOf about
 moved-row r h =
     same-told eqb eqb-true (rowAt turned (turn r)) (renumbered numbered (rowAt listed r))
-    (each-told 24 (λ r. same eqb (rowAt turned (turn r)) (renumbered numbered (rowAt listed r))) refl r h)
+    (each-told 26 (λ r. same eqb (rowAt turned (turn r)) (renumbered numbered (rowAt listed r))) refl r h)
 
 moved-number : (e : ℕ) → e < 5 → turn (elementRow listed e) ≡ elementRow listed (numbered e)
 unfolding any turn numbered nodes materials field
@@ -244,9 +247,9 @@ moved-number e h = eqb-true (turn (elementRow listed e)) (elementRow listed (num
 abbrev goes : ℕ → Bool
 goes r = let kind = kindOf (letter listed r) in byElement kind || change (about kind)
 
-moved-not : (r : ℕ) → r < 24 → goes r ≡ false → turn r ≡ r
+moved-not : (r : ℕ) → r < 26 → goes r ≡ false → turn r ≡ r
 unfolding any turn kindOf about field
-moved-not r h q = eqb-true (turn r) r (if-told (not (goes r)) (eqb (turn r) r) (each-told 24 (λ r. not (not (goes r)) || eqb (turn r) r) refl r h) (ap not q))
+moved-not r h q = eqb-true (turn r) r (if-told (not (goes r)) (eqb (turn r) r) (each-told 26 (λ r. not (not (goes r)) || eqb (turn r) r) refl r h) (ap not q))
 
 -- THEOREM. The two lists of elements are such decks: nothing that is said of them is empty.
 pub turned-is : Reordered listed turned numbered

@@ -53,12 +53,15 @@ amended b row k columns =
 abbrev empty : List ℕ
 empty = replicate 8 32
 
--- other columns for the first node's z and for the material's kz, in the bytes of a flat deck and of a solid one
+-- other columns for the first node's z and for the material's kz and emissivity, in the bytes of a flat deck and of a solid one
 abbrev inFlat : List ℕ → List (List ℕ)
 inFlat b = map (amended b 1 2) (empty ∷ seven ∷ nought ∷ led ∷ []) ++ map (amended b 4 3) (seven ∷ nought ∷ led ∷ [])
 
 abbrev inSolid : List ℕ → List (List ℕ)
 inSolid b = map (amended b 1 2) (nought ∷ empty ∷ []) ++ map (amended b 5 3) (seven ∷ empty ∷ [])
+
+abbrev emissive : List ℕ → ℕ → List (List ℕ)
+emissive b row = map (amended b row 4) (empty ∷ seven ∷ nought ∷ led ∷ [])
 
 abbrev solid : List ℕ
 solid = writeCall (counted 1000 cube (material 1000 1000 1000 2400) (tetra 1 2 3 4 1) []) (replicate 336 7) .bytes
@@ -81,6 +84,9 @@ lines =
     ∷ record { got = inFlat bytes; want = (9 ∷ 0 ∷ []) ∷ (4 ∷ 2 ∷ []) ∷ (4 ∷ 2 ∷ []) ∷ (3 ∷ 2 ∷ []) ∷ (4 ∷ 5 ∷ []) ∷ (4 ∷ 5 ∷ []) ∷ (3 ∷ 5 ∷ []) ∷ [] }
     -- in a solid deck both are numbers: a blank is 3
     ∷ record { got = inSolid solid; want = (9 ∷ 0 ∷ []) ∷ (3 ∷ 2 ∷ []) ∷ (9 ∷ 0 ∷ []) ∷ (3 ∷ 6 ∷ []) ∷ [] }
+    -- in both an emissivity is blank or a number, which a 0 is not
+    ∷ record { got = emissive bytes 4; want = (9 ∷ 0 ∷ []) ∷ (9 ∷ 0 ∷ []) ∷ (4 ∷ 5 ∷ []) ∷ (3 ∷ 5 ∷ []) ∷ [] }
+    ∷ record { got = emissive solid 5; want = (9 ∷ 0 ∷ []) ∷ (9 ∷ 0 ∷ []) ∷ (4 ∷ 6 ∷ []) ∷ (3 ∷ 6 ∷ []) ∷ [] }
     ∷ []
 
 run : same (same (same eqb)) (map (λ (x : Line). x .got) lines) (map (λ (x : Line). x .want) lines) ≡ true

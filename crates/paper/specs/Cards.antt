@@ -10,7 +10,7 @@ use Rattle.paper.specs.Ticks.{top}
 use Rattle.paper.specs.Kinds.{about, letterOf, kindOf, kindAt, edge, change, ends}
 use Rattle.paper.specs.declared.About.{About}
 use Rattle.paper.specs.declared.Kind.{Kind}
-use Rattle.paper.specs.declared.Kind.the-variants.{D, N, M, E, «V», H, F, G, T, C, Z, Other}
+use Rattle.paper.specs.declared.Kind.the-variants.{D, N, M, E, «V», H, F, G, R, T, C, Z, Other}
 use Rattle.paper.specs.declared.Counts.{Counts}
 
 -- the cards of each section, those before a section, and those before Z
@@ -53,24 +53,25 @@ within c v = leb (c .least) v && leb v (c .most)
 unfoldable pub columns : Counts → Kind → List Column
 columns z D = (1 ⋯ 60000) ∷ (0 ⋯ top) ∷ (1 ⋯ 100000) ∷ []
 columns z N = let reach : Column = cond (z .solid) (0 ⋯ 1023) (0 ⋯ 4095) in reach ∷ reach ∷ cond (z .solid) reach (blankOr 0) ∷ []
-columns z M = (1 ⋯ 500000) ∷ (1 ⋯ 500000) ∷ (1 ⋯ 5000) ∷ cond (z .solid) (1 ⋯ 500000) (blankOr 0) ∷ []
+columns z M = (1 ⋯ 500000) ∷ (1 ⋯ 500000) ∷ (1 ⋯ 5000) ∷ cond (z .solid) (1 ⋯ 500000) (blankOr 0) ∷ blankOr 1000 ∷ []
 columns z E = (1 ⋯ z .nodes) ∷ (1 ⋯ z .nodes) ∷ (1 ⋯ z .nodes) ∷ (1 ⋯ z .materials) ∷ (1 ⋯ 4000) ∷ []
 columns z «V» = (1 ⋯ z .nodes) ∷ (1 ⋯ z .nodes) ∷ (1 ⋯ z .nodes) ∷ (1 ⋯ z .nodes) ∷ (1 ⋯ z .materials) ∷ []
 columns z H = (1 ⋯ z .elements) ∷ (1 ⋯ 5000000) ∷ []
 columns z F = (1 ⋯ z .elements) ∷ (1 ⋯ 100000) ∷ (0 ⋯ top) ∷ []
 columns z G = (1 ⋯ z .nodes) ∷ (1 ⋯ z .nodes) ∷ (1 ⋯ 100000) ∷ (0 ⋯ top) ∷ (1 ⋯ 4000) ∷ []
+columns z R = (1 ⋯ z .elements) ∷ (0 ⋯ top) ∷ []
 columns z T = (1 ⋯ z .nodes) ∷ (0 ⋯ top) ∷ []
 columns z C = (1 ⋯ 100000) ∷ any8 ∷ any8 ∷ any8 ∷ any8 ∷ []
-columns z Z = (back z ⋯ back z) ∷ (3 ⋯ 96) ∷ (1 ⋯ 8) ∷ (1 ⋯ 160) ∷ (0 ⋯ 640) ∷ []
+columns z Z = (back z ⋯ back z) ∷ (3 ⋯ 96) ∷ (1 ⋯ 8) ∷ (1 ⋯ 160) ∷ (0 ⋯ 800) ∷ []
 columns z Other = []
 
 -- the columns of a card
 abbrev pub columnsOf : Counts → List ℕ → List Column
 columnsOf z card = columns z (kindAt card)
 
--- the rows of the longest table: D, 96 N, 8 M, 160 elements, 640 loads, Z
+-- the rows of the longest table: D, 96 N, 8 M, 160 elements, 800 loads, Z
 abbrev pub mostRows : ℕ
-mostRows = 906
+mostRows = 1066
 
 -- no cards, of a solid deck or a flat one: the counts do not tell which fields a kind uses, nor which may be blank
 abbrev pub none : Bool → Counts

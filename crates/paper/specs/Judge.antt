@@ -11,7 +11,7 @@ use Rattle.paper.specs.Cards.{before, columnsOf, usedBy, zeros, inRange,
 use Rattle.paper.specs.declared.Answer.{Answer}
 use Rattle.paper.specs.declared.Answer.the-variants.{Done, Refused}
 use Rattle.paper.specs.declared.Refusal.the-variants.{Length, Trailer, Form, Range, Replacement}
-use Rattle.paper.specs.declared.Kind.the-variants.{D, N, M, E, «V», H, F, G, T, C, Z, Other}
+use Rattle.paper.specs.declared.Kind.the-variants.{D, N, M, E, «V», H, F, G, R, T, C, Z, Other}
 use Rattle.paper.specs.declared.Kind.{Kind}
 use Rattle.paper.specs.declared.About.{About}
 use Rattle.paper.specs.declared.Counts.{Counts}
@@ -57,7 +57,7 @@ unfoldable pub judgeOne : Counts → ℕ → ℕ → ℕ → Bool → List ℕ �
 judgeOne z i p key crowded card =
     cond (formed z i p crowded card) (cond (ranged z p key card) Done (Refused (Range (suc i)))) (Refused (Form (suc i)))
 
--- what a card in row i asks of those before it: E nodes of one height, F a triangle, C a card that it may change
+-- what a card in row i asks of those before it: E nodes of one height, F and R a triangle, C a card that it may change
 unfoldable pub asks : Counts → (ℕ → List ℕ) → ℕ → List ℕ → Kind → Bool
 asks z row i card D = true
 asks z row i card N = true
@@ -67,6 +67,7 @@ asks z row i card «V» = true
 asks z row i card H = true
 asks z row i card F = isA E (row (before z bodies + getD card 1 0 - 1))
 asks z row i card G = true
+asks z row i card R = isA E (row (before z bodies + getD card 1 0 - 1))
 asks z row i card T = true
 asks z row i card C = leb 1 (about (kindOf (getD card 2 0)) .gives) && leb 1 (cardNamed z row i (getD card 2 0) (getD card 3 0))
 asks z row i card Z = true

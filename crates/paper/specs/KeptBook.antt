@@ -1,13 +1,14 @@
 -- The heat book over kept rows: any number of steps, each with the kept slices that are lent to it.
 use mathlib.Core.Path.{_≡_}
 use mathlib.Core.List.{List, [], _∷_}
-use Prim.Native.Nat.{ℕ, _+_}
+use Prim.Native.Nat.{ℕ, zero, suc, _+_}
+use lib.IntN.{ℤ, pos, _+ℤ_}
 use Rattle.whole.specs.Packed.{lower}
 use Rattle.whole.specs.Kept.{expand}
 use Rattle.paper.specs.Cards.{nodes}
 use Rattle.paper.specs.Matrices.{P, A}
 use Rattle.paper.specs.Building.{Slices}
-use Rattle.paper.specs.Book.{lentTo, counted}
+use Rattle.paper.specs.Book.{lentTo, counted, fellBy, powerNow}
 use Rattle.paper.specs.Coupled.{firstOf}
 use Rattle.paper.specs.KeptCalls.{Kept, keptStep}
 
@@ -19,17 +20,32 @@ pub record KeptOwn (t : List ℕ) (s : Slices) : Type 0 where
 abbrev pub keptLentTo : Slices → Kept → Kept
 keptLentTo s z = record { lent = lentTo s (z .lent); starts = z .starts }
 
--- what is left, and how many were accepted
+-- what is left, how many were accepted, and the loads of these as they fell
 pub record KeptAccount : Type 0 where
   pub kept : Kept
   pub steps : ℕ
+  pub fallen : ℤ
+
+abbrev pub keptOpening : Kept → KeptAccount
+keptOpening z = record { kept = z; steps = 0; fallen = pos 0 }
 
 unfoldable pub keptStepOn : Slices → KeptAccount → KeptAccount
-keptStepOn s x = let y = keptStep (keptLentTo s (x .kept)) in record { kept = y .kept; steps = x .steps + counted (y .answer) }
+keptStepOn s x =
+    let y = keptStep (keptLentTo s (x .kept)) in
+    record {
+      kept = y .kept;
+      steps = x .steps + counted (y .answer);
+      fallen = x .fallen +ℤ fellBy (y .answer) (powerNow (x .kept .lent .table) (x .kept .lent .temperatures));
+    }
 
 unfoldable pub keptStepsOn : List Slices → KeptAccount → KeptAccount
 keptStepsOn [] x = x
 keptStepsOn (s ∷ ss) x = keptStepsOn ss (keptStepOn s x)
+
+-- the loads of k steps of a run, as they fell
+unfoldable pub keptFellIn : ℕ → Kept → ℤ
+keptFellIn zero z = pos 0
+keptFellIn (suc k) z = powerNow (z .lent .table) (z .lent .temperatures) +ℤ keptFellIn k (keptStep z .kept)
 
 -- each of them with the deck's own P and A
 abbrev pub AllKeptOwn : List ℕ → List Slices → Type 0

@@ -6,7 +6,7 @@ use lib.Dec.{eqb}
 use lib.ListN.{getD}
 use Rattle.paper.specs.declared.About.{About}
 use Rattle.paper.specs.declared.Kind.{Kind}
-use Rattle.paper.specs.declared.Kind.the-variants.{D, N, M, E, «V», H, F, G, T, C, Z, Other}
+use Rattle.paper.specs.declared.Kind.the-variants.{D, N, M, E, «V», H, F, G, R, T, C, Z, Other}
 
 -- letter: its ASCII code
 -- order: the kind's place among the kinds of a deck
@@ -33,10 +33,11 @@ about «V» = line 86 4 3 4 0 4 0 many
 about H = line 72 5 4 1 1 0 1 many
 about F = line 70 6 4 1 1 0 2 many
 about G = line 71 7 4 2 2 2 0 160
-about T = line 84 8 4 1 1 0 1 many
-about C = line 67 9 4 0 3 0 0 64
-about Z = line 90 10 5 0 0 0 0 many
-about Other = line 0 11 6 0 0 0 0 many
+about R = line 82 8 4 0 1 0 0 many
+about T = line 84 9 4 1 1 0 1 many
+about C = line 67 10 4 0 3 0 0 64
+about Z = line 90 11 5 0 0 0 0 many
+about Other = line 0 12 6 0 0 0 0 many
 
 abbrev pub letterOf : Kind → ℕ
 letterOf kind = about kind .letter
@@ -58,7 +59,7 @@ ends = 5
 
 unfoldable pub kindOf : ℕ → Kind
 kindOf letter =
-    is D (is N (is M (is E (is «V» (is H (is F (is G (is T (is C (is Z Other))))))))))
+    is D (is N (is M (is E (is «V» (is H (is F (is G (is R (is T (is C (is Z Other)))))))))))
   where
     is : Kind → Kind → Kind
     is kind rest = cond (eqb letter (letterOf kind)) kind rest

@@ -14,7 +14,7 @@ use Rattle.paper.specs.Triangle.{faceFilm}
 use Rattle.paper.specs.Edge.{edgeFilm}
 use Rattle.paper.specs.Elements.{Element, elementOf, elementAt}
 use Rattle.paper.specs.declared.Kind.{Kind}
-use Rattle.paper.specs.declared.Kind.the-variants.{D, N, M, E, «V», H, F, G, T, C, Z, Other}
+use Rattle.paper.specs.declared.Kind.the-variants.{D, N, M, E, «V», H, F, G, R, T, C, Z, Other}
 
 -- stirs: whether it has a square in the matrices; load: of each corner
 pub record Part : Type 0 where
@@ -85,6 +85,7 @@ partOf t card «V» = bulk (elementOf t card)
 partOf t card H = let s = namedShape t card in loaded (s .corners) (heatShare (length (s .corners)) (getD card 2 0))
 partOf t card F = let s = namedShape t card in filmed (s .corners) (faceFilm (getD card 2 0) s) (getD card 3 0)
 partOf t card G = let s = edgeSpace t card in filmed (s .shape .corners) (edgeFilm (getD card 3 0) (getD card 5 0) s) (getD card 4 0)
+partOf t card R = nothing
 partOf t card T = nothing
 partOf t card C = nothing
 partOf t card Z = nothing

@@ -13,7 +13,7 @@ use Rattle.paper.specs.Calls.{over}
 use Rattle.paper.specs.Replacements.{Asked}
 use Rattle.paper.specs.KeptCalls.{Kept, keptLong, KeptExit, keptReplace}
 use Rattle.paper.specs.declared.Kind.{Kind}
-use Rattle.paper.specs.declared.Kind.the-variants.{D, N, M, E, «V», H, F, G, T, C, Z, Other}
+use Rattle.paper.specs.declared.Kind.the-variants.{D, N, M, E, «V», H, F, G, R, T, C, Z, Other}
 use Rattle.paper.specs.declared.Answer.the-variants.{Done}
 
 -- ---- changes
@@ -81,6 +81,7 @@ namesElement «V» = false
 namesElement H = true
 namesElement F = true
 namesElement G = false
+namesElement R = true
 namesElement T = false
 namesElement C = false
 namesElement Z = false
@@ -104,7 +105,7 @@ pub record Order (n : ℕ) (to back : ℕ → ℕ) : Type 0 where
   pub again : (r : ℕ) → r < n → back (to r) ≡ r
 
 -- two decks of the same cards, of which element e of the first is element π e of the second. Both are judged, so in the second too E comes
--- before V and the elements of H and F, the keys of C, rise
+-- before V and the elements of H, F and R, the keys of C, rise
 pub record Reordered (t t′ : List ℕ) (π : ℕ → ℕ) : Type 0 where
   pub first : judged t ≡ Done
   pub second : judged t′ ≡ Done

@@ -147,7 +147,7 @@ orAll n (suc i) = i
 unfoldable pub fixedPlace : Counts → (ℕ → List ℕ) → ℕ
 fixedPlace z row = orAll (cards z) (firstFrom (cards z) 0 (λ i. ltb (about T .order) (orderOf (row i))))
 
--- the deck's cards up to its elements, heats and films, the deck's edges, fixed nodes, the deck's changes, Z
+-- the deck's cards up to its elements, heats and films, the deck's edges and sources, fixed nodes, the deck's changes, Z
 unfoldable pub secondRow : Counts → (ℕ → List ℕ) → List ℕ → ℕ → List ℕ
 secondRow z row bs i =
     let base = before z (about H .section) in

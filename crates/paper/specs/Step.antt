@@ -12,11 +12,12 @@ use Rattle.whole.specs.Packed.{start, cell, entry}
 use Rattle.paper.specs.Ticks.{onScale}
 use Rattle.paper.specs.Refusals.{Outcome, refused, done, when, then}
 use Rattle.paper.specs.Cards.{nodes}
-use Rattle.paper.specs.Matrices.{loadOf, held, cleared}
+use Rattle.paper.specs.Matrices.{held, cleared}
+use Rattle.paper.specs.Radiation.{loadNow}
 use Rattle.paper.specs.Factor.{R, small}
 use Rattle.paper.specs.declared.Refusal.the-variants.{Bound, OffScale, Unsettled}
 
--- what a step works from: n nodes, P, A, the loads, the T cards' temperatures (-1: none) and the old temperatures. What a node
+-- what a step works from: n nodes, P, A, the loads, by the old temperatures, the T cards' temperatures (-1: none) and the old temperatures. What a node
 -- carries is one more load of it: a fixed node's right side has no loads, and so not this either
 pub record Board : Type 0 where
   pub n : ℕ
@@ -31,7 +32,7 @@ boardOf t p a old carried = record {
   n = nodes t;
   p = p;
   a = a;
-  loads = table (nodes t) (λ i. loadOf t i +ℤ cell carried i);
+  loads = table (nodes t) (λ i. loadNow t old i +ℤ cell carried i);
   fixed = table (nodes t) (held t);
   old = old;
 }

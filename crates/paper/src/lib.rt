@@ -43,6 +43,7 @@ pub enum Kind {
     H,
     F,
     G,
+    R,
     T,
     C,
     Z,

@@ -20,7 +20,7 @@ use Rattle.paper.specs.Edge.{edgeFilm}
 use Rattle.paper.specs.Elements.{Element, bodyOf, flatOf, elementOf}
 use Rattle.paper.specs.Parts.{Part, nothing, namedRow, edgeSpace, heatShare, partOf, partFor}
 use Rattle.paper.specs.declared.Kind.{Kind}
-use Rattle.paper.specs.declared.Kind.the-variants.{D, N, M, E, «V», H, F, G, T, C, Z, Other}
+use Rattle.paper.specs.declared.Kind.the-variants.{D, N, M, E, «V», H, F, G, R, T, C, Z, Other}
 use Rattle.laws.proofs.Letters.{Body, flat, solid}
 use Rattle.laws.proofs.Decks.{In, Deck, kindIn}
 use Rattle.laws.proofs.Tables.{row-field}
@@ -68,6 +68,7 @@ as-kind t card «V» = record { own = λ q. refl; stirs = refl; conductance = λ
 as-kind t card H = record { own = λ q. never q; stirs = refl; conductance = λ a b. refl; capacity = refl; film = refl; load = λ a. refl }
 as-kind t card F = record { own = λ q. never q; stirs = refl; conductance = λ a b. refl; capacity = refl; film = refl; load = λ a. refl }
 as-kind t card G = record { own = λ q. never q; stirs = refl; conductance = λ a b. refl; capacity = refl; film = refl; load = λ a. refl }
+as-kind t card R = idle t card
 as-kind t card T = idle t card
 as-kind t card C = idle t card
 as-kind t card Z = idle t card
@@ -88,6 +89,7 @@ conducts-alone «V» q = refl
 conducts-alone H q = never q
 conducts-alone F q = never q
 conducts-alone G q = never q
+conducts-alone R q = never q
 conducts-alone T q = never q
 conducts-alone C q = never q
 conducts-alone Z q = never q
@@ -104,6 +106,7 @@ few-by «V» = (omega arith, omega arith)
 few-by H = (omega arith, omega arith)
 few-by F = (omega arith, omega arith)
 few-by G = (omega arith, omega arith)
+few-by R = (omega arith, omega arith)
 few-by T = (omega arith, omega arith)
 few-by C = (omega arith, omega arith)
 few-by Z = (omega arith, omega arith)
@@ -186,6 +189,7 @@ module _ (t card : List ℕ) (h : Card t card) where
   conducts-by H e q = never q
   conducts-by F e q = never q
   conducts-by G e q = never q
+  conducts-by R e q = never q
   conducts-by T e q = never q
   conducts-by C e q = never q
   conducts-by Z e q = never q
@@ -205,6 +209,7 @@ module _ (t card : List ℕ) (h : Card t card) where
   names-by H e q = rw (← elements-are t) (at-kind 0 H e (omega arith))
   names-by F e q = rw (← elements-are t) (at-kind 0 F e (omega arith))
   names-by G e q = never q
+  names-by R e q = never q
   names-by T e q = never q
   names-by C e q = never q
   names-by Z e q = never q
@@ -261,6 +266,7 @@ module _ (t card : List ℕ) (h : Card t card) where
   first-by H e = named-first (names-by H e refl)
   first-by F e = named-first (names-by F e refl)
   first-by G e = own-first G (getD card 1 0 ∷ getD card 2 0 ∷ []) e refl (own-G e .ends)
+  first-by R e = own-first R [] e refl tt
   first-by T e = own-first T [] e refl tt
   first-by C e = own-first C [] e refl tt
   first-by Z e = own-first Z [] e refl tt
@@ -300,6 +306,7 @@ module _ (t card : List ℕ) (h : Card t card) where
   heats-by H q = omega (arith, few-corners t (rowAt t (namedRow t card)))
   heats-by F q = never q
   heats-by G q = never q
+  heats-by R q = never q
   heats-by T q = never q
   heats-by C q = never q
   heats-by Z q = never q
@@ -323,6 +330,7 @@ module _ (t card : List ℕ) (h : Card t card) where
   films-by H e q = never q
   films-by F e q = (named-face e, at-kind 1 F e (omega arith) .1)
   films-by G e q = (own-G e, record { film-most = at-kind 2 G e (omega arith) .1; t-most = at-kind 4 G e (omega arith) .1; on-grid = on-grid-of t card (own-G e) })
+  films-by R e q = never q
   films-by T e q = never q
   films-by C e q = never q
   films-by Z e q = never q

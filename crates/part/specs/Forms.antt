@@ -7,7 +7,7 @@ use Rattle.paper.specs.Kinds.{kindAt}
 use Rattle.paper.specs.Cards.{rowAt}
 use Rattle.paper.specs.Parts.{namedRow}
 use Rattle.paper.specs.declared.Kind.{Kind}
-use Rattle.paper.specs.declared.Kind.the-variants.{D, N, M, E, «V», H, F, G, T, C, Z, Other}
+use Rattle.paper.specs.declared.Kind.the-variants.{D, N, M, E, «V», H, F, G, R, T, C, Z, Other}
 use Rattle.triangle.specs.Forms.{numbers}
 use Rattle.part.specs.declared.Corners.{Corners}
 use Rattle.part.specs.declared.Does.{Does}
@@ -34,6 +34,7 @@ doesBy «V» = line 4 false true false false 0
 doesBy H = line 0 true false false true 2
 doesBy F = line 0 true false true false 2
 doesBy G = line 2 false false true false 3
+doesBy R = none
 doesBy T = none
 doesBy C = none
 doesBy Z = none

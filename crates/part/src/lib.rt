@@ -61,6 +61,7 @@ fn by_kind(k: Kind) -> Does
         Kind::H => line(0, true, false, false, true, 2),
         Kind::F => line(0, true, false, true, false, 2),
         Kind::G => line(2, false, false, true, false, 3),
+        Kind::R => line(0, false, false, false, false, 0),
         Kind::T => line(0, false, false, false, false, 0),
         Kind::C => line(0, false, false, false, false, 0),
         Kind::Z => line(0, false, false, false, false, 0),

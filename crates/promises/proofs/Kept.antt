@@ -16,11 +16,11 @@ use Rattle.paper.specs.Replacing.{stirs}
 use Rattle.paper.specs.Calls.{Lent, buildCall, replaceCall, stepCall}
 use Rattle.paper.specs.Replacements.{ready, Asked, afterAll}
 use Rattle.paper.specs.Running.{runCall, Untouched}
-use Rattle.paper.specs.Book.{power, book, Closed}
+use Rattle.paper.specs.Book.{power, book, Closed, Dark}
 use Rattle.paper.specs.Coupled.{firstOf}
 use Rattle.paper.specs.KeptCalls.{Kept, widened, startsJudged, keptBuild, keptReplace, nodesJudged, keptStep, keptRun}
 use Rattle.paper.specs.KeptReplacements.{keptReady, KeptHolds, keptAfterAll, FirstStray, keptAsLent, KeptBeyond, Alike}
-use Rattle.paper.specs.KeptBook.{KeptOwn, keptStepsOn, AllKeptOwn}
+use Rattle.paper.specs.KeptBook.{KeptOwn, keptOpening, keptStepsOn, keptFellIn, AllKeptOwn}
 use Rattle.paper.specs.declared.Answer.the-variants.{Done, Refused}
 use Rattle.paper.specs.declared.Refusal.{Refusal}
 use Rattle.paper.specs.declared.Refusal.the-variants.{Stray}
@@ -124,11 +124,15 @@ run-untouched = leaves.run-untouched
 
 -- as over packed slices: any steps, each lent the deck's own P and A in kept rows, and any factor; refused ones count as none
 pub heat-book : (z : Kept) (lent : List Slices) → Closed (z .lent .table) → AllKeptOwn (z .lent .table) lent
-    → let x = keptStepsOn lent (record { kept = z; steps = 0 }) in book (x .kept .lent) ≡ book (z .lent) +ℤ pos (x .steps) *ℤ power (z .lent .table)
-heat-book = below.heat-book
+    → let x = keptStepsOn lent (keptOpening z) in book (x .kept .lent) ≡ book (z .lent) +ℤ x .fallen
+heat-book z lent closed own = below.heat-book z lent own closed
+
+pub even-book : (z : Kept) (lent : List Slices) → Dark (z .lent .table) → AllKeptOwn (z .lent .table) lent
+    → let x = keptStepsOn lent (keptOpening z) in x .fallen ≡ pos (x .steps) *ℤ power (z .lent .table)
+even-book z lent dark own = below.dark-book z lent own dark
 
 pub run-book : (z : Kept) (steps : ℕ) → Closed (z .lent .table) → KeptOwn (z .lent .table) (z .lent .slices) → keptRun z .answer ≡ runAnswer.Finished steps
-    → book (keptRun z .kept .lent) ≡ book (z .lent) +ℤ pos steps *ℤ power (z .lent .table)
+    → book (keptRun z .kept .lent) ≡ book (z .lent) +ℤ keptFellIn steps z
 run-book = below.run-book
 
 -- the slices that an accepted build leaves, and every replacement after it, have the deck's own P and A

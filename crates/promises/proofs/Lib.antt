@@ -9,6 +9,7 @@ pub mod Replacing
 pub mod Leaving
 pub mod Heat
 pub mod Step
+pub mod Radiation
 pub mod Book
 pub mod Kept
 pub mod KeptReplacing

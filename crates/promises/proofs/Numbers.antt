@@ -7,6 +7,7 @@ use Rattle.paper.proofs.Checked.{Case, cases, all-checked}
 use Rattle.paper.proofs.Edges.{Edge, edges, at-the-edges}
 use Rattle.paper.proofs.Orders as orders
 use Rattle.paper.proofs.Carried as carried
+use Rattle.paper.proofs.Radiated as radiated
 
 pub checked-numbers : map (λ (k : Case). k .got) cases ≡ map (λ (k : Case). k .want) cases
 checked-numbers = all-checked
@@ -14,6 +15,10 @@ checked-numbers = all-checked
 -- what a step carries on, and the book of three steps
 pub carried-numbers : map (λ (k : carried.Case). k .got) carried.cases ≡ map (λ (k : carried.Case). k .want) carried.cases
 carried-numbers = carried.all-checked
+
+-- what a corner loses to the stand, steps of a board over it, and their book
+pub radiated-numbers : map (λ (k : radiated.Case). k .got) radiated.cases ≡ map (λ (k : radiated.Case). k .want) radiated.cases
+radiated-numbers = radiated.all-checked
 
 -- the last value passes, and the next is refused by its number
 pub limits : map (λ (e : Edge). e .passes ∷ e .fails ∷ []) edges ≡ map (λ (e : Edge). 0 ∷ e .number ∷ []) edges

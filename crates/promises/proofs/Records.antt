@@ -56,7 +56,7 @@ module _ (table records second : List ℕ) (ok : importCall table records second
   pub old-cards-stay : (row : ℕ) → row < before (countsAt table) 4 → rowAt new row ≡ rowAt table row
   old-cards-stay = below.import-bodies table records second ok
 
-  -- so are its edges, after the heats and films
+  -- so are its edges and sources, after the heats and films
   pub old-edges-stay : (row : ℕ) → before (countsAt table) 4 ≤ row → row < fixedPlace (countsAt table) (rowAt table) → rowAt new (row + early records) ≡ rowAt table row
   old-edges-stay = below.import-edges table records second ok
 
@@ -64,7 +64,7 @@ module _ (table records second : List ℕ) (ok : importCall table records second
   pub old-changes-stay : (row : ℕ) → fixedPlace (countsAt table) (rowAt table) ≤ row → row < cards (countsAt table) → rowAt new (row + recordCount records) ≡ rowAt table row
   old-changes-stay = below.import-changes table records second ok
 
-  -- each record but the last has its card: before the edges, or between them and the changes
+  -- each record but the last has its card: before the edges and sources, or between them and the changes
   pub records-are-there : (k : ℕ) → k < recordCount records
       → recordCard (suc k) (recordAt records k) ≡ done (rowAt new (cond (ltb k (early records)) (before (countsAt table) 4 + k) (fixedPlace (countsAt table) (rowAt table) + k)))
   records-are-there = below.import-records table records second ok

@@ -11,7 +11,7 @@ use Rattle.paper.specs.Building.{Slices}
 use Rattle.paper.specs.Lent.{laden}
 use Rattle.paper.specs.Step.{boardOf, rightSide, residual, rowBound}
 use Rattle.paper.specs.Calls.{Lent, boardAt, stepCall}
-use Rattle.paper.specs.Book.{stepsOn}
+use Rattle.paper.specs.Book.{opening, stepsOn}
 use Rattle.paper.specs.declared.Stepped.the-variants.{Settled}
 use Rattle.laws.proofs.Settled.{accepted}
 use Rattle.laws.proofs.Carried as carries
@@ -46,8 +46,8 @@ module _ (z : Lent) (c : ℕ) (settled : stepCall z .answer ≡ Settled c) where
 
 -- nor is it after any steps, refused ones too, with whatever slices, where it was not at the start, as of zeros it is not
 pub always-light : (z : Lent) (lent : List Slices) → laden (nodes (z .table)) (z .carried) ≡ false
-    → let x = stepsOn lent (record { lent = z; steps = 0 }) .lent in laden (nodes (x .table)) (x .carried) ≡ false
-always-light z lent = carries.always-light lent (record { lent = z; steps = 0 })
+    → let x = stepsOn lent (opening z) .lent in laden (nodes (x .table)) (x .carried) ≡ false
+always-light z lent = carries.always-light lent (opening z)
 
 -- what a free node carries is added to its right side, and what a fixed node carries is not
 module _ (t : List ℕ) (p a old carried : List ℤ) (i : ℕ) (inside : i < nodes t) where

@@ -9,34 +9,37 @@ use Rattle.whole.specs.Sums.{table}
 use Rattle.whole.specs.Packed.{cell}
 use Rattle.whole.proofs.Linear.{zarith, plusL, minusL}
 use Rattle.whole.proofs.Sums.{table-at, table-ext, table-length, table-cells}
-use Rattle.paper.specs.Cards.{rows, nodes}
-use Rattle.paper.specs.Matrices.{loadOf, held}
+use Rattle.paper.specs.Cards.{nodes}
+use Rattle.paper.specs.Matrices.{held}
+use Rattle.paper.specs.Radiation.{loadNow}
 use Rattle.paper.specs.Step.{Board, boardOf, residual, residuals}
 use Rattle.lent.specs.Rows.{Light, Mild, Borne}
 use Rattle.correction.specs.Asks.{Forth}
 use Rattle.residual.specs.Asks.{board, Fair}
 use Rattle.residual.proofs.Paper.{residual-size}
 use Rattle.loads.specs.Asks.{Each, Unloads}
-use Rattle.loads.proofs.Walk.{load-size, carrying-size}
+use Rattle.loads.proofs.Walk.{now-size, carrying-size}
 use Rattle.loads.proofs.Held.{held-size}
 use Rattle.settle.specs.Asks.{Ready, Trying, Begins}
 
-load-small : {t : List ℕ} {p a old carried : List ℤ} {n : ℕ} → Ready t p a old carried n → (i : ℕ) → i < nodes t → natAbs (loadOf t i +ℤ cell carried i) ≤ 2 ^ 57
-unfolding loadOf
-load-small {t} {carried = carried} q i h = carrying-size (loadOf t i) (cell carried i) (load-size (q .deck) i (rows t) (omega arith)) (q .borne .each i (omega (arith, q .count)))
+warm : {t : List ℕ} {p a old carried : List ℤ} {n : ℕ} → Ready t p a old carried n → Mild old (nodes t)
+warm {old = old} q = subst (Mild old) (q .count) (q .old-mild)
+
+load-small : {t : List ℕ} {p a old carried : List ℤ} {n : ℕ} → Ready t p a old carried n → (i : ℕ) → i < nodes t → natAbs (loadNow t old i +ℤ cell carried i) ≤ 2 ^ 57
+load-small {t} {old = old} {carried = carried} q i h = carrying-size (loadNow t old i) (cell carried i) (now-size (q .deck) (warm q) i) (q .borne .each i (omega (arith, q .count)))
 
 pub fair : {t : List ℕ} {p a old carried : List ℤ} {n : ℕ} → Ready t p a old carried n → Fair (boardOf t p a old carried)
 unfolding boardOf
 fair {t} {p} {a} {old} {carried} {n} q = record {
   p-light = subst (Light p) (q .count) (q .p-light);
   a-light = subst (Light a) (q .count) (q .a-light);
-  loads-long = table-length (nodes t) (λ i. loadOf t i +ℤ cell carried i);
-  loads-small = λ i h. subst (λ (z : ℤ). natAbs z ≤ 2 ^ 57) (sym (table-at (nodes t) i (λ i. loadOf t i +ℤ cell carried i) h)) (load-small q i h);
+  loads-long = table-length (nodes t) (λ i. loadNow t old i +ℤ cell carried i);
+  loads-small = λ i h. subst (λ (z : ℤ). natAbs z ≤ 2 ^ 57) (sym (table-at (nodes t) i (λ i. loadNow t old i +ℤ cell carried i) h)) (load-small q i h);
   fixed-mild = record {
     long = table-length (nodes t) (held t);
     each = λ i h. subst (λ (z : ℤ). natAbs z ≤ 2 ^ 25) (sym (table-at (nodes t) i (held t) h)) (held-size t (q .deck) i);
   };
-  old-mild = subst (Mild old) (q .count) (q .old-mild);
+  old-mild = warm q;
 }
 
 -- residuals are what a correction takes
@@ -59,8 +62,8 @@ again q s h = record { fair = q .fair; u-mild = s; r-long = h }
 -- ---- the loads, on top of what is carried
 
 module _ {t : List ℕ} {p a fixed old carried u r : List ℤ} {n : ℕ} (q : Begins t p a fixed old carried u r n) where
-  pub load-asks : Each t carried × Borne carried (nodes t)
-  load-asks = (record { deck = q .ready .deck; long = q .ready .borne .long ∙ q .ready .count }, subst (Borne carried) (q .ready .count) (q .ready .borne))
+  pub load-asks : Each t carried × Mild old (nodes t) × Borne carried (nodes t)
+  load-asks = (record { deck = q .ready .deck; long = q .ready .borne .long ∙ q .ready .count }, warm (q .ready), subst (Borne carried) (q .ready .count) (q .ready .borne))
 
   -- with v for u and w for r
   pub keep-asks : (v w s : List ℤ) → length v ≡ length u → length w ≡ length r → length s ≡ length carried → (length old ≡ length v) × (length fixed ≡ length w) × (length s ≡ length w)
@@ -68,7 +71,7 @@ module _ {t : List ℕ} {p a fixed old carried u r : List ℤ} {n : ℕ} (q : Be
       let f : length fixed ≡ nodes t = ap length (q .fixed-is) ∙ table-length (nodes t) (held t) in
       (omega (arith, q .ready .old-mild .long, q .u-long), omega (arith, q .r-long, q .ready .count), omega (arith, q .r-long, q .ready .borne .long))
 
-  module _ {s : List ℤ} (e : s ≡ table (nodes t) (λ i. loadOf t i +ℤ cell carried i)) where
+  module _ {s : List ℤ} (e : s ≡ table (nodes t) (λ i. loadNow t old i +ℤ cell carried i)) where
     pub board-is : board n p a s fixed old ≡ boardOf t p a old carried
     unfolding boardOf
     board-is = λ i. board (q .ready .count i) p a (e i) (q .fixed-is i) old
@@ -81,20 +84,21 @@ module _ {t : List ℕ} {p a fixed old carried u r : List ℤ} {n : ℕ} (q : Be
     }
 
     loaded-long : length s ≡ nodes t
-    loaded-long = ap length e ∙ table-length (nodes t) (λ i. loadOf t i +ℤ cell carried i)
+    loaded-long = ap length e ∙ table-length (nodes t) (λ i. loadNow t old i +ℤ cell carried i)
 
-    loaded-at : (i : ℕ) → i < nodes t → cell s i ≡ loadOf t i +ℤ cell carried i
-    loaded-at i h = ap (λ (x : List ℤ). cell x i) e ∙ table-at (nodes t) i (λ i. loadOf t i +ℤ cell carried i) h
+    loaded-at : (i : ℕ) → i < nodes t → cell s i ≡ loadNow t old i +ℤ cell carried i
+    loaded-at i h = ap (λ (x : List ℤ). cell x i) e ∙ table-at (nodes t) i (λ i. loadNow t old i +ℤ cell carried i) h
 
-    pub unload-asks : (w : List ℤ) → length w ≡ length r → Unloads t s w
+    pub unload-asks : (w : List ℤ) → length w ≡ length r → Unloads t old s w
     unload-asks w ew = record {
       each = record { deck = q .ready .deck; long = loaded-long };
+      warm = warm (q .ready);
       small = λ i h. subst (λ (z : ℤ). natAbs z ≤ 2 ^ 58) (sym (loaded-at i h)) (omega (arith, load-small (q .ready) i h));
       long = omega (arith, q .r-long, q .ready .count);
     }
 
     -- and off it again
-    pub unloaded : {c : List ℤ} → c ≡ table (nodes t) (λ i. cell s i -ℤ loadOf t i) → c ≡ carried
+    pub unloaded : {c : List ℤ} → c ≡ table (nodes t) (λ i. cell s i -ℤ loadNow t old i) → c ≡ carried
     unloaded {c} g =
-        g ∙ table-ext (nodes t) (λ i. cell s i -ℤ loadOf t i) (cell carried) (λ i h. ap (λ (z : ℤ). z -ℤ loadOf t i) (loaded-at i h) ∙ off-again (loadOf t i) (cell carried i))
+        g ∙ table-ext (nodes t) (λ i. cell s i -ℤ loadNow t old i) (cell carried) (λ i h. ap (λ (z : ℤ). z -ℤ loadNow t old i) (loaded-at i h) ∙ off-again (loadNow t old i) (cell carried i))
         ∙ table-cells carried (nodes t) (q .ready .borne .long ∙ q .ready .count)

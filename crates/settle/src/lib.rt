@@ -144,7 +144,7 @@ pub fn finish(
     ensures { λ e. ⌜ ending e (now (old .exit)) (now (carried .exit)) ≡ stepsTo (now (table .entry)) (wide (now (starts .entry)) (now (p .entry))) (wide (now (starts .entry)) (now (a .entry))) (wide (now (starts .entry)) (now (l .entry))) (now (old .entry)) (now (carried .entry)) ⌝ }
 {
     narrow(&old[..], &mut t[..]);
-    loads::load(table, &mut carried[..]);
+    loads::load(table, &old[..], &mut carried[..]);
     let e = attempts(
         p,
         a,
@@ -157,7 +157,7 @@ pub fn finish(
         &mut r[..],
     );
     let Stepped::Settled(c) = e else {
-        loads::unload(table, &mut carried[..], &mut r[..]);
+        loads::unload(table, &old[..], &mut carried[..], &mut r[..]);
         return e;
     };
     keep(fixed, &t[..], &r[..], &mut old[..], &mut carried[..]);

@@ -1,11 +1,11 @@
 -- Laws of the nearest: how near it is, its size, and the code's ways to it.
 use mathlib.Core.Path.{_≡_, refl, sym, ap, subst, _∙_}
 use Prim.Native.Nat.{ℕ, zero, suc, _+_, _*_, _-_, _/_, _%_, _^_, _≤_, _<_}
-use native.Mathlib.Nat.{le-refl, mul-le-mul, mul-left-comm, div-add-mod, mul-add, zero-mul, le-mul-of-pos-right, div-lt-iff-lt-mul, suc-mul, le-of-suc-le-suc, le-of-mul-le-mul-right, le-div-iff-mul-le, add-mul, mul-assoc, mul-comm, mod-lt, div-zero}
+use native.Mathlib.Nat.{le-refl, mul-le-mul, mul-left-comm, div-add-mod, mul-add, zero-mul, le-mul-of-pos-right, div-lt-iff-lt-mul, suc-mul, le-of-suc-le-suc, le-of-mul-le-mul-right, le-div-iff-mul-le, add-mul, mul-assoc, mul-comm, mul-one, mod-lt, div-zero, div-div-eq-div-mul, div-eq-of-lt-le, mul-div-mul-left, add-mul-div-left}
 use native.Mathlib.Decide.{decLt, ℕ-discrete}
 use native.Mathlib.Omega.{arith}
 use lib.IntN.{ℤ, pos, negsuc, negℤ, natAbs, _+ℤ_, _-ℤ_, _*ℤ_, negℤ-negℤ, zero-*ℤ, *ℤ-zero}
-use lib.Signed.{_<ℤ_, ltZ, shrZ}
+use lib.Signed.{_<ℤ_, _≤ℤ_, ltZ, shrZ}
 use lib.Dec.{T, ltb→lt}
 use mathlib.Core.Bool.{true, false}
 use borrow.Author.Tests.{ltb-true}
@@ -185,3 +185,49 @@ nearestN-most a b q s h k l = le-div-iff-mul-le {k = 2 * q} (omega arith) .1 (le
     whole =
         let near = le-div-iff-mul-le {k = 2 * (q * s)} {x = r} {y = 2 * a + q * s} (omega (arith, mul-le-mul {n₁ = 1} {m₁ = 1} h k)) .0 (le-refl r) in
         omega (arith, l, near, mul-assoc r (2 * q) s, mul-assoc 2 q s, add-mul (2 * b) q s, mul-assoc 2 b s)
+
+-- ---- factors of both, and order
+
+-- a common factor of both goes
+pub nearest-cancel : (k a b : ℕ) → 0 < k → nearestN (k * a) (k * b) ≡ nearestN a b
+unfolding nearestN
+nearest-cancel k a b h =
+    (λ i. (mul-left-comm 2 k a i + k * b) / mul-left-comm 2 k b i) ∙ ap (λ (n : ℕ). n / (k * (2 * b))) (sym (mul-add k (2 * a) b)) ∙ mul-div-mul-left (2 * a + b) (2 * b) h
+
+pub cancelled : (x : ℤ) (k b : ℕ) → 0 < k → 0 < b → nearest (x *ℤ pos k) (k * b) ≡ nearest x b
+unfolding nearest
+cancelled x k b h l =
+    let n = nearestN (natAbs x) b in
+    let e : nearestN (natAbs (x *ℤ pos k)) (k * b) ≡ n = ap (λ (a : ℕ). nearestN a (k * b)) (natAbs-times x (pos k) ∙ mul-comm (natAbs x) k) ∙ nearest-cancel k (natAbs x) b h in
+    ap (signed (x *ℤ pos k)) e ∙ sym (signed-times x (pos k) n (λ z. nearest-zero (natAbs x) b l (none (natAbs x) z)))
+  where
+    none : (a : ℕ) → a * k ≡ 0 → a ≡ 0
+    none zero z = refl
+    none (suc a) z = absurd (omega (arith, suc-mul a k))
+
+-- by an even divisor the dividend need not be doubled: its quotient rounded down, and half of that rounded up
+nearest-double : (a b : ℕ) → 0 < b → nearestN a b ≡ (2 * a / b + 1) / 2
+unfolding nearestN
+nearest-double a b h =
+    ap (λ (n : ℕ). (2 * a + b) / n) (mul-comm 2 b) ∙ sym (div-div-eq-div-mul (2 * a + b) b 2)
+    ∙ ap (λ (n : ℕ). n / 2) (ap (λ (n : ℕ). (2 * a + n) / b) (sym (mul-one b)) ∙ add-mul-div-left (2 * a) 1 h)
+
+pub nearest-even : (a b : ℕ) → 0 < b → nearestN a (2 * b) ≡ (a / b + 1) / 2
+nearest-even a b h =
+    nearest-double a (2 * b) (omega arith) ∙ ap (λ (n : ℕ). (n + 1) / 2) (mul-div-mul-left a b (omega arith))
+
+-- a larger number has no smaller nearest
+pub nearestN-mono : (a b q : ℕ) → 0 < q → a ≤ b → nearestN a q ≤ nearestN b q
+nearestN-mono a b q h l = subst (λ (k : ℕ). nearestN a k ≤ nearestN b q) (mul-one q) (nearestN-most a b q 1 h (omega arith) (omega arith))
+
+pub nearest-mono : (x y : ℤ) (q : ℕ) → 0 < q → x ≤ℤ y → nearest x q ≤ℤ nearest y q
+unfolding nearest
+nearest-mono (pos a) (pos b) q h l = let m = nearestN-mono a b q h (omega zarith) in omega zarith
+nearest-mono (pos a) (negsuc b) q h l = absurd (omega zarith)
+nearest-mono (negsuc a) (pos b) q h l = omega (zarith, negL (pos (nearestN (suc a) q)))
+nearest-mono (negsuc a) (negsuc b) q h l =
+    let m = nearestN-mono (suc b) (suc a) q h (omega zarith) in omega (zarith, negL (pos (nearestN (suc a) q)), negL (pos (nearestN (suc b) q)))
+
+-- division with a rest below the divisor
+pub divided : (a q d r : ℕ) → q * d + r ≡ a → r < d → a / d ≡ q
+divided a q d r e h = div-eq-of-lt-le d (omega arith) (omega (arith, add-mul q 1 d))

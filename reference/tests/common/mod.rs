@@ -20,6 +20,7 @@ pub const V: u32 = b'V' as u32;
 pub const H: u32 = b'H' as u32;
 pub const F: u32 = b'F' as u32;
 pub const G: u32 = b'G' as u32;
+pub const R: u32 = b'R' as u32;
 pub const T: u32 = b'T' as u32;
 pub const C: u32 = b'C' as u32;
 pub const Z: u32 = b'Z' as u32;
@@ -122,11 +123,15 @@ pub struct Groups {
     pub materials: Vec<[u32; 3]>,
     /// kz of each material; 0 of those past its end.
     pub upward: Vec<u32>,
+    /// The emissivity of each material; blank of those past its end.
+    pub emissivities: Vec<u32>,
     pub elements: Vec<[u32; 5]>,
     pub solids: Vec<[u32; 5]>,
     pub heats: Vec<[u32; 2]>,
     pub films: Vec<[u32; 3]>,
     pub edges: Vec<[u32; 5]>,
+    /// Triangle and temperature of each R card.
+    pub sources: Vec<[u32; 2]>,
     pub fixed: Vec<[u32; 2]>,
     /// Increment, letter, key and both new values; the second is 0 of an H and a T.
     pub changes: Vec<[u32; 5]>,
@@ -141,11 +146,13 @@ impl Groups {
             levels: vec![],
             materials: vec![[1_000, 1_000, 2_400]],
             upward: vec![],
+            emissivities: vec![],
             elements: vec![[1, 2, 3, 1, 1_000]],
             solids: vec![],
             heats: vec![],
             films: vec![],
             edges: vec![],
+            sources: vec![],
             fixed: vec![],
             changes: vec![],
         }
@@ -261,7 +268,9 @@ impl Groups {
             table.extend(card(N, &[x, y, past(&self.levels, at)]));
         }
         for (at, &[kx, ky, capacity]) in self.materials.iter().enumerate() {
-            table.extend(card(M, &[kx, ky, capacity, past(&self.upward, at)]));
+            let kz = past(&self.upward, at);
+            let emissivity = past(&self.emissivities, at);
+            table.extend(card(M, &[kx, ky, capacity, kz, emissivity]));
         }
         self.elements
             .iter()
@@ -278,6 +287,9 @@ impl Groups {
         self.edges
             .iter()
             .for_each(|fields| table.extend(card(G, fields)));
+        self.sources
+            .iter()
+            .for_each(|fields| table.extend(card(R, fields)));
         self.fixed
             .iter()
             .for_each(|fields| table.extend(card(T, fields)));
@@ -285,7 +297,7 @@ impl Groups {
             .iter()
             .for_each(|fields| table.extend(card(C, fields)));
         let loads = self.heats.len() + self.films.len() + self.edges.len() + self.fixed.len();
-        let loads = loads + self.changes.len();
+        let loads = loads + self.sources.len() + self.changes.len();
         let counts = [
             self.nodes.len(),
             self.materials.len(),
@@ -487,6 +499,21 @@ impl Groups {
         }
     }
 
+    /// Radiation by chance: emissivities, one of them blank now and then, and sources on none, some or all triangles.
+    pub fn dock(&mut self, chance: &mut Chance) {
+        let often = chance.pick(&[1, 3, 1_000]);
+        self.emissivities = (0..self.materials.len())
+            .map(|_| chance.pick(&[0, 1, 350, 900, 1_000]))
+            .collect();
+        for element in 1..=self.elements.len() as u32 {
+            if chance.one_in(often) {
+                let near = chance.within(15_000_000, 25_000_000);
+                self.sources
+                    .push([element, chance.pick(&[0, near, near, TOP])]);
+            }
+        }
+    }
+
     /// Edge films by chance, on the sheet's rim and on some sides inside of it.
     fn rim(&mut self, chance: &mut Chance, columns: u32, rows: u32) {
         let mut sides = vec![];
@@ -548,6 +575,10 @@ impl Groups {
             .collect();
         self.films = (1..=films)
             .map(|element| [element, 5_000 + element, ambient])
+            .collect();
+        self.emissivities = vec![900; 8];
+        self.sources = (1..=films)
+            .map(|element| [element, ambient + 65_536 * element])
             .collect();
         self.fixed = (1..=96).map(|node| [node, ambient + node]).collect();
         let pairs = (1..96).flat_map(|low| far.iter().map(move |on| (low, low + on)));
@@ -1117,7 +1148,12 @@ pub fn text_of(table: &[u32]) -> Vec<u8> {
             .iter()
             .map(|field| format!("{field:8}"))
             .collect();
-        text += &format!("{}{fields:40}\n", char::from(card[0] as u8));
+        // An M has its emissivity in the last columns, or blanks.
+        let last = match (card[0], card[5]) {
+            (M, 1..) => format!("{fields:32}{:8}", card[5]),
+            _ => fields,
+        };
+        text += &format!("{}{last:40}\n", char::from(card[0] as u8));
     }
     text.into_bytes()
 }

@@ -31,9 +31,9 @@ pub fn table_refused(table: &[u32], number: u8, place: u32) {
 }
 
 pub fn bytes_refused(bytes: &[u8], number: u8, place: u32) {
-    let mut table = vec![9; 5_436];
+    let mut table = vec![9; 6_396];
     assert_eq!(read(bytes, &mut table), (refused(number, place), 0, 0));
-    assert_eq!(table, vec![9; 5_436]);
+    assert_eq!(table, vec![9; 6_396]);
 }
 
 /// The deck is written as its text is, and read again.

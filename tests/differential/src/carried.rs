@@ -2,11 +2,12 @@
 
 use crate::case::{Call, Lent};
 use crate::decks::{
-    expanded, firsts, nodes_of, triangle, Chance, Groups, Scales, H, MOST_CARRIED, T, TOP,
+    area, expanded, firsts, nodes_of, triangle, Chance, Groups, Scales, H, MOST_CARRIED, R, T, TOP,
 };
 use crate::heats::weigh;
 use crate::limits::built;
 use crate::trial::Trial;
+use reference::loss;
 
 const FACTOR: usize = 2;
 
@@ -137,7 +138,8 @@ pub fn left(trial: &mut Trial) {
     }
 }
 
-/// The book of decks without F, G and T: what the steps leave sums to what they were lent and all of the heat, exactly.
+/// The book of decks without F, G and T: what the steps leave sums to what they were lent, all of the heat and what the R cards gave, less what they
+/// took, as it fell, exactly.
 pub fn books(trial: &mut Trial) {
     for round in trial.times(30) {
         let chance = &mut trial.chance;
@@ -151,13 +153,17 @@ pub fn books(trial: &mut Trial) {
         for heat in &mut groups.heats {
             heat[1] = chance.within(1, most);
         }
+        if chance.one_in(2) {
+            groups.dock(chance);
+        }
         let mut lent = built(trial, groups.table());
-        let (start, each) = (in_the_board(&lent), heat_of(&lent.table));
+        let mut book = in_the_board(&lent);
         for steps in 1..=20 {
+            book += heat_of(&lent.table) - radiated(&lent);
             if trial.call(&mut lent, Call::Step) & 255 != 0 {
                 break;
             }
-            let apart = in_the_board(&lent) - start - steps * each;
+            let apart = in_the_board(&lent) - book;
             assert_eq!(apart, 0, "the book after {steps} steps of {:?}", lent.table);
         }
     }
@@ -177,6 +183,24 @@ fn in_the_board(lent: &Lent) -> i128 {
 fn heat_of(table: &[u32]) -> i128 {
     let heats = table.chunks_exact(6).filter(|card| card[0] == H);
     heats.map(|card| 65_536 * i128::from(card[2])).sum()
+}
+
+/// What the R cards take from their triangles' corners, by the temperatures.
+fn radiated(lent: &Lent) -> i128 {
+    let table = &lent.table;
+    let card = |row: usize| &table[6 * row..6 * row + 6];
+    let nodes = nodes_of(table);
+    let first = nodes + table[table.len() - 3] as usize;
+    let sources = table.chunks_exact(6).filter(|card| card[0] == R);
+    let losses = sources.map(|source| {
+        let triangle = card(first + source[1] as usize);
+        let corners = [1, 2, 3].map(|field| triangle[field] as usize);
+        let points = corners.map(|node| [card(node)[1], card(node)[2]]);
+        let sum: i64 = corners.iter().map(|node| lent.temperatures[node - 1]).sum();
+        let emissivity = card(nodes + triangle[4] as usize)[5];
+        3 * i128::from(loss(emissivity, area(points), sum as u64, source[2]))
+    });
+    losses.sum()
 }
 
 /// The nodes that T cards hold.

@@ -3,7 +3,7 @@
 use crate::case::{Call, Lent};
 use crate::decks::{
     by_turn, put, swapped, text_of, with, Chance, Groups, C, D, E, F, G, H, M, MOST_CHANGES,
-    MOST_VALUE, N, NAMED, NO_NUMBERS, T, TOP, V, Z,
+    MOST_VALUE, N, NAMED, NO_NUMBERS, R, T, TOP, V, Z,
 };
 use crate::limits::{built, each_call};
 use crate::trial::Trial;
@@ -259,7 +259,7 @@ pub fn places(trial: &mut Trial) {
                 each_call(trial, &swapped(&table, row, change));
             }
         }
-        for letter in [D, N, M, E, V, H, F, G, T, Z, 0, 67, 68, 99, 256 + C] {
+        for letter in [D, N, M, E, V, H, F, G, R, T, Z, 0, 67, 68, 99, 256 + C] {
             for row in first..rows - 1 {
                 let mut lent = Lent::of(with(&table, row, 0, letter));
                 for call in [Call::Write, Call::Build, Call::Step] {

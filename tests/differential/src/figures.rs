@@ -1,5 +1,5 @@
-//! The checked numbers, P1 to P12, those of the edge film, of the tetrahedron, of what a step carries and of thin triangles, out of an
-//! archive alone: that of the kept form and that of the packed one. And those of starts and of changes.
+//! The checked numbers, P1 to P12, those of the edge film, of the tetrahedron, of what a step carries, of thin triangles and of radiation, out
+//! of an archive alone: that of the kept form and that of the packed one. And those of starts and of changes.
 
 use crate::archive;
 use crate::case::{Call, Lent};
@@ -319,6 +319,37 @@ fn thin(ask: Archive) {
     }
 }
 
+/// 10,000 to the tick again. From 300 K to 0 K each corner loses 125,402,702 and turned round gains as much, without an emissivity nothing; and two
+/// steps over 290 K, each by the temperatures before it.
+fn sources(ask: Archive) {
+    let over = |emissivity: u32, source: u32, start: i64| {
+        let mut groups = Groups::base();
+        groups.emissivities = vec![emissivity];
+        groups.sources = vec![[1, source]];
+        let mut lent = lend(&groups);
+        assert_eq!(ask(Call::Build, &mut lent), 0, "radiation");
+        lent.temperatures[..3].fill(start);
+        lent
+    };
+    for (emissivity, source, start, ticks, residual) in [
+        (1_000, 0, START, -12_540, -2_702),
+        (1_000, START as u32, 0, 12_540, 2_702),
+        (0, 0, START, 0, 0),
+        (1_000, START as u32, START, 0, 0),
+    ] {
+        let mut lent = over(emissivity, source, start);
+        assert_eq!(ask(Call::Step, &mut lent) & 255, 0, "radiation");
+        assert_eq!(lent.temperatures, alike(start + ticks), "radiation");
+        assert_eq!(lent.carried, alike(residual), "radiation");
+    }
+    let mut lent = over(900, 290 * 65_536, START);
+    for (ticks, residual) in [(1_431, -2_489), (2_859, -2_123)] {
+        assert_eq!(ask(Call::Step, &mut lent), 256, "over 290 K");
+        assert_eq!(lent.temperatures, alike(START - ticks), "over 290 K");
+        assert_eq!(lent.carried, alike(residual), "over 290 K");
+    }
+}
+
 /// By either archive.
 pub fn all(ask: Archive) {
     thin(ask);
@@ -329,6 +360,7 @@ pub fn all(ask: Archive) {
     refusals(ask);
     replacement(ask);
     edges(ask);
+    sources(ask);
 }
 
 /// Nodes 2, 3 and 4 of a triangle, of which 2 is held; 4 and 6 of an edge; 1 and 5 alone, and held. By hand, rows of 1, 1, 2, 3, 1 and

@@ -183,13 +183,14 @@ pub fn lengths(trial: &mut Trial) {
     let table = Groups::largest(&mut trial.chance).table();
     each_call(trial, &table);
     let mut lent = built(trial, table.clone());
-    // The first and the last E, H, F, G and T, with one more in a field that may change.
+    // The first and the last E, H, F, G, R and T, with one more in a field that may change; of an R none may.
     for (first, last, field) in [
         (105, 264, 5),
         (265, 424, 2),
         (425, 584, 2),
         (585, 744, 3),
-        (745, 840, 2),
+        (745, 904, 2),
+        (905, 1_000, 2),
     ] {
         for row in [first, last] {
             let mut new: [u32; 6] = table[6 * row..6 * row + 6].try_into().unwrap();
@@ -198,15 +199,15 @@ pub fn lengths(trial: &mut Trial) {
             trial.call(&mut lent, Call::Replace { card, new });
         }
     }
-    for length in [5_430, 5_435, 5_437, 5_442] {
-        let mut other = table[..5_430].to_vec();
-        other.resize(length.max(5_436) - 6, 0);
-        other.extend(&table[5_430..]);
+    for length in [6_390, 6_395, 6_397, 6_402] {
+        let mut other = table[..6_390].to_vec();
+        other.resize(length.max(6_396) - 6, 0);
+        other.extend(&table[6_390..]);
         other.truncate(length);
         each_call(trial, &other);
     }
     // A last count that may be, and one more: so many H cards never rise.
-    for count in [639, 640, 641] {
+    for count in [799, 800, 801] {
         let mut groups = Groups::base();
         groups.heats = vec![[1, 9]; count];
         each_call(trial, &groups.table());

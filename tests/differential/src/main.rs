@@ -24,6 +24,7 @@ mod met_changes;
 mod met_rows;
 mod met_runs;
 mod met_solids;
+mod met_sources;
 mod met_thin;
 mod packed;
 mod packed_face;
@@ -34,6 +35,7 @@ mod runs;
 mod show;
 mod shrink;
 mod solids;
+mod sources;
 mod thin;
 mod trial;
 
@@ -57,7 +59,7 @@ fn main() -> ExitCode {
     figures::all(packed::call);
     figures::rows();
     figures::changes();
-    println!("P1 to P12, the figures of the edge film, the tetrahedron, the residuals, thin triangles, starts and changes out of the archive: as the papers have them");
+    println!("P1 to P12, the figures of the edge film, the tetrahedron, the residuals, thin triangles, radiation, starts and changes out of the archive: as the papers have them");
     println!("seed {seed}");
     let mut trial = trial::Trial::new(seed, MOST);
     let parts = plan::LENT.into_iter().chain(runs::ALL).chain(posted::ALL);

@@ -1,5 +1,5 @@
-//! What was met of G cards, of heats, of carried residuals, of solid decks, of thin triangles, of starts and of C cards: counts that must
-//! not stay at zero.
+//! What was met of G cards, of heats, of carried residuals, of solid decks, of thin triangles, of starts, of C cards and of R cards: counts
+//! that must not stay at zero.
 //! `tests/kernel` takes this file too.
 
 use crate::case::{Call, Lent};
@@ -8,6 +8,7 @@ use crate::met_carried::{Carried, Stepped};
 use crate::met_changes::Changes;
 use crate::met_rows::{Rows, Told};
 use crate::met_solids::{Seen, Solids};
+use crate::met_sources::Sources;
 use crate::met_thin::Thin;
 
 /// Acceptance, and the refusals that a G card can be the cause of, or stand in the way of.
@@ -26,7 +27,7 @@ const WANTED: [[bool; 6]; 5] = [
 const THINGS: [&str; 15] = [
     "decks with 160 G cards accepted",
     "161st G cards refused by 3",
-    "decks of 5,436 numbers accepted",
+    "decks of 6,396 numbers accepted",
     "decks accepted whose pairs rise by the higher node alone",
     "decks accepted whose pairs rise while the higher node falls",
     "pairs refused that rise by no node, with the same lower one",
@@ -56,6 +57,7 @@ pub struct Met {
     thin: Thin,
     rows: Rows,
     changes: Changes,
+    sources: Sources,
 }
 
 impl Met {
@@ -90,6 +92,7 @@ impl Met {
         self.solids.see(&seen);
         self.thin.see(&seen);
         self.changes.see(&seen);
+        self.sources.see(&seen, before);
         if call.index() >= 2 {
             self.rows.see(&Told {
                 call,
@@ -139,7 +142,7 @@ impl Met {
             self.heated(table);
         }
         self.count(0, edges(table).count() == 160);
-        self.count(2, table.len() == 5_436);
+        self.count(2, table.len() == 6_396);
         let pairs = || edges(table).zip(edges(table).skip(1));
         self.count(3, pairs().any(|(before, card)| before[1] == card[1]));
         self.count(4, pairs().any(|(before, card)| before[2] > card[2]));
@@ -207,6 +210,7 @@ impl Met {
         lines.extend(self.thin.lines());
         lines.extend(self.rows.lines());
         lines.extend(self.changes.lines());
+        lines.extend(self.sources.lines());
         lines
     }
 
@@ -236,6 +240,7 @@ impl Met {
         unmet.extend(self.thin.unmet());
         unmet.extend(self.rows.unmet());
         unmet.extend(self.changes.unmet());
+        unmet.extend(self.sources.unmet());
         unmet
     }
 }

@@ -1,7 +1,7 @@
 //! What was met of runs: how each ended, at which step, and by what. Counts that must not stay at zero.
 
 use crate::case::{Lent, Outcome};
-use crate::decks::{changes_of, is_solid, kept_of, replacement_of, E, F, H, NAMED, NUMBERS, T};
+use crate::decks::{changes_of, is_solid, kept_of, replacement_of, E, F, H, NAMED, NUMBERS, R, T};
 use reference::kept::{replace, step};
 use reference::{Answer, Card, Stepped};
 
@@ -58,7 +58,7 @@ struct Seen<'a> {
 
 type Thing = (&'static str, fn(&Seen) -> bool);
 
-const THINGS: [Thing; 29] = [
+const THINGS: [Thing; 31] = [
     ("runs finished without C cards", |seen| {
         seen.finished() && seen.changes.is_empty()
     }),
@@ -110,6 +110,13 @@ const THINGS: [Thing; 29] = [
     ("runs finished with no change ever reached", |seen| {
         seen.finished() && !seen.changes.is_empty() && seen.ended.made.is_empty()
     }),
+    ("runs finished over a stand, of some steps", |seen| {
+        seen.finished() && seen.docked() && seen.steps() > 2
+    }),
+    (
+        "runs finished over a stand, with a change of E and of T",
+        |seen| seen.docked() && seen.with(E) && seen.with(T),
+    ),
     ("runs finished with 64 changes made", |seen| {
         seen.finished() && seen.ended.made.len() == 64
     }),
@@ -186,6 +193,11 @@ impl Seen<'_> {
 
     fn finished(&self) -> bool {
         self.number == 0
+    }
+
+    fn docked(&self) -> bool {
+        let mut cards = self.before.table.chunks_exact(6);
+        cards.any(|card| card[0] == R)
     }
 
     fn with(&self, letter: u32) -> bool {

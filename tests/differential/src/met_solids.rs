@@ -187,11 +187,11 @@ const THINGS: [Thing; 46] = [
 /// The greatest u, and the greatest magnitude of a pair's conductance.
 const MOST: i64 = 4_000_000;
 
-fn is_more(columns: &str) -> bool {
+pub fn is_more(columns: &str) -> bool {
     !columns.starts_with('0') && columns.parse::<u32>().is_ok()
 }
 
-fn is_none(columns: &str) -> bool {
+pub fn is_none(columns: &str) -> bool {
     !columns.is_empty() && columns != "0" && !is_more(columns)
 }
 

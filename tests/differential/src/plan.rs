@@ -2,17 +2,17 @@
 
 use crate::case::{Call, Lent};
 use crate::decks::{
-    bytes_of, firsts, kept_of, nodes_of, starts_of, Chance, Groups, C, D, E, F, G, H, M, N, T, TOP,
-    V, Z,
+    bytes_of, firsts, kept_of, nodes_of, starts_of, Chance, Groups, C, D, E, F, G, H, M, N, R, T,
+    TOP, V, Z,
 };
 use crate::trial::Trial;
-use crate::{carried, changes, edges, heats, limits, rows, solids, thin};
+use crate::{carried, changes, edges, heats, limits, rows, solids, sources, thin};
 use reference::Card;
 
 pub type Part = (&'static str, fn(&mut Trial));
 
 /// Decks, own buffers and foreign ones.
-pub const LENT: [Part; 45] = [
+pub const LENT: [Part; 49] = [
     ("decks read and written back", valid_decks),
     ("builds over slices short, exact and long", builds),
     ("the paper's checked decks", checked_decks),
@@ -85,6 +85,13 @@ pub const LENT: [Part; 45] = [
         "C cards where they may stand, and as many as there may be",
         changes::places,
     ),
+    (
+        "R cards at their ends and past them, in and out of order",
+        sources::cards,
+    ),
+    ("emissivities blank, filled and none", sources::emissivities),
+    ("sources at a half of a loss and beside it", sources::halves),
+    ("sources and corners from 0 to the top", sources::warmths),
 ];
 
 /// Damages come last, so that a fault in the plain work is met as such.
@@ -102,9 +109,9 @@ pub const DAMAGED: [Part; 6] = [
 
 // ---- decks and buffers
 
-/// A deck of any kind: most of them build. One in two with changes, one in three numbered by chance.
+/// A deck of any kind: most of them build. One in two with changes, one in two over a stand, one in three numbered by chance.
 pub fn deck(chance: &mut Chance) -> Vec<u32> {
-    let groups = match chance.within(0, 13) {
+    let mut groups = match chance.within(0, 13) {
         0 => Groups::slivers(chance),
         1..=3 => Groups::wild(chance),
         4 => Groups::base(),
@@ -123,6 +130,9 @@ pub fn deck(chance: &mut Chance) -> Vec<u32> {
             Groups::sheet(chance, columns, rows)
         }
     };
+    if chance.one_in(2) {
+        groups.dock(chance);
+    }
     let groups = groups.varied(chance);
     match chance.one_in(3) {
         true => groups.shuffled(chance).table(),
@@ -303,7 +313,7 @@ fn damaged_bytes(trial: &mut Trial) {
 fn any_byte(chance: &mut Chance) -> u8 {
     match chance.within(0, 2) {
         0 => chance.bits() as u8,
-        _ => chance.pick(b"0123456789 \nDNMEVHFGTCZ-+"),
+        _ => chance.pick(b"0123456789 \nDNMEVHFGRTCZ-+"),
     }
 }
 
@@ -461,7 +471,7 @@ pub fn replacement(chance: &mut Chance, table: &[u32]) -> Call {
     }
     let mut card = index as u32 + 1;
     match chance.within(0, 40) {
-        0 => new[0] = chance.pick(&[D, N, M, E, V, H, F, G, T, C, Z, 0, 65]),
+        0 => new[0] = chance.pick(&[D, N, M, E, V, H, F, G, R, T, C, Z, 0, 65]),
         1 => new[chance.within(1, 5) as usize] = chance.unsigned(),
         2 => card = chance.unsigned(),
         3 => card = chance.pick(&[0, 1, rows as u32, rows as u32 + 1, u32::MAX]),
@@ -649,7 +659,7 @@ fn damage(chance: &mut Chance, table: &mut Vec<u32>) {
         }
         2 => table.truncate(chance.index(table.len() + 1)),
         3 => table.extend((0..chance.within(1, 13)).map(|_| 0)),
-        4 => table[row] = chance.pick(&[D, N, M, E, V, H, F, G, T, C, Z, 0, u32::MAX]),
+        4 => table[row] = chance.pick(&[D, N, M, E, V, H, F, G, R, T, C, Z, 0, u32::MAX]),
         // The trailer's own numbers.
         5 => {
             let at = table.len() - 1 - chance.index(6);
@@ -668,9 +678,9 @@ fn damage(chance: &mut Chance, table: &mut Vec<u32>) {
 
 /// Another number: beside this one, at a limit of the paper or beside it, or anything.
 fn edge(chance: &mut Chance, number: u32) -> u32 {
-    const LIMITS: [u32; 19] = [
-        0, 1, 3, 8, 69, 70, 72, 84, 96, 160, 640, 1_023, 4_000, 4_095, 5_000, 60_000, 100_000,
-        500_000, 5_000_000,
+    const LIMITS: [u32; 21] = [
+        0, 1, 3, 8, 69, 70, 72, 82, 84, 96, 160, 800, 1_000, 1_023, 4_000, 4_095, 5_000, 60_000,
+        100_000, 500_000, 5_000_000,
     ];
     match chance.within(0, 5) {
         5 => 99_999_999 + chance.within(0, 1),

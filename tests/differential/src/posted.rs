@@ -16,7 +16,7 @@ pub const ALL: [Part; 5] = [
     ("elements listed in another order", listed),
 ];
 
-const THINGS: [&str; 14] = [
+const THINGS: [&str; 15] = [
     "pairs accepted in both orders, both of E, V, F or G",
     "pairs accepted in both orders, one of them of H or T",
     "pairs accepted in both orders, both of H or T",
@@ -31,6 +31,7 @@ const THINGS: [&str; 14] = [
     "decks with elements in another order that build",
     "solid decks with E and V in another order that build",
     "decks with elements in another order and C cards in another order",
+    "decks with elements in another order and R cards in another order",
 ];
 
 /// Counts of THINGS, none of which may stay at zero.
@@ -368,6 +369,11 @@ fn relisted(chance: &mut Chance, groups: &Groups) -> Groups {
         .iter_mut()
         .for_each(|film| film[0] = number(film[0]));
     other.films.sort_unstable();
+    other
+        .sources
+        .iter_mut()
+        .for_each(|source| source[0] = number(source[0]));
+    other.sources.sort_unstable();
     for change in &mut other.changes {
         if [E, H, F].contains(&change[1]) {
             change[2] = number(change[2]);
@@ -387,6 +393,7 @@ fn listed(trial: &mut Trial) {
             2 => Groups::wild(chance),
             _ => Groups::sheet(chance, 4, 3),
         };
+        groups.dock(chance);
         groups.changes.clear();
         groups.change(chance, 12, 2, false);
         let other = relisted(chance, &groups);
@@ -462,5 +469,7 @@ fn listed(trial: &mut Trial) {
                 && groups.solids != other.solids,
         );
         met.count(13, moved);
+        let ticks = |it: &Groups| it.sources.iter().map(|r| r[1]).collect::<Vec<_>>();
+        met.count(14, ticks(&groups) != ticks(&other));
     }
 }

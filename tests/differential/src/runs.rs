@@ -132,6 +132,9 @@ fn board(chance: &mut Chance) -> Groups {
         }
     };
     groups.d[2] = chance.within(1, 9);
+    if chance.one_in(2) {
+        groups.dock(chance);
+    }
     // Too little capacity to factor, or too much.
     let hard = match chance.within(0, 3) {
         0 => Some([500_000, 1, 1]),

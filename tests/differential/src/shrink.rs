@@ -1,7 +1,7 @@
 //! Makes a case that disagrees small, by edits after which it still does.
 
 use crate::case::{Call, Case};
-use crate::decks::{expanded, firsts, shrunk, starts_of, triangle, C, E, F, G, H, M, N, T, V};
+use crate::decks::{expanded, firsts, shrunk, starts_of, triangle, C, E, F, G, H, M, N, R, T, V};
 use std::time::{Duration, Instant};
 
 const MOST: Duration = Duration::from_secs(20);
@@ -184,7 +184,7 @@ fn without_bytes(case: &mut Case, row: usize) -> Option<()> {
         N => 1,
         M => 2,
         E | V => 3,
-        H | F | G | T | C => 4,
+        H | F | G | R | T | C => 4,
         _ => return None,
     };
     fields[count] = fields[count].checked_sub(1)?;
@@ -269,7 +269,7 @@ fn without(case: &mut Case, row: usize) -> Option<()> {
             N => 2,
             M => 3,
             E | V => 4,
-            H | F | G | T | C => 5,
+            H | F | G | R | T | C => 5,
             _ => return None,
         };
     table[count] = table[count].checked_sub(1)?;

@@ -78,7 +78,7 @@ fn lengths(trial: &mut Trial) {
     let table = Groups::one_of_each_solid().table();
     let (cards, trailer) = table.split_at(table.len() - 6);
     let mut long = cards.to_vec();
-    long.resize(5_436, 0);
+    long.resize(6_396, 0);
     long.extend(trailer);
     each_call(trial, &long);
     let mut notes = vec![b'.'; 65_537 - 7 * table.len()];

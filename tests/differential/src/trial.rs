@@ -146,8 +146,8 @@ impl Trial {
         self.met.iter().flatten().sum()
     }
 
-    /// Prints what was met. Was every refusal, and all of G, of heats, of residuals, of V, of thin triangles, of starts, of C, of runs and of
-    /// changes in two orders?
+    /// Prints what was met. Was every refusal, and all of G, of heats, of residuals, of V, of thin triangles, of starts, of C, of R, of runs and
+    /// of changes in two orders?
     pub fn report(&self) -> bool {
         print!("{:8} {:>8} {:>8}", "call", "cases", "done");
         (1..NUMBERS).for_each(|number| print!(" {number:>6}"));

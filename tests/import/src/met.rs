@@ -1,7 +1,9 @@
 //! What the cases met. Each thing must be met.
 
 use crate::case::{Case, Outcome};
-use crate::decks::{field, is_solid, kind::*, Record, C, E, F, G, H, INFINITY, SIGN, T, UNITS, V};
+use crate::decks::{
+    field, is_solid, kind::*, Record, C, E, F, G, H, INFINITY, R, SIGN, T, UNITS, V,
+};
 
 /// A case with what it answered, taken apart.
 struct Seen<'a> {
@@ -142,7 +144,7 @@ fn is_subnormal(bits: u32) -> bool {
     f32::from_bits(bits).is_subnormal()
 }
 
-const THINGS: [Thing; 70] = [
+const THINGS: [Thing; 72] = [
     ("an exact half of a µW", |s| s.value(0, is_half)),
     ("one just under it", |s| s.value(0, is_under)),
     ("an exact half of a mW", |s| s.value(1, is_half)),
@@ -199,7 +201,16 @@ const THINGS: [Thing; 70] = [
     ("no record but the last", |s| {
         s.done() && s.records.len() == 1
     }),
-    ("906 cards", |s| s.done() && s.wanted() == 5_436),
+    ("1,066 cards", |s| s.done() && s.wanted() == 6_396),
+    ("sources between new F and new T cards", |s| {
+        let has = |kind| s.records.iter().any(|record| record.kind == kind);
+        s.done() && s.count(R) > 0 && has(FILM) && has(HELD)
+    }),
+    ("sources, edges, changes and no new T card", |s| {
+        let held = s.records.iter().any(|record| record.kind == HELD);
+        let all = s.count(R) > 0 && s.count(G) > 0 && s.count(C) > 0;
+        s.done() && all && !held
+    }),
     ("changes after new T cards", |s| {
         s.done() && s.count(C) > 0 && s.records.iter().any(|record| record.kind == HELD)
     }),

@@ -2,7 +2,7 @@
 
 use crate::case::Case;
 use crate::decks::{
-    kind::*, laid, single, with_tail, Chance, Groups, Record, C, D, E, F, G, H, INFINITY, M, N,
+    kind::*, laid, single, with_tail, Chance, Groups, Record, C, D, E, F, G, H, INFINITY, M, N, R,
     RECORD_BYTES, SIGN, T, UNITS, V, Z,
 };
 use crate::trial::Trial;
@@ -26,7 +26,7 @@ pub const PARTS: [(&str, fn(&mut Trial)); 14] = [
 
 /// A deck of any kind, with loads for records to be of, one in two with changes.
 fn deck(chance: &mut Chance) -> Groups {
-    let groups = match chance.within(0, 7) {
+    let mut groups = match chance.within(0, 7) {
         0 => Groups::one_of_each(),
         1 => Groups::two_solids(),
         2 => {
@@ -39,6 +39,9 @@ fn deck(chance: &mut Chance) -> Groups {
         }
         _ => Groups::wild(chance),
     };
+    if chance.one_in(2) {
+        groups.dock(chance);
+    }
     groups.varied(chance)
 }
 
@@ -379,7 +382,7 @@ fn damaged_tables(trial: &mut Trial) {
         for _ in 0..chance.within(1, 2) {
             let at = chance.index(table.len());
             table[at] = match (at % 6, chance.one_in(3)) {
-                (0, false) => chance.pick(&[D, N, M, E, V, H, F, G, T, C, Z]),
+                (0, false) => chance.pick(&[D, N, M, E, V, H, F, G, R, T, C, Z]),
                 (_, false) => table[at].wrapping_add(chance.pick(&[1, u32::MAX, 42, 6])),
                 _ => chance.unsigned(),
             };

@@ -2,8 +2,8 @@
 
 use crate::changes::each;
 use crate::decks::{
-    about_thin, bytes_of, put, text_of, turned, Chance, Groups, C, D, E, F, G, H, M, N, SIDES, T,
-    TOP, V, Z,
+    about_thin, bytes_of, put, text_of, turned, Chance, Groups, C, D, E, F, G, H, M, N, R, SIDES,
+    T, TOP, V, Z,
 };
 use crate::plan::LENT;
 use crate::record::Record;
@@ -205,7 +205,7 @@ fn warmth(chance: &mut Chance) -> u32 {
 fn fault(chance: &mut Chance, card: &mut u32, new: &mut Card, cards: u32) {
     match chance.within(0, 4) {
         0 => *card = chance.pick(&[0, 1, 2, cards, cards + 1, u32::MAX]),
-        1 => new[0] = chance.pick(&[D, N, M, E, V, H, F, G, T, C, Z, 0, 256 + E, u32::MAX]),
+        1 => new[0] = chance.pick(&[D, N, M, E, V, H, F, G, R, T, C, Z, 0, 256 + E, u32::MAX]),
         2 => *card = chance.within(1, cards),
         _ => new[chance.within(1, 5) as usize] = chance.unsigned(),
     }
@@ -408,7 +408,7 @@ fn edges(record: &mut Record) {
 fn any_byte(chance: &mut Chance) -> u8 {
     match chance.within(0, 2) {
         0 => chance.bits() as u8,
-        _ => chance.pick(b"0123456789 \nDNMEVHFGTCZ"),
+        _ => chance.pick(b"0123456789 \nDNMEVHFGRTCZ"),
     }
 }
 

@@ -36,6 +36,9 @@ mod met_rows;
 #[path = "../../differential/src/met_solids.rs"]
 #[allow(dead_code)]
 mod met_solids;
+#[path = "../../differential/src/met_sources.rs"]
+#[allow(dead_code)]
+mod met_sources;
 #[path = "../../differential/src/met_thin.rs"]
 #[allow(dead_code)]
 mod met_thin;
@@ -46,6 +49,8 @@ mod plan;
 mod rows;
 #[path = "../../differential/src/solids.rs"]
 mod solids;
+#[path = "../../differential/src/sources.rs"]
+mod sources;
 #[path = "../../differential/src/thin.rs"]
 mod thin;
 

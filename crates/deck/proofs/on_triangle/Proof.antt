@@ -12,7 +12,7 @@ use Rattle.paper.specs.declared.About.{About}
 use Rattle.paper.specs.declared.Counts.{Counts}
 use Rattle.paper.specs.declared.Kind.the-variants.{E}
 use Rattle.cards.proofs.OneCard.{some-before}
-use Rattle.deck.proofs.Turn.{element-in, film-bytes}
+use Rattle.deck.proofs.Turn.{element-in, named-bytes}
 
 counted : (z : Counts) {b : ℕ} {a : About} → b ≡ before z (a .section) → a ≡ about E → b ≡ before z bodies
 unfolding about
@@ -34,11 +34,11 @@ add-row : tie.Need-add-row
 add-row c = omega (arith, c .shared-slice-known3 .given 1, counted (c .before .before .before .before .before .args .counts) (c .before .cards-before .ensures) (c .before .before .about .ensures), some-before (c .before .before .before .before .before .args .counts))
 
 sub-row : tie.Need-sub-row
-sub-row c = omega (arith, element-in (c .before .before .before .before .before .args .counts) (c .before .before .before .before .before .args .s .now) (c .before .before .before .before .before .args .start) (c .before .before .before .before .before .args .card .now) (c .before .before .before .before .before .pre) .0)
+sub-row c = omega (arith, c .before .before .before .before .before .pre .some)
 
 letter-requires : tie.Need-letter-requires
 letter-requires c κs =
-    omega (arith, counted (c .before .before .before .before .before .args .counts) (c .before .cards-before .ensures) (c .before .before .about .ensures), element-in (c .before .before .before .before .before .args .counts) (c .before .before .before .before .before .args .s .now) (c .before .before .before .before .before .args .start) (c .before .before .before .before .before .args .card .now) (c .before .before .before .before .before .pre) .1, c .before .before .before .before .before .pre .room)
+    omega (arith, counted (c .before .before .before .before .before .args .counts) (c .before .cards-before .ensures) (c .before .before .about .ensures), element-in (c .before .before .before .before .before .args .counts) (c .before .before .before .before .before .args .s .now) (c .before .before .before .before .before .args .start) (c .before .before .before .before .before .args .card .now) (c .before .before .before .before .before .pre), c .before .before .before .before .before .pre .elements .room)
 
 about-requires-2 : tie.Need-about-requires-2
 about-requires-2 c κs = search needs
@@ -49,7 +49,7 @@ returns c =
     let a = c .before .before .before .before .before .before .before .before .args in
     λ i. (λ j. eqb (c .before .before .letter .ensures j) (c .before .about2 .ensures j .letter))
     ∙ ap (λ (n : ℕ). eqb (getD (a .s .now) (a .start + (n + getD (a .card .now) 1 0 - 1) * 42) 0) 69) (counted (c .before .before .before .before .before .before .before .before .args .counts) (c .before .before .before .before .cards-before .ensures) (c .before .before .before .before .before .about .ensures))
-    ∙ film-bytes (a .counts) (a .s .now) (a .start) (a .card .now) (c .before .before .before .before .before .before .before .before .pre) i
+    ∙ named-bytes (a .counts) (a .s .now) (a .start) (a .card .now) (c .before .before .before .before .before .before .before .before .pre) i
 
 pub on-triangle-spec : {M : Type 1} → statement M
 on-triangle-spec =

@@ -21,6 +21,7 @@ kind-spec =
     (λ c. sym (ap kindOf (c .match .keys9)))
     (λ c. sym (ap kindOf (c .match .keys10)))
     (λ c. sym (ap kindOf (c .match .keys11)))
+    (λ c. sym (ap kindOf (c .match .keys12)))
     (λ c.
     let r = c .match .rest in
     simp (
@@ -35,4 +36,5 @@ kind-spec =
       ne-eqb _ _ (r .0 .0 .0 .0 .0 .0 .0 .0 .1),
       ne-eqb _ _ (r .0 .0 .0 .0 .0 .0 .0 .0 .0 .1),
       ne-eqb _ _ (r .0 .0 .0 .0 .0 .0 .0 .0 .0 .0 .1),
+      ne-eqb _ _ (r .0 .0 .0 .0 .0 .0 .0 .0 .0 .0 .0 .1),
     )))

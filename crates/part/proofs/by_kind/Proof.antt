@@ -76,6 +76,12 @@ enum-told-12 c = search needs
 line-requires-12 : tie.Need-line-requires-12
 line-requires-12 c κs = search needs
 
+enum-told-13 : tie.Need-enum-told-13
+enum-told-13 c = search needs
+
+line-requires-13 : tie.Need-line-requires-13
+line-requires-13 c κs = search needs
+
 returns : tie.Need-returns
 unfolding doesBy
 returns c = c .line .ensures ∙ sym (ap doesBy (c .before .enum-told .given .1))
@@ -124,6 +130,10 @@ returns-12 : tie.Need-returns-12
 unfolding doesBy
 returns-12 c = c .line12 .ensures ∙ sym (ap doesBy (c .before .enum-told12 .given .1))
 
+returns-13 : tie.Need-returns-13
+unfolding doesBy
+returns-13 c = c .line13 .ensures ∙ sym (ap doesBy (c .before .enum-told13 .given .1))
+
 pub by-kind-spec : {M : Type 1} → statement M
 by-kind-spec =
     tie.close
@@ -152,6 +162,8 @@ by-kind-spec =
     line-requires-11
     enum-told-12
     line-requires-12
+    enum-told-13
+    line-requires-13
     returns
     returns-2
     returns-3
@@ -163,4 +175,5 @@ by-kind-spec =
     returns-9
     returns-10
     returns-11
-    returns-12)
+    returns-12
+    returns-13)
