@@ -122,7 +122,7 @@ int main(int count, char **words)
 	fclose(deck);
 	measure("read", call_read, 512);
 	measure("write", call_write, 512);
-	measure("build", call_build, 1536);
+	measure("build", call_build, 1152);
 	measure_replaces();
 	for (i = 0; i < GORMULAST_MAX_NODES; i++)
 		temperatures[i] = table[2];
