@@ -32,6 +32,7 @@ pub fn build_kept(board: &Board) -> Work<'_> {
 }
 
 /// A' put into the packed triangle, which a factoring begins with.
+#[cfg(feature = "apart")]
 pub fn copy<'a>(cleared: &'a [i64]) -> Work<'a> {
     let mut matrix = cleared.to_vec();
     Box::new(move || {
@@ -41,6 +42,7 @@ pub fn copy<'a>(cleared: &'a [i64]) -> Work<'a> {
 }
 
 /// The same, and the loop of the factor.
+#[cfg(feature = "apart")]
 pub fn factor<'a>(board: &'a Board, cleared: &'a [i64]) -> Work<'a> {
     let mut matrix = cleared.to_vec();
     Box::new(move || {

@@ -2,7 +2,8 @@
 //!   (a) plain Rust's full factoring of the same packed triangle, its loop alone,
 //!   (b) plain Rust's replacement, over the packed form and over the kept one,
 //!   (c) SuiteSparse's LDL, its numeric part alone, where it is linked.
-//! And the archive's own loop of a full factoring against (a) and (c).
+//! And the archive's own loop of a full factoring against (a) and (c), and against (c) with no (a) in turns with them, whose packed triangle
+//! takes their place in the processor's memory.
 
 use crate::boards::Board;
 use crate::clock::{all_in_turns, in_turns, Work};
@@ -15,35 +16,44 @@ const AGAIN: usize = 100;
 type Slots<A> = [Option<A>; 7];
 
 pub fn table(board: &Board) {
+    let changes = changes(board);
+    let (nodes, count) = (board.nodes, board.kept[0].len());
+    println!("{nodes} nodes, {count} numbers kept, in ns; then the archive's time over each");
+    let [a, b, kept, c] = ["(a)", "(b)", "(b) kept", "(c)"];
+    println!(
+        "{:17} {:>8} {a:>8} {b:>8} {kept:>8} {c:>8} | {a:>8} {b:>8} {kept:>8} {c:>8}",
+        "", "archive"
+    );
+    let [calls @ .., alone, warm] = &least_medians(board, &changes)[..] else {
+        unreachable!("the last two are of the factor");
+    };
+    for (change, times) in changes.iter().zip(calls) {
+        show(&change.name, times);
+    }
+    show("factor alone", alone);
+    show("with no (a) there", warm);
+}
+
+/// Of each change, of the factor alone, and of that with no (a) in turns with it. Other work on the machine comes and goes: all are
+/// measured in each of some rounds.
+fn least_medians(board: &Board, changes: &[Change]) -> Vec<Slots<f64>> {
     let cleared = board.cleared();
     let kept = board.shrunk(&cleared);
     check(board, &cleared);
-    let changes = changes(board);
-    let mut least = vec![[f64::INFINITY; 7].map(Some); changes.len() + 1];
-    // Other work on the machine comes and goes: every call is measured in each of some rounds, and its least median counts.
+    let mut least = vec![[f64::INFINITY; 7].map(Some); changes.len() + 2];
     for _ in 0..ROUNDS {
-        for (least, change) in least.iter_mut().zip(&changes) {
-            lower(least, replacement(board, &cleared, change));
-        }
-        lower(
-            least.last_mut().expect("the factor"),
-            factoring(board, &cleared, &kept),
-        );
+        let calls = changes
+            .iter()
+            .map(|change| replacement(board, &cleared, change));
+        let mut warm = factoring(board, &cleared, &kept);
+        [warm[1], warm[6]] = [None, None];
+        let all = calls.chain([factoring(board, &cleared, &kept), warm]);
+        least
+            .iter_mut()
+            .zip(all)
+            .for_each(|(least, works)| lower(least, works));
     }
-    println!(
-        "{} nodes, {} numbers kept, in ns; then the archive's time over each",
-        board.nodes,
-        kept.len()
-    );
-    let [a, b, kept, c] = ["(a)", "(b)", "(b) kept", "(c)"];
-    println!(
-        "{:16} {:>8} {a:>8} {b:>8} {kept:>8} {c:>8} | {a:>8} {b:>8} {kept:>8} {c:>8}",
-        "", "archive"
-    );
-    let names = changes.iter().map(|change| change.name.as_str());
-    for (name, times) in names.chain(["factor alone"]).zip(least) {
-        show(name, times);
-    }
+    least
 }
 
 /// F with the least corner at the first node, in the first quarter, in the middle, at the first node of the last quarter and in that
@@ -100,7 +110,7 @@ fn lower(least: &mut Slots<f64>, works: Slots<Work>) {
     }
 }
 
-fn show(name: &str, [archive, a, b, kept, c, own_copy, copy]: Slots<f64>) {
+fn show(name: &str, &[archive, a, b, kept, c, own_copy, copy]: &Slots<f64>) {
     let archive = archive.expect("the archive's time") - own_copy.unwrap_or(0.0);
     let against = [a.zip(copy).map(|(a, copy)| a - copy), b, kept, c];
     let numbers = |digits: usize, number: &dyn Fn(f64) -> f64| -> String {
@@ -111,7 +121,7 @@ fn show(name: &str, [archive, a, b, kept, c, own_copy, copy]: Slots<f64>) {
         against.map(shown).concat()
     };
     let (times, ratios) = (numbers(0, &|time| time), numbers(3, &|time| archive / time));
-    println!("{name:16} {archive:>8.0}{times} |{ratios}");
+    println!("{name:17} {archive:>8.0}{times} |{ratios}");
 }
 
 /// Both loops make the deck's factor.
