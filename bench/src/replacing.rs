@@ -9,8 +9,10 @@ use crate::boards::Board;
 use crate::clock::{all_in_turns, in_turns, Work};
 use crate::{apart, archive, plain, Change, ROUNDS};
 
+/// Runs of a round: seven works of up to 0.2 ms each.
+const RUNS: usize = 101;
 /// Rounds of a call that is looked at.
-const AGAIN: usize = 100;
+const AGAIN: usize = 25;
 
 /// In turns: the archive's, (a), (b), (b) kept and (c); and the copies that a factoring begins with, of the archive's and of (a).
 type Slots<A> = [Option<A>; 7];
@@ -90,7 +92,7 @@ fn factoring<'a>(board: &'a Board, cleared: &'a [i64], kept: &'a [i64]) -> Slots
 
 /// Full factorings to measure against.
 fn factored<'a>(board: &'a Board, cleared: &'a [i64]) -> Slots<Work<'a>> {
-    let mut slots = [const { None }; 7];
+    let mut slots = Slots::default();
     slots[1] = Some(plain::factor(board, cleared));
     #[cfg(feature = "ldl")]
     {
@@ -103,7 +105,7 @@ fn factored<'a>(board: &'a Board, cleared: &'a [i64]) -> Slots<Work<'a>> {
 /// One round more.
 fn lower(least: &mut Slots<f64>, works: Slots<Work>) {
     let there = works.each_ref().map(Option::is_some);
-    let mut times = all_in_turns(works.into_iter().flatten().collect()).into_iter();
+    let mut times = all_in_turns(works.into_iter().flatten().collect(), RUNS).into_iter();
     for (least, there) in least.iter_mut().zip(there) {
         let time = there.then(|| times.next().expect("a time for each work"));
         *least = time.and_then(|time| least.map(|least| least.min(time)));
