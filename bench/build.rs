@@ -1,10 +1,21 @@
-//! Links the archive in the folder GORMULAST_ARCHIVE, and with the feature `run` that for tests in the folder GORMULAST_PACKED.
+//! Links the archive in the folder GORMULAST_ARCHIVE; with the feature `run` that for tests in the folder GORMULAST_PACKED, with `apart`
+//! the one of a factor alone in GORMULAST_APART, and with `ldl` SuiteSparse's LDL.
 
 fn main() {
     link("GORMULAST_ARCHIVE", "gormulast");
-    if std::env::var("CARGO_FEATURE_RUN").is_ok() {
+    if has("RUN") {
         link("GORMULAST_PACKED", "gormulast-packed");
     }
+    if has("APART") {
+        link("GORMULAST_APART", "gormulast-apart");
+    }
+    if has("LDL") {
+        println!("cargo:rustc-link-lib=ldl");
+    }
+}
+
+fn has(feature: &str) -> bool {
+    std::env::var(format!("CARGO_FEATURE_{feature}")).is_ok()
 }
 
 fn link(variable: &str, name: &str) {

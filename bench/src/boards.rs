@@ -9,6 +9,8 @@ const F: u32 = b'F' as u32;
 const G: u32 = b'G' as u32;
 const H: u32 = b'H' as u32;
 const R: u32 = b'R' as u32;
+#[cfg(feature = "apart")]
+const T: u32 = b'T' as u32;
 
 pub struct Board {
     pub bytes: Vec<u8>,
@@ -140,6 +142,32 @@ impl Board {
             packed: self.packed.clone(),
             kept: self.kept.clone(),
         })
+    }
+}
+
+#[cfg(feature = "apart")]
+impl Board {
+    /// The first T card, if a node is held: its number, the card.
+    pub fn held(&self) -> Option<(u32, Card)> {
+        self.cards(T).next()
+    }
+
+    /// A', packed: A with 2^20 alone in the row and column of each node that is held.
+    pub fn cleared(&self) -> Vec<i64> {
+        let mut matrix = self.packed[1].clone();
+        for (_, card) in self.cards(T) {
+            let node = card[1] as usize - 1;
+            for other in 0..self.nodes {
+                matrix[triangle(node.max(other)) + node.min(other)] = 0;
+            }
+            matrix[triangle(node) + node] = 1 << 20;
+        }
+        matrix
+    }
+
+    /// A packed triangle in the kept form.
+    pub fn shrunk(&self, packed: &[i64]) -> Vec<i64> {
+        shrunk(&firsts(&self.table), packed)
     }
 }
 

@@ -9,15 +9,21 @@ const RUN_NANOSECONDS: u128 = 40_000;
 pub type Work<'a> = Box<dyn FnMut() -> u64 + 'a>;
 
 /// Nanoseconds a call. Each work answers 0, or the measuring ends: a refused call is no measure.
-pub fn in_turns<const K: usize>(mut works: [Work; K]) -> [f64; K] {
+pub fn in_turns<const K: usize>(works: [Work; K]) -> [f64; K] {
+    let times = all_in_turns(works.into(), RUNS);
+    times.try_into().expect("a time for each work")
+}
+
+/// The same of as many works as there are, in so many runs.
+pub fn all_in_turns(mut works: Vec<Work>, count: usize) -> Vec<f64> {
     let calls = works.iter_mut().map(calls_a_run).min().expect("a work");
-    let mut times = [0; K].map(|_| Vec::with_capacity(RUNS));
-    for _ in 0..RUNS {
+    let mut times = vec![Vec::with_capacity(count); works.len()];
+    for _ in 0..count {
         for (times, work) in times.iter_mut().zip(&mut works) {
             times.push(run(work, calls));
         }
     }
-    times.map(|runs| median(runs, calls))
+    times.into_iter().map(|runs| median(runs, calls)).collect()
 }
 
 fn run(work: &mut Work, calls: u128) -> u128 {

@@ -2,9 +2,13 @@
 //! turns.
 //!
 //!     bench DECK..
+//!     bench replacing DECK        replacements, against full factorings
+//!     bench names DECK            what those are called
+//!     bench again NAME DECK       one of them, or a build, again and again, for bench/parts to look at
 //!
 //! The decks rise in nodes and build. reference/ divides as the paper writes it: its R is x/2^20 by a division.
 //!
+//! With the feature `apart` and the word replacing the archive's loop of a factor alone, with `ldl` SuiteSparse's too.
 //! With the feature `run` also the deck's steps in one call, and the same with changes. With the feature `before` it is the archive's calls against those of an archive from before rows were kept.
 
 #[path = "../../reference/tests/common/mod.rs"]
@@ -16,12 +20,18 @@ mod face;
 #[allow(dead_code)]
 mod packed_face;
 
+#[cfg(feature = "apart")]
+mod apart;
 mod archive;
 #[cfg(feature = "before")]
 mod before;
 mod boards;
 mod clock;
+#[cfg(feature = "ldl")]
+mod ldl;
 mod plain;
+#[cfg(feature = "apart")]
+mod replacing;
 
 use boards::Board;
 use clock::in_turns;
@@ -32,10 +42,15 @@ const SHOWN: [usize; 3] = [12, 48, 96];
 const ROUNDS: usize = 5;
 
 fn main() {
-    let boards: Vec<Board> = std::env::args()
-        .skip(1)
-        .map(|path| Board::read(&path))
-        .collect();
+    let words: Vec<String> = std::env::args().skip(1).collect();
+    #[cfg(feature = "apart")]
+    match &words[..] {
+        [word, deck] if word == "replacing" => return replacing::table(&Board::read(deck)),
+        [word, deck] if word == "names" => return replacing::names(&Board::read(deck)),
+        [word, name, deck] if word == "again" => return replacing::again(&Board::read(deck), name),
+        _ => {}
+    }
+    let boards: Vec<Board> = words.iter().map(|path| Board::read(path)).collect();
     #[cfg(feature = "before")]
     return before::calls(&boards);
     #[cfg(not(feature = "before"))]

@@ -31,6 +31,26 @@ pub fn build_kept(board: &Board) -> Work<'_> {
     })
 }
 
+/// A' put into the packed triangle, which a factoring begins with.
+#[cfg(feature = "apart")]
+pub fn copy<'a>(cleared: &'a [i64]) -> Work<'a> {
+    let mut matrix = cleared.to_vec();
+    Box::new(move || {
+        std::hint::black_box(&mut matrix[..]).copy_from_slice(cleared);
+        0
+    })
+}
+
+/// The same, and the loop of the factor.
+#[cfg(feature = "apart")]
+pub fn factor<'a>(board: &'a Board, cleared: &'a [i64]) -> Work<'a> {
+    let mut matrix = cleared.to_vec();
+    Box::new(move || {
+        std::hint::black_box(&mut matrix[..]).copy_from_slice(cleared);
+        reference::factor(&mut matrix, board.nodes).packed()
+    })
+}
+
 pub fn replace_packed<'a>(board: &'a Board, change: &Change) -> Work<'a> {
     let [mut p, mut a, mut factor, mut work] = board.packed.clone();
     let (mut table, card, mut cards) = (board.table.clone(), change.card, change.cards());

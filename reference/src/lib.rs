@@ -29,5 +29,5 @@ pub use answer::{Answer, Ran, Refusal, Stepped};
 pub use calls::{read, write};
 pub use card::{Card, MAX_BYTES, MAX_NODES, MAX_ROWS};
 pub use import::import;
-pub use packed::{build, replace, run, step};
+pub use packed::{build, factor, replace, run, step};
 pub use radiation::loss;

@@ -57,6 +57,11 @@ pub fn run(
     calls::run::<Packed>(table, [p, a, factor, work], &[], temperatures, carried).into()
 }
 
+/// The factor of A' of n nodes in its place, nothing else: what a whole call is measured against.
+pub fn factor(matrix: &mut [i64], n: usize) -> Answer {
+    Packed { n }.factor(&[], matrix, 0).into()
+}
+
 pub struct Packed {
     n: usize,
 }
