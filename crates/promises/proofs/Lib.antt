@@ -15,3 +15,4 @@ pub mod KeptReplacing
 pub mod Changes
 pub mod Commuting
 pub mod Records
+pub mod Zones

@@ -25,6 +25,7 @@ mod met_rows;
 mod met_runs;
 mod met_solids;
 mod met_thin;
+mod met_zones;
 mod packed;
 mod packed_face;
 mod plan;
@@ -36,6 +37,7 @@ mod shrink;
 mod solids;
 mod thin;
 mod trial;
+mod zones;
 
 use std::process::ExitCode;
 use std::time::Duration;
@@ -57,10 +59,12 @@ fn main() -> ExitCode {
     figures::all(packed::call);
     figures::rows();
     figures::changes();
-    println!("P1 to P12, the figures of the edge film, the tetrahedron, the residuals, thin triangles, starts and changes out of the archive: as the papers have them");
+    figures::zones();
+    println!("P1 to P12, the figures of the edge film, the tetrahedron, the residuals, thin triangles, starts, changes and zones out of the archive: as the papers have them");
     println!("seed {seed}");
     let mut trial = trial::Trial::new(seed, MOST);
-    let parts = plan::LENT.into_iter().chain(runs::ALL).chain(posted::ALL);
+    let lent = plan::LENT.into_iter().chain(runs::ALL);
+    let parts = lent.chain(posted::ALL).chain(zones::ALL);
     let parts = parts.chain(plan::DAMAGED);
     for (name, part) in parts {
         let (cases, seconds) = (trial.cases(), trial.seconds());
