@@ -36,7 +36,7 @@ module _ {all : Bool} {old new : List ℤ} {counts members edges summary₀ summ
   pub row-in : zones counts * 3 ≤ length summary₀ → z < zones counts → z * 3 + 3 ≤ length summary
   row-in r h = omega (arith, v .long)
 
-  pub refresh-asks : Laid old new counts members edges summary₀ → z < zones counts → Moved old new (take (at + getD counts z 0 - at) (drop at members))
+  pub refresh-asks : Laid all old new counts members edges summary₀ → z < zones counts → Moved all old new (take (at + getD counts z 0 - at) (drop at members))
   refresh-asks q h = record {
     n = q .n;
     old-long = q .old-long;

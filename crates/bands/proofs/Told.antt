@@ -14,11 +14,11 @@ use Rattle.laws.proofs.Zones.{room-told, right, AgreeTo}
 use Rattle.laws.proofs.Fresh.{same}
 use Rattle.bands.specs.Asks.{Laid, rowsThen, moved}
 
-pub laid-asks : (n : ℕ) (old new : List ℤ) (counts members edges summary : List ℕ) → n ≤ length old → n ≤ length new → roomFor counts members summary ≡ true → zonesJudged n counts members edges ≡ Done → Laid old new counts members edges summary
-laid-asks n old new counts members edges summary a b f e =
+pub laid-asks : (all : Bool) (n : ℕ) (old new : List ℤ) (counts members edges summary : List ℕ) → (all ≡ false → n ≤ length old) → n ≤ length new → roomFor counts members summary ≡ true → zonesJudged n counts members edges ≡ Done → Laid all old new counts members edges summary
+laid-asks all n old new counts members edges summary a b f e =
     let q = right n counts members edges e in
     let (m, r) = room-told counts members summary f in
-    record { n = n; old-long = a; new-long = b; few = q .few; low = q .low; all = m; room = r; each = q .each }
+    record { n = n; old-long = a; new-long = b; few = q .few; low = q .low; inside = m; room = r; each = q .each }
 
 -- of all zones it is a summary made afresh
 pub all-is : (old t : List ℤ) (counts members edges summary : List ℕ) → rowsThen true old t counts members edges summary ≡ laid counts (summaryOf t counts members edges) summary

@@ -24,8 +24,8 @@ use Rattle.bands.specs.Asks.{Node, Zoned, Moved, rowThen}
 
 -- ---- comparisons of temperatures, as code has them
 
-pub lt-rd32 : {x y : ℤ} {b : Bool} → SFits w32 x → SFits w32 y → ltZ (rd32 x) (rd32 y) ≡ b → ltZ x y ≡ b
-lt-rd32 f g e = (λ i. ltZ (sym (toZ-ofZ f) i) (sym (toZ-ofZ g) i)) ∙ e
+pub lt-rd : {x y : ℤ} {b : Bool} → SFits w64 x → SFits w64 y → ltZ (rd x) (rd y) ≡ b → ltZ x y ≡ b
+lt-rd f g e = (λ i. ltZ (sym (toZ-ofZ f) i) (sym (toZ-ofZ g) i)) ∙ e
 
 module _ (x y : ℤ) (a b : ℕ) where
   pub ahead-low : ltZ x y ≡ true → true ≡ ahead x y a b
@@ -37,30 +37,30 @@ module _ (x y : ℤ) (a b : ℕ) where
   pub ahead-same : ltZ x y ≡ false → ltZ y x ≡ false → ltb a b ≡ ahead x y a b
   ahead-same e f = sym (λ i. cond (e i) true (cond (f i) false (ltb a b)))
 
--- a temperature of 64 bits beside one of 32
-module _ {x y : ℤ} (f : SFits w64 x) (g : SFits w32 y) where
-  pub lt-wide : {b : Bool} → ltZ (rd x) (rd (rd32 y)) ≡ b → ltZ x y ≡ b
-  lt-wide e = (λ i. ltZ (sym (toZ-ofZ f) i) (sym (wide-is g) i)) ∙ e
+-- a temperature of 32 bits beside one of 64
+module _ {x y : ℤ} (f : SFits w32 x) (g : SFits w64 y) where
+  lt-wide : {b : Bool} → ltZ (rd (rd32 x)) (rd y) ≡ b → ltZ x y ≡ b
+  lt-wide e = (λ i. ltZ (sym (wide-is f) i) (sym (toZ-ofZ g) i)) ∙ e
 
-  pub wide-lt : {b : Bool} → ltZ (rd (rd32 y)) (rd x) ≡ b → ltZ y x ≡ b
-  wide-lt e = (λ i. ltZ (sym (wide-is g) i) (sym (toZ-ofZ f) i)) ∙ e
+  wide-lt : {b : Bool} → ltZ (rd y) (rd (rd32 x)) ≡ b → ltZ y x ≡ b
+  wide-lt e = (λ i. ltZ (sym (toZ-ofZ g) i) (sym (wide-is f) i)) ∙ e
 
-  pub differ-first : ltZ (rd x) (rd (rd32 y)) ≡ true → ltZ (rd x) (rd (rd32 y)) ≡ differ x y
+  pub differ-first : ltZ (rd (rd32 x)) (rd y) ≡ true → ltZ (rd (rd32 x)) (rd y) ≡ differ x y
   differ-first e = e ∙ sym (ap (λ (b : Bool). b || ltZ y x) (lt-wide e))
 
-  pub differ-rest : ltZ (rd x) (rd (rd32 y)) ≡ false → ltZ (rd (rd32 y)) (rd x) ≡ differ x y
+  pub differ-rest : ltZ (rd (rd32 x)) (rd y) ≡ false → ltZ (rd y) (rd (rd32 x)) ≡ differ x y
   differ-rest e = sym (wide-lt refl) ∙ sym (ap (λ (b : Bool). b || ltZ y x) (lt-wide e))
 
   -- a test of the two, as it is called
-  pub differ-is : {p q : ℤ} → x ≡ p → y ≡ q → (r : Bool) → r ≡ differ (rd x) (rd32 y) → r ≡ differ p q
+  pub differ-is : {p q : ℤ} → x ≡ p → y ≡ q → (r : Bool) → r ≡ differ (rd32 x) (rd y) → r ≡ differ p q
   differ-is ex ey r e = e ∙ (λ i. differ ((toZ-ofZ f ∙ ex) i) ((toZ-ofZ g ∙ ey) i))
 
-module _ (t : List ℤ) (hot : Bool) (a b : ℕ) {x y : ℤ} (f : SFits w32 x) (g : SFits w32 y) (ex : x ≡ ticksOf t a) (ey : y ≡ ticksOf t b) (r : Bool) where
-  pub leads-hot : r ≡ ahead (rd32 y) (rd32 x) a b → hot ≡ true → r ≡ leads t hot a b
+module _ (t : List ℤ) (hot : Bool) (a b : ℕ) {x y : ℤ} (f : SFits w64 x) (g : SFits w64 y) (ex : x ≡ ticksOf t a) (ey : y ≡ ticksOf t b) (r : Bool) where
+  pub leads-hot : r ≡ ahead (rd y) (rd x) a b → hot ≡ true → r ≡ leads t hot a b
   unfolding leads
   leads-hot e h = e ∙ (λ i. ahead ((toZ-ofZ g ∙ ey) i) ((toZ-ofZ f ∙ ex) i) a b) ∙ ap (λ (q : Bool). leads t q a b) (sym h)
 
-  pub leads-cold : r ≡ ahead (rd32 x) (rd32 y) a b → hot ≡ false → r ≡ leads t hot a b
+  pub leads-cold : r ≡ ahead (rd x) (rd y) a b → hot ≡ false → r ≡ leads t hot a b
   unfolding leads
   leads-cold e h = e ∙ (λ i. ahead ((toZ-ofZ f ∙ ex) i) ((toZ-ofZ g ∙ ey) i) a b) ∙ ap (λ (q : Bool). leads t q a b) (sym h)
 
@@ -75,10 +75,10 @@ zoned-some {t} {zone} q = right-some (q .n) zone (q .right)
 pub zoned-node : {t : List ℤ} {zone : List ℕ} → Zoned t zone → (k : ℕ) → k < length zone → Node t (getD zone k 0)
 zoned-node {t} {zone} q k h = right-node (q .n) zone (q .right) t (q .long) k h
 
-pub moved-old : {old new : List ℤ} {zone : List ℕ} → Moved old new zone → Zoned old zone
-moved-old q = record { n = q .n; long = q .old-long; right = q .right }
+pub moved-old : {old new : List ℤ} {zone : List ℕ} → Moved false old new zone → Zoned old zone
+moved-old q = record { n = q .n; long = q .old-long refl; right = q .right }
 
-pub moved-new : {old new : List ℤ} {zone : List ℕ} → Moved old new zone → Zoned new zone
+pub moved-new : {all : Bool} {old new : List ℤ} {zone : List ℕ} → Moved all old new zone → Zoned new zone
 moved-new q = record { n = q .n; long = q .new-long; right = q .right }
 
 -- ---- the best node
@@ -129,11 +129,11 @@ row-three (x ∷ y ∷ []) a b d e = absurd (omega (arith, e))
 row-three (x ∷ y ∷ z ∷ []) a b d e = refl
 row-three (x ∷ y ∷ z ∷ w ∷ row) a b d e = absurd (omega (arith, e))
 
-module _ (t : List ℤ) (zone edges row : List ℕ) (long : length row ≡ 3) {x : ℤ} (f : SFits w32 x) (cold hot k : ℕ) where
-  pub written : cold ≡ extreme t false zone → hot ≡ extreme t true zone → x ≡ ticksOf t cold → k ≡ band (rd (rd32 x)) edges → set (set (set row 0 cold) 1 hot) 2 k ≡ three t edges zone
+module _ (t : List ℤ) (zone edges row : List ℕ) (long : length row ≡ 3) {x : ℤ} (f : SFits w64 x) (cold hot k : ℕ) where
+  pub written : cold ≡ extreme t false zone → hot ≡ extreme t true zone → x ≡ ticksOf t cold → k ≡ band (rd x) edges → set (set (set row 0 cold) 1 hot) 2 k ≡ three t edges zone
   unfolding three
   written ec eh ex ek =
-      let e : k ≡ band (ticksOf t (extreme t false zone)) edges = ek ∙ ap (λ (z : ℤ). band z edges) (wide-is f ∙ ex ∙ ap (ticksOf t) ec) in
+      let e : k ≡ band (ticksOf t (extreme t false zone)) edges = ek ∙ ap (λ (z : ℤ). band z edges) (toZ-ofZ f ∙ ex ∙ ap (ticksOf t) ec) in
       row-three row cold hot k long ∙ (λ i. ec i ∷ eh i ∷ e i ∷ [])
 
 module _ (all : Bool) (old new : List ℤ) (edges zone row left : List ℕ) where

@@ -21,21 +21,21 @@ pub record Zoned (t : List ℤ) (zone : List ℕ) : Type 0 where
   pub long : n ≤ length t
   pub right : wrong n zone ≡ false
 
--- one with temperatures before and after
-pub record Moved (old new : List ℤ) (zone : List ℕ) : Type 0 where
+-- one with temperatures after a step, and, where not all zones are worked out again, before it
+pub record Moved (all : Bool) (old new : List ℤ) (zone : List ℕ) : Type 0 where
   pub n : ℕ
-  pub old-long : n ≤ length old
+  pub old-long : all ≡ false → n ≤ length old
   pub new-long : n ≤ length new
   pub right : wrong n zone ≡ false
 
 -- zones that no refusal meets
-pub record Laid (old new : List ℤ) (counts members edges summary : List ℕ) : Type 0 where
+pub record Laid (all : Bool) (old new : List ℤ) (counts members edges summary : List ℕ) : Type 0 where
   pub n : ℕ
-  pub old-long : n ≤ length old
+  pub old-long : all ≡ false → n ≤ length old
   pub new-long : n ≤ length new
   pub few : zones counts ≤ 16
   pub low : length edges ≤ 14
-  pub all : zoneStart counts (zones counts) ≤ length members
+  pub inside : zoneStart counts (zones counts) ≤ length members
   pub room : zones counts * 3 ≤ length summary
   pub each : (z : ℕ) → z < zones counts → wrong n (zoneAt counts members z) ≡ false
 

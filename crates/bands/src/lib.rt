@@ -2,7 +2,7 @@
 use paper::Answer;
 use paper::Refusal;
 ghost use mathlib.Core.Path.{_≡_};
-ghost use mathlib.Core.Bool.{true};
+ghost use mathlib.Core.Bool.{false};
 ghost use Prim.Native.Nat.{_≤_, _<_};
 ghost use lib.Dec.{ltb};
 ghost use lib.ListN.{length, getD};
@@ -12,8 +12,7 @@ ghost use Rattle.bands.specs.Asks.{Node, Zoned, Moved, Laid, rowThen, ro
 
 // ---- a zone's three numbers
 
-// A node's temperature, in 32 bits: it is on the scale.
-fn ticks_of(t: &[i32], node: u32) -> i32
+fn ticks_of(t: &[i64], node: u32) -> i64
     requires { ⌜ Node (now t) node ⌝ }
     ensures { λ r. ⌜ r ≡ ticksOf (now (t .entry)) node ⌝ }
 {
@@ -21,7 +20,7 @@ fn ticks_of(t: &[i32], node: u32) -> i32
     t[k]
 }
 
-fn ahead(x: i32, y: i32, a: u32, b: u32) -> bool
+fn ahead(x: i64, y: i64, a: u32, b: u32) -> bool
     ensures { λ r. ⌜ r ≡ ahead x y a b ⌝ }
 {
     if x < y {
@@ -34,7 +33,7 @@ fn ahead(x: i32, y: i32, a: u32, b: u32) -> bool
 }
 
 // Whether node a is colder than node b, or hotter where that is asked; the lowest number among equals.
-fn leads(t: &[i32], hot: bool, a: u32, b: u32) -> bool
+fn leads(t: &[i64], hot: bool, a: u32, b: u32) -> bool
     requires { ⌜ Node (now t) a × Node (now t) b ⌝ }
     ensures { λ r. ⌜ r ≡ leads (now (t .entry)) hot a b ⌝ }
 {
@@ -46,7 +45,7 @@ fn leads(t: &[i32], hot: bool, a: u32, b: u32) -> bool
     ahead(x, y, a, b)
 }
 
-fn better(t: &[i32], hot: bool, a: u32, b: u32) -> u32
+fn better(t: &[i64], hot: bool, a: u32, b: u32) -> u32
     requires { ⌜ Node (now t) a × Node (now t) b ⌝ }
     ensures { λ r. ⌜ r ≡ better (now (t .entry)) hot a b ⌝ }
 {
@@ -54,7 +53,7 @@ fn better(t: &[i32], hot: bool, a: u32, b: u32) -> u32
 }
 
 // The coldest node of a zone, or the hottest.
-fn extreme(t: &[i32], hot: bool, zone: &[u32]) -> u32
+fn extreme(t: &[i64], hot: bool, zone: &[u32]) -> u32
     requires { ⌜ Zoned (now t) (now zone) ⌝ }
     ensures { λ r. ⌜ (r ≡ extreme (now (t .entry)) hot (now (zone .entry))) × Node (now (t .entry)) r ⌝ }
 {
@@ -87,13 +86,13 @@ fn band(x: i64, edges: &[u32]) -> u32
     count
 }
 
-fn write(t: &[i32], zone: &[u32], edges: &[u32], row: &mut [u32])
+fn write(t: &[i64], zone: &[u32], edges: &[u32], row: &mut [u32])
     requires { ⌜ Zoned (now t) (now zone) × (length (now edges) ≤ 14) × (length (now row) ≡ 3) ⌝ }
     ensures { λ _. ⌜ now (row .exit) ≡ three (now (t .entry)) (now (edges .entry)) (now (zone .entry)) ⌝ }
 {
     let cold = extreme(t, false, zone);
     let hot = extreme(t, true, zone);
-    let k = band(ticks_of(t, cold) as i64, edges);
+    let k = band(ticks_of(t, cold), edges);
     row[0] = cold;
     row[1] = hot;
     row[2] = k;
@@ -101,15 +100,15 @@ fn write(t: &[i32], zone: &[u32], edges: &[u32], row: &mut [u32])
 
 // ---- what has changed
 
-fn differ(x: i64, y: i32) -> bool
+fn differ(x: i32, y: i64) -> bool
     ensures { λ r. ⌜ r ≡ differ x y ⌝ }
 {
-    let z = y as i64;
-    x < z || z < x
+    let z = x as i64;
+    z < y || y < z
 }
 
-// A node's temperature before the step, as it was lent.
-fn old_of(t: &[i64], node: u32) -> i64
+// A node's temperature before the step, as a copy in 32 bits has it.
+fn old_of(t: &[i32], node: u32) -> i32
     requires { ⌜ Node (now t) node ⌝ }
     ensures { λ r. ⌜ r ≡ ticksOf (now (t .entry)) node ⌝ }
 {
@@ -118,8 +117,8 @@ fn old_of(t: &[i64], node: u32) -> i64
 }
 
 // Whether a node of the zone has changed.
-fn changed(old: &[i64], new: &[i32], zone: &[u32]) -> bool
-    requires { ⌜ Moved (now old) (now new) (now zone) ⌝ }
+fn changed(old: &[i32], new: &[i64], zone: &[u32]) -> bool
+    requires { ⌜ Moved false (now old) (now new) (now zone) ⌝ }
     ensures { λ r. ⌜ r ≡ changed (now (old .entry)) (now (new .entry)) (now (zone .entry)) ⌝ }
 {
     let mut i = 0;
@@ -134,7 +133,7 @@ fn changed(old: &[i64], new: &[i32], zone: &[u32]) -> bool
 }
 
 // Whether any node has: one comparison a node.
-pub fn moved(old: &[i64], new: &[i32]) -> bool
+pub fn moved(old: &[i32], new: &[i64]) -> bool
     requires { ⌜ length (now new) ≡ length (now old) ⌝ }
     ensures { λ r. ⌜ r ≡ moved (now (old .entry)) (now (new .entry)) ⌝ }
 {
@@ -150,8 +149,8 @@ pub fn moved(old: &[i64], new: &[i32]) -> bool
 
 // ---- the zones that are worked out again
 
-fn refresh_row(all: bool, old: &[i64], new: &[i32], zone: &[u32], edges: &[u32], row: &mut [u32])
-    requires { ⌜ Moved (now old) (now new) (now zone) × (length (now edges) ≤ 14) × (length (now row) ≡ 3) ⌝ }
+fn refresh_row(all: bool, old: &[i32], new: &[i64], zone: &[u32], edges: &[u32], row: &mut [u32])
+    requires { ⌜ Moved all (now old) (now new) (now zone) × (length (now edges) ≤ 14) × (length (now row) ≡ 3) ⌝ }
     ensures { λ _. ⌜ now (row .exit) ≡ rowThen all (now (old .entry)) (now (new .entry)) (now (edges .entry)) (now (zone .entry)) (now (row .entry)) ⌝ }
 {
     if all {
@@ -164,17 +163,17 @@ fn refresh_row(all: bool, old: &[i64], new: &[i32], zone: &[u32], edges: &[u32],
     write(new, zone, edges, &mut row[..]);
 }
 
-// Each zone's numbers: of all of them, or of those with a changed node.
+// Each zone's numbers: of all of them, and then the old temperatures are not looked at, or of those with a changed node.
 pub fn refresh(
     all: bool,
-    old: &[i64],
-    new: &[i32],
+    old: &[i32],
+    new: &[i64],
     counts: &[u32],
     members: &[u32],
     edges: &[u32],
     summary: &mut [u32],
 )
-    requires { ⌜ Laid (now old) (now new) (now counts) (now members) (now edges) (now summary) ⌝ }
+    requires { ⌜ Laid all (now old) (now new) (now counts) (now members) (now edges) (now summary) ⌝ }
     ensures { λ _. ⌜ now (summary .exit) ≡ rowsThen all (now (old .entry)) (now (new .entry)) (now (counts .entry)) (now (members .entry)) (now (edges .entry)) (now (summary .entry)) ⌝ }
 {
     let mut at = 0;

@@ -1,5 +1,4 @@
 // What C links: each call on plain numbers and slices, its answer as one number.
-use paper::Stepped;
 ghost use mathlib.Core.Path.{_≡_};
 ghost use mathlib.Core.List.{List, [], _∷_};
 ghost use Rattle.paper.specs.Calls.{gave, marked, readToC, writeToC};
@@ -86,34 +85,6 @@ pub extern "C" fn gormulast_replace(
     ))
 }
 
-// A step is one with no zones: so its code, and its stack, are there once.
-fn alone(
-    table: &[u32],
-    p: &[i64],
-    a: &[i64],
-    factor: &[i64],
-    starts: &[u32],
-    temperatures: &mut [i64],
-    carried: &mut [i64],
-) -> Stepped
-    ensures { λ e. ⌜ (e ≡ keptStep (kept (now (table .entry)) (now (p .entry)) (now (a .entry)) (now (factor .entry)) [] (now (starts .entry)) (now (temperatures .entry)) (now (carried .entry))) .answer) × ((kept (now (table .entry)) (now (p .entry)) (now (a .entry)) (now (factor .entry)) [] (now (starts .entry)) (now (temperatures .exit)) (now (carried .exit))) ≡ keptStep (kept (now (table .entry)) (now (p .entry)) (now (a .entry)) (now (factor .entry)) [] (now (starts .entry)) (now (temperatures .entry)) (now (carried .entry))) .kept) ⌝ }
-{
-    let mut summary = [0u32; 1];
-    zones::step(
-        table,
-        p,
-        a,
-        factor,
-        starts,
-        &mut temperatures[..],
-        &mut carried[..],
-        &starts[0..0],
-        &starts[0..0],
-        &starts[0..0],
-        &mut summary[0..0],
-    )
-}
-
 #[no_mangle]
 pub extern "C" fn gormulast_step(
     table: &[u32],
@@ -126,7 +97,7 @@ pub extern "C" fn gormulast_step(
 ) -> u64
     ensures { λ r. ⌜ gave r (kept (now (table .entry)) (now (p .entry)) (now (a .entry)) (now (factor .entry)) [] (now (starts .entry)) (now (temperatures .exit)) (now (carried .exit))) ≡ keptStepToC (keptStep (kept (now (table .entry)) (now (p .entry)) (now (a .entry)) (now (factor .entry)) [] (now (starts .entry)) (now (temperatures .entry)) (now (carried .entry)))) ⌝ }
 {
-    paper::packed_step(alone(
+    paper::packed_step(step::step(
         table,
         p,
         a,

@@ -1,5 +1,5 @@
 -- The laws of corrections, one after another.
-pub mod Boards
+mod Boards
 mod Corrections
-mod Copying
+pub mod Copying
 pub mod Ends

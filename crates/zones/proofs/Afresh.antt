@@ -22,9 +22,6 @@ use Rattle.paper.specs.declared.Refusal.the-variants.{Short, OffScale}
 use Rattle.laws.proofs.Judged.{deck}
 use Rattle.laws.proofs.Joined.{joined-same}
 use Rattle.laws.proofs.Zones.{right-some, right, AgreeTo, inside, three-ext}
-use Rattle.lent.specs.Rows.{Mild}
-use Rattle.lent.proofs.Told.{mild}
-use Rattle.bands.specs.Asks.{Laid}
 use Rattle.zones.specs.Asks.{exitOf, summarisesOf}
 
 -- ---- of lent temperatures the deck's alone matter
@@ -57,16 +54,6 @@ module _ (n : ℕ) (t : List ℤ) (counts members edges summary : List ℕ) (h :
   front-exit =
       ap (λ (k : ℕ). exitOf (zonesJudged (length (take (n - 0) t)) counts members edges) (take k t) counts members edges summary) (let k : n - 0 ≡ n = omega arith in k)
       ∙ exit-front n t counts members edges summary (length (take (n - 0) t)) front-long
-
-pub front-asks : (n : ℕ) (t : List ℤ) (counts members summary : List ℕ) → n ≤ 96 → n ≤ length t → {node : ℕ} → node ≡ offScale n t → node ≡ 0 → roomFor counts members summary ≡ true
-    → (length (take (n - 0) t) ≤ 96) × Mild (take (n - 0) t) (length (take (n - 0) t)) × (roomFor counts members summary ≡ true)
-front-asks n t counts members summary few h e z room =
-    let long = front-long n t counts members [] summary h in
-    let k : n ≡ n - 0 = omega arith in
-    (omega (arith, long), subst (λ (m : ℕ). Mild (take (n - 0) t) m) (sym long) (subst (λ (m : ℕ). Mild (take m t) n) k (mild n t h (sym e ∙ z))), room)
-
-pub new-laid : {old new : List ℤ} {counts members edges summary : List ℕ} → Laid old old counts members edges summary → new ≡ old → Laid old new counts members edges summary
-new-laid {old} {new} {counts} {members} {edges} {summary} q e = subst (λ (x : List ℤ). Laid old x counts members edges summary) (sym e) q
 
 -- ---- the refusals in turn
 

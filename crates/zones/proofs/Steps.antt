@@ -1,134 +1,30 @@
--- The step over what a deck covers, as the step of all that is lent, and the whole call.
+-- The whole call: the deck's refusals, 9 and 17, and then the step and the zones.
 use mathlib.Core.Path.{_≡_, refl, sym, ap, subst, _∙_}
-use mathlib.Core.Bool.{Bool, true, false, not, cond, _&&_}
-use mathlib.Core.List.{List, [], _++_}
-use Prim.Native.Nat.{ℕ, zero, suc, _-_, _≤_}
-use native.Mathlib.Omega.{arith}
+use mathlib.Core.Bool.{Bool, true, false, cond, _&&_}
+use mathlib.Core.List.{List, []}
+use Prim.Native.Nat.{ℕ}
 use lib.Dec.{leb}
-use lib.IntN.{ℤ, pos}
-use lib.ListN.{length, take, drop, take-append-drop, List·getD-append}
-use lib.Seq.{length-take-le}
-use Rattle.paper.specs.Refusals.{Outcome, refused, done, when, unlessAt, andThen}
+use lib.IntN.{ℤ}
+use lib.ListN.{length}
+use Rattle.paper.specs.Refusals.{Outcome, refused, done, andThen}
 use Rattle.paper.specs.Cards.{nodes}
 use Rattle.paper.specs.Judge.{judged}
-use Rattle.paper.specs.Building.{Slices, slices}
-use Rattle.paper.specs.Lent.{foreign, laden}
-use Rattle.paper.specs.Step.{Board, Settling, boardOf, stepped, residuals, offScale}
+use Rattle.paper.specs.Step.{Settling}
 use Rattle.paper.specs.Calls.{Lent, lent, StepExit, leftStep, endsStep, stepCall}
 use Rattle.paper.specs.KeptCalls.{Kept, kept, orElse, lengthsJudged, startsJudged, KeptStepExit, leftKeptStep, nodesJudged, keptStep}
-use Rattle.paper.specs.Zones.{zones, zoneAt, refreshed, roomFor, zonesJudged, Zoned, zoned, ZonesStepExit, leftZoned, settles, zonesStep}
+use Rattle.paper.specs.Zones.{refreshed, roomFor, zonesJudged, zoned, ZonesStepExit, leftZoned, settles, zonesStep}
 use Rattle.paper.specs.declared.Answer.{Answer}
 use Rattle.paper.specs.declared.Answer.the-variants.{Done, Refused}
 use Rattle.paper.specs.declared.Refusal.{Refusal}
-use Rattle.paper.specs.declared.Refusal.the-variants.{Short, Foreign, OffScale}
+use Rattle.paper.specs.declared.Refusal.the-variants.{Short}
 use Rattle.paper.specs.declared.Stepped.{Stepped}
 use Rattle.paper.specs.declared.Stepped.the-variants as stepAnswer
-use Rattle.laws.proofs.Outcomes.{both-done, when-done, refused-done}
-use Rattle.laws.proofs.Settled.{attempts-settle, stepOutcome, step-is}
+use Rattle.laws.proofs.Outcomes.{both-done}
+use Rattle.laws.proofs.Settled.{stepOutcome, step-is}
 use Rattle.laws.proofs.KeptCalls as laws
 use Rattle.laws.proofs.KeptCalls.{wideOf}
-use Rattle.laws.proofs.Zones.{right, AgreeTo, refreshed-ext}
 use Rattle.laws.proofs.KeptLeft.{refused-one}
-use Rattle.starts.specs.Lent.{wide}
-use Rattle.settle.specs.Asks.{Ending, ending, endsAs}
-use Rattle.step.specs.Asks.{pastNine, Past}
-use Rattle.step.proofs.Past.{own, cut-is}
 use Rattle.zones.specs.Asks.{ZonesEnding, zonesEnding, zonesEnd, exitEnding, shortOf}
-use Rattle.zones.proofs.Afresh.{agree-take}
-
--- ---- a settled step has as many temperatures as before
-
-unless-done : {X : Type 0} (k : ℕ) (why : ℕ → Refusal) (o : Outcome X) (x : X) → unlessAt k why o ≡ done x → o ≡ done x
-unless-done zero why o x e = e
-unless-done (suc k) why o x e = refused-done e
-
-settled-long : (n : ℕ) (t : List ℕ) (s : Slices) (old carried : List ℤ) (x : Settling) → pastNine n t s old carried ≡ done x → length (x .temperatures) ≡ length old
-unfolding pastNine stepped boardOf
-settled-long n t s old carried x e =
-    let b = boardOf t (s .p) (s .a) old carried in
-    let o = stepped b (s .factor) in
-    let (f, e₁) = when-done (not (foreign n s)) Foreign (when (not (laden n carried)) Foreign (unlessAt (offScale n old) OffScale o)) x e in
-    let (g, e₂) = when-done (not (laden n carried)) Foreign (unlessAt (offScale n old) OffScale o) x e₁ in
-    attempts-settle b (s .factor) 3 1 old (residuals b old) x (unless-done (offScale n old) OffScale o x e₂) .long
-
-ends-long : (n : ℕ) (t : List ℕ) (s : Slices) (old carried : List ℤ) → length (endsAs (boardOf t (s .p) (s .a) old carried) carried (pastNine n t s old carried) .temperatures) ≡ length old
-unfolding boardOf
-ends-long n t s old carried = go (pastNine n t s old carried) refl
-  where
-    go : (o : Outcome Settling) → pastNine n t s old carried ≡ o → length (endsAs (boardOf t (s .p) (s .a) old carried) carried o .temperatures) ≡ length old
-    go (done x) e = settled-long n t s old carried x e
-    go (refused r) e = refl
-
-ends-eta : (b : Board) (carried : List ℤ) (o : Outcome Settling) → ending (endsAs b carried o .answer) (endsAs b carried o .temperatures) (endsAs b carried o .carried) ≡ endsAs b carried o
-ends-eta b carried (done x) = refl
-ends-eta b carried (refused r) = refl
-
--- ---- the deck's part, and all that is lent
-
-agree-front : (n : ℕ) (t rest : List ℤ) → length t ≡ n → AgreeTo n t (t ++ rest)
-agree-front n t rest e k a b = sym (List·getD-append t rest (pos 0) (k - 1) (omega arith))
-
-module _ (k : ℕ) (counts members edges summary : List ℕ) (old carried : List ℤ) where
-  abbrev longer : ZonesEnding → ZonesEnding
-  longer q = zonesEnding (q .answer) (q .temperatures ++ drop k old) (q .carried ++ drop k carried) (q .summary)
-
-  front-refused : (r : Refusal) → longer (zonesEnding (stepAnswer.Refused r) (take k old) (take k carried) summary) ≡ zonesEnding (stepAnswer.Refused r) old carried summary
-  front-refused r = λ i. zonesEnding (stepAnswer.Refused r) (take-append-drop k old i) (take-append-drop k carried i) summary
-
-  longer-is : (x : Ending) → length (x .temperatures) ≡ k
-      → longer (zonesEnd k counts members edges summary (take k old) (take k carried) x) ≡ zonesEnd k counts members edges summary old carried (ending (x .answer) (x .temperatures ++ drop k old) (x .carried ++ drop k carried))
-  longer-is x long = go (x .answer) (zonesJudged k counts members edges) refl
-    where
-      go : (a : Stepped) (j : Answer) → zonesJudged k counts members edges ≡ j
-          → longer (settles a (λ r. zonesEnding (stepAnswer.Refused r) (take k old) (take k carried) summary) (λ c. orElse j (λ r. zonesEnding (stepAnswer.Refused r) (take k old) (take k carried) summary) (zonesEnding (stepAnswer.Settled c) (x .temperatures) (x .carried) (refreshed (take k old) (x .temperatures) counts members edges summary))))
-          ≡ settles a (λ r. zonesEnding (stepAnswer.Refused r) old carried summary) (λ c. orElse j (λ r. zonesEnding (stepAnswer.Refused r) old carried summary) (zonesEnding (stepAnswer.Settled c) (x .temperatures ++ drop k old) (x .carried ++ drop k carried) (refreshed old (x .temperatures ++ drop k old) counts members edges summary)))
-      go (stepAnswer.Refused r) j e = front-refused r
-      go (stepAnswer.Settled c) (Refused r) e = front-refused r
-      go (stepAnswer.Settled c) Done e =
-          λ i. zonesEnding (stepAnswer.Settled c) (x .temperatures ++ drop k old) (x .carried ++ drop k carried)
-          (refreshed-ext k (take k old) old (x .temperatures) (x .temperatures ++ drop k old) (agree-take k old) (agree-front k (x .temperatures) (drop k old) long) counts members edges summary (right k counts members edges e .each) i)
-
--- ---- past 9 and 17
-
-module _ {t : List ℕ} {p a f : List ℤ} {st : List ℕ} {old carried : List ℤ} {long : ℕ} (q : Past t p a f st old carried long) (n : ℕ) (en : n ≡ nodes t) (counts members edges summary : List ℕ) where
-  abbrev wp : List ℤ
-  wp = wide (take (n - 0) st) (take (long - 0) p)
-
-  abbrev wa : List ℤ
-  wa = wide (take (n - 0) st) (take (long - 0) a)
-
-  abbrev wf : List ℤ
-  wf = wide (take (n - 0) st) (take (long - 0) f)
-
-  abbrev x : Ending
-  x = endsAs (boardOf t wp wa (take (n - 0) old) (take (n - 0) carried)) (take (n - 0) carried) (pastNine (length (take (n - 0) st)) t (slices wp wa wf) (take (n - 0) old) (take (n - 0) carried))
-
-  m-is : n - 0 ≡ nodes t
-  m-is = omega arith
-
-  front : length (take (n - 0) old) ≡ n - 0
-  front = length-take-le (n - 0) old (omega (arith, q .old-room))
-
-  x-long : length (x .temperatures) ≡ length (take (n - 0) old)
-  x-long = ends-long (length (take (n - 0) st)) t (slices wp wa wf) (take (n - 0) old) (take (n - 0) carried)
-
-  x-eta : ending (x .answer) (x .temperatures) (x .carried) ≡ x
-  x-eta =
-      ends-eta (boardOf t wp wa (take (n - 0) old) (take (n - 0) carried)) (take (n - 0) carried)
-      (pastNine (length (take (n - 0) st)) t (slices wp wa wf) (take (n - 0) old) (take (n - 0) carried))
-
-  -- THEOREM. What the work over the deck's part leaves is document 01's step of all that is lent, and then the zones.
-  pub cut-zones : {e : Stepped} {new on : List ℤ} {made : List ℕ}
-      → zonesEnding e new on made ≡ zonesEnd (length (take (n - 0) st)) counts members edges summary (take (n - 0) old) (take (n - 0) carried) x
-      → zonesEnding e (new ++ drop (n - 0) old) (on ++ drop (n - 0) carried) made
-      ≡ zonesEnd (nodes t) counts members edges summary old carried (exitEnding (stepCall (lent t (wideOf t p) (wideOf t a) (wideOf t f) [] old carried)))
-  cut-zones w =
-      let count : length (take (n - 0) st) ≡ n - 0 = own q n en .count ∙ sym m-is in
-      ap (longer (n - 0) counts members edges summary old carried) (w ∙ ap (λ (k : ℕ). zonesEnd k counts members edges summary (take (n - 0) old) (take (n - 0) carried) x) count)
-      ∙ longer-is (n - 0) counts members edges summary old carried x (x-long ∙ front)
-      ∙ (λ i. zonesEnd (m-is i) counts members edges summary old carried (exitEnding (cut-is q n en (x .answer) (x .temperatures) (x .carried) x-long x-eta i)))
-
--- ---- the whole call
 
 -- a step leaves the table and the slices as they were
 exit-is : (z : Lent) (o : Outcome Settling) → leftStep (endsStep z o .answer) (lent (z .table) (z .slices .p) (z .slices .a) (z .slices .factor) (z .work) (endsStep z o .lent .temperatures) (endsStep z o .lent .carried)) ≡ endsStep z o

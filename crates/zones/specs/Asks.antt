@@ -1,6 +1,5 @@
 -- What the stages of the zones' calls ask of each other, and what they come to.
-use mathlib.Core.Path.{_≡_}
-use mathlib.Core.Bool.{cond, _&&_}
+use mathlib.Core.Bool.{Bool, true, false, cond, _&&_}
 use mathlib.Core.List.{List}
 use Prim.Native.Nat.{ℕ}
 use lib.Dec.{leb}
@@ -8,8 +7,9 @@ use lib.IntN.{ℤ, pos}
 use lib.ListN.{length}
 use Rattle.whole.specs.Sums.{table}
 use Rattle.whole.specs.Packed.{cell}
+use Rattle.paper.specs.Ticks.{onScale}
 use Rattle.paper.specs.Refusals.{andThen}
-use Rattle.paper.specs.Step.{isFixed, offScale}
+use Rattle.paper.specs.Step.{offScale}
 use Rattle.paper.specs.Calls.{whenDone, StepExit}
 use Rattle.paper.specs.KeptCalls.{orElse}
 use Rattle.paper.specs.Zones.{laid, summaryOf, refreshed, refusedAt, roomFor, zonesJudged, ZonesExit, leftZones, settles}
@@ -19,7 +19,6 @@ use Rattle.paper.specs.declared.Refusal.{Refusal}
 use Rattle.paper.specs.declared.Refusal.the-variants.{Short, OffScale}
 use Rattle.paper.specs.declared.Stepped.{Stepped}
 use Rattle.paper.specs.declared.Stepped.the-variants as stepAnswer
-use Rattle.lent.specs.Rows.{Mild}
 use Rattle.settle.specs.Asks.{Ending, ending}
 
 -- ---- a summary made afresh
@@ -54,16 +53,6 @@ zonesEnd n counts members edges summary old carried x =
     orElse (zonesJudged n counts members edges) refuse
     (zonesEnding (stepAnswer.Settled c) (x .temperatures) (x .carried) (refreshed old (x .temperatures) counts members edges summary)))
 
--- a step that has settled: the T cards' temperatures, the new ones and their residuals beside the old and what was carried
-pub record Settled (fixed t r old carried : List ℤ) : Type 0 where
-  pub t-long : length old ≡ length t
-  pub fixed-long : length fixed ≡ length r
-  pub carried-long : length carried ≡ length r
-
--- what it leaves
-abbrev pub carriesOn : ℕ → List ℤ → List ℤ → List ℤ → Ending
-carriesOn c fixed t r = ending (stepAnswer.Settled c) t (table (length r) (λ i. cond (isFixed fixed i) (pos 0) (cell r i)))
-
 -- document 01's step, as such an ending
 abbrev pub exitEnding : StepExit → Ending
 exitEnding x = ending (x .answer) (x .lent .temperatures) (x .lent .carried)
@@ -71,3 +60,15 @@ exitEnding x = ending (x .answer) (x .lent .temperatures) (x .lent .carried)
 -- 9 after the deck's refusals
 abbrev pub shortOf : Answer → Stepped
 shortOf a = orElse a stepAnswer.Refused (stepAnswer.Refused Short)
+
+-- whether nothing is refused
+abbrev pub rightOf : Answer → Bool
+rightOf Done = true
+rightOf (Refused r) = false
+
+-- a temperature as the copy has it
+abbrev pub held : ℤ → ℤ
+held x = cond (onScale x) x (pos 0)
+
+abbrev pub copied : List ℤ → List ℤ
+copied t = table (length t) (λ i. held (cell t i))

@@ -43,7 +43,7 @@ unfolding changed
 returns c =
     let s = c .before .before .before .before .before .before .before .before .args in
     stop (length (s .zone .now)) (λ k. differ (ticksOf (s .old .now) (getD (s .zone .now) k 0)) (ticksOf (s .new .now) (getD (s .zone .now) k 0))) (c .before .before .before .before .before .before .loop .i) (c .before .differ .result) (c .before .before .before .before .before .loop-test .taken)
-    (differ-is (sfits-of (c .before .before .before .old-of .ok)) (record { sfits = c .before .before .ticks-of .ok }) (c .before .before .before .old-of .ensures) (c .before .before .ticks-of .ensures) (c .before .differ .result) (c .before .differ .ensures)) (c .if1 .taken)
+    (differ-is (record { sfits = c .before .before .before .old-of .ok }) (sfits-of (c .before .before .ticks-of .ok)) (c .before .before .before .old-of .ensures) (c .before .before .ticks-of .ensures) (c .before .differ .result) (c .before .differ .ensures)) (c .if1 .taken)
 
 add-i : tie.Need-add-i Inv-loop μ-loop
 add-i c = search needs
@@ -56,7 +56,7 @@ loop-again c =
     let s = c .before .before .before .before .before .before .before .before .args in (
       omega arith,
       any-next (c .before .before .before .before .before .before .loop .i) (λ k. differ (ticksOf (s .old .now) (getD (s .zone .now) k 0)) (ticksOf (s .new .now) (getD (s .zone .now) k 0))) (c .before .before .before .before .before .before .loop .inv .1)
-          (sym (differ-is (sfits-of (c .before .before .before .old-of .ok)) (record { sfits = c .before .before .ticks-of .ok }) (c .before .before .before .old-of .ensures) (c .before .before .ticks-of .ensures) (c .before .differ .result) (c .before .differ .ensures)) ∙ c .if1 .left),
+          (sym (differ-is (record { sfits = c .before .before .before .old-of .ok }) (sfits-of (c .before .before .ticks-of .ok)) (c .before .before .before .old-of .ensures) (c .before .before .ticks-of .ensures) (c .before .differ .result) (c .before .differ .ensures)) ∙ c .if1 .left),
     )
 
 returns-2 : tie.Need-returns-2 Inv-loop μ-loop

@@ -4,7 +4,7 @@ use Rattle.lent.proofs.Narrow.{wide-fits}
 use Rattle.bands.proofs.Turns.{differ-first, differ-rest}
 
 cast-z : tie.Need-cast-z
-cast-z c = wide-fits (c .fits .y)
+cast-z c = wide-fits (c .fits .x)
 
 returns : tie.Need-returns
 returns c = differ-first (c .before .fits .x) (c .before .fits .y) (c .if1 .taken)

@@ -45,7 +45,7 @@ unfolding moved
 returns c =
     let s = c .before .before .before .before .before .before .args in
     stop (length (s .old .now)) (λ i. differ (cell (s .old .now) i) (cell (s .new .now) i)) (c .before .before .before .before .before .loop .k) (c .before .differ .result) (c .before .before .before .before .loop-test .taken)
-    (differ-is {x = cell (s .old .now) (c .before .before .before .before .before .loop .k)} {y = cell (s .new .now) (c .before .before .before .before .before .loop .k)} (sfits-of (c .before .before .before .differ-arg .given)) (record { sfits = c .before .before .differ-arg2 .given }) refl refl (c .before .differ .result) (c .before .differ .ensures)) (c .if1 .taken)
+    (differ-is {x = cell (s .old .now) (c .before .before .before .before .before .loop .k)} {y = cell (s .new .now) (c .before .before .before .before .before .loop .k)} (record { sfits = c .before .before .before .differ-arg .given }) (sfits-of (c .before .before .differ-arg2 .given)) refl refl (c .before .differ .result) (c .before .differ .ensures)) (c .if1 .taken)
 
 add-k : tie.Need-add-k Inv-loop μ-loop
 add-k c = search needs
@@ -58,7 +58,7 @@ loop-again c =
     let s = c .before .before .before .before .before .before .args in (
       omega arith,
       any-next (c .before .before .before .before .before .loop .k) (λ i. differ (cell (s .old .now) i) (cell (s .new .now) i)) (c .before .before .before .before .before .loop .inv .1)
-          (sym (differ-is {x = cell (s .old .now) (c .before .before .before .before .before .loop .k)} {y = cell (s .new .now) (c .before .before .before .before .before .loop .k)} (sfits-of (c .before .before .before .differ-arg .given)) (record { sfits = c .before .before .differ-arg2 .given }) refl refl (c .before .differ .result) (c .before .differ .ensures)) ∙ c .if1 .left),
+          (sym (differ-is {x = cell (s .old .now) (c .before .before .before .before .before .loop .k)} {y = cell (s .new .now) (c .before .before .before .before .before .loop .k)} (record { sfits = c .before .before .before .differ-arg .given }) (sfits-of (c .before .before .differ-arg2 .given)) refl refl (c .before .differ .result) (c .before .differ .ensures)) ∙ c .if1 .left),
     )
 
 returns-2 : tie.Need-returns-2 Inv-loop μ-loop

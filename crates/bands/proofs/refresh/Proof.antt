@@ -29,7 +29,7 @@ cast-end : tie.Need-cast-end Inv-loop μ-loop
 cast-end c = omega (arith, c .shared-slice-known4 .given (c .before .before .loop .z))
 
 add-end : tie.Need-add-end Inv-loop μ-loop
-add-end c = let s = c .before .before .before .before .before .before .before .args in omega (arith, zone-in (s .counts .now) (s .members .now) (c .before .before .loop .z) (c .before .before .loop .at) (c .before .before .loop .inv .here) (c .before .loop-test .taken) (c .before .before .before .before .before .before .before .pre .all))
+add-end c = let s = c .before .before .before .before .before .before .before .args in omega (arith, zone-in (s .counts .now) (s .members .now) (c .before .before .loop .z) (c .before .before .loop .at) (c .before .before .loop .inv .here) (c .before .loop-test .taken) (c .before .before .before .before .before .before .before .pre .inside))
 
 mul-row : tie.Need-mul-row Inv-loop μ-loop
 mul-row c = search needs
@@ -38,7 +38,7 @@ add-next : tie.Need-add-next Inv-loop μ-loop
 add-next c = search needs
 
 mul-refresh-row : tie.Need-mul-refresh-row Inv-loop μ-loop
-mul-refresh-row c = let s = c .before .before .before .before .before .before .before .args in omega (arith, zone-in (s .counts .now) (s .members .now) (c .before .before .loop .z) (c .before .before .loop .at) (c .before .before .loop .inv .here) (c .before .loop-test .taken) (c .before .before .before .before .before .before .before .pre .all))
+mul-refresh-row c = let s = c .before .before .before .before .before .before .before .args in omega (arith, zone-in (s .counts .now) (s .members .now) (c .before .before .loop .z) (c .before .before .loop .at) (c .before .before .loop .inv .here) (c .before .loop-test .taken) (c .before .before .before .before .before .before .before .pre .inside))
 
 sub-refresh-row : tie.Need-sub-refresh-row Inv-loop μ-loop
 sub-refresh-row c = search needs
@@ -47,7 +47,7 @@ part-refresh-row-start : tie.Need-part-refresh-row-start Inv-loop μ-loop
 part-refresh-row-start c = search needs
 
 part-refresh-row-end : tie.Need-part-refresh-row-end Inv-loop μ-loop
-part-refresh-row-end c = let s = c .before .before .before .before .before .before .before .args in zone-in (s .counts .now) (s .members .now) (c .before .before .loop .z) (c .before .before .loop .at) (c .before .before .loop .inv .here) (c .before .loop-test .taken) (c .before .before .before .before .before .before .before .pre .all)
+part-refresh-row-end c = let s = c .before .before .before .before .before .before .before .args in zone-in (s .counts .now) (s .members .now) (c .before .before .loop .z) (c .before .before .loop .at) (c .before .before .loop .inv .here) (c .before .loop-test .taken) (c .before .before .before .before .before .before .before .pre .inside)
 
 mul-refresh-row-2 : tie.Need-mul-refresh-row-2 Inv-loop μ-loop
 mul-refresh-row-2 c = search needs

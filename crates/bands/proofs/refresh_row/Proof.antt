@@ -1,7 +1,10 @@
 use borrow.Author.Needs.{needs}
 use Rattle.bands.proofs.refresh_row.Statement.{statement}
 use Rattle.bands.proofs.refresh_row.Tie as tie
+use mathlib.Core.Path.{subst}
+use mathlib.Core.Bool.{Bool}
 use borrow.Author.Tests.{not-true, not-false}
+use Rattle.bands.specs.Asks.{Moved}
 use Rattle.bands.proofs.Turns.{moved-new, row-all, row-changed, row-kept}
 
 write-requires : tie.Need-write-requires
@@ -14,7 +17,7 @@ returns : tie.Need-returns
 returns c = let s = c .before .before .before .before .before .before .before .before .args in row-all (s .all) (s .old .now) (s .new .now) (s .edges .now) (s .zone .now) (s .row .now) _ (c .before .before .write .ensures) (c .before .before .before .before .if1 .taken)
 
 changed-requires : tie.Need-changed-requires
-changed-requires c κs = search needs
+changed-requires c κs = subst (λ (b : Bool). Moved b (c .before .before .before .before .args .old .now) (c .before .before .before .before .args .new .now) (c .before .before .before .before .args .zone .now)) (c .if1 .left) (c .before .before .before .before .pre .0)
 
 returns-2 : tie.Need-returns-2
 returns-2 c = let s = c .before .before .before .before .before .before .args in row-kept (s .all) (s .old .now) (s .new .now) (s .edges .now) (s .zone .now) (s .row .now) (s .row .now) (c .before .changed .result) (c .before .changed .ensures) (c .before .before .if1 .left) (not-true _ (c .if2 .taken))

@@ -1,7 +1,7 @@
 use borrow.Author.Needs.{needs}
 use Rattle.bands.proofs.write.Statement.{statement}
 use Rattle.bands.proofs.write.Tie as tie
-use Rattle.lent.proofs.Narrow.{wide-fits}
+use borrow.Author.Needs.{sfits-of}
 use Rattle.bands.proofs.Turns.{written}
 
 extreme-requires : tie.Need-extreme-requires
@@ -12,9 +12,6 @@ extreme-requires-2 c κs = search needs
 
 ticks-of-requires : tie.Need-ticks-of-requires
 ticks-of-requires c κs = search needs
-
-cast-band : tie.Need-cast-band
-cast-band c = wide-fits {x = c .ticks-of .result} (record { sfits = c .ticks-of .ok })
 
 band-requires : tie.Need-band-requires
 band-requires c κs = search needs
@@ -34,7 +31,7 @@ same-length c = search needs
 returns : tie.Need-returns
 returns c =
     let s = c .before .before .before .before .before .before .before .args in
-    written (s .t .now) (s .zone .now) (s .edges .now) (s .row .now) (c .before .before .before .before .before .before .before .pre .2) (record { sfits = c .before .ticks-of .ok }) (c .before .before .before .extreme .result) (c .before .before .extreme2 .result) (c .band .result) (c .before .before .before .extreme .ensures .0) (c .before .before .extreme2 .ensures .0) (c .before .ticks-of .ensures) (c .band .ensures)
+    written (s .t .now) (s .zone .now) (s .edges .now) (s .row .now) (c .before .before .before .before .before .before .before .pre .2) (sfits-of (c .before .ticks-of .ok)) (c .before .before .before .extreme .result) (c .before .before .extreme2 .result) (c .band .result) (c .before .before .before .extreme .ensures .0) (c .before .before .extreme2 .ensures .0) (c .before .ticks-of .ensures) (c .band .ensures)
 
 pub write-spec : {M : Type 1} → statement M
 write-spec =
@@ -43,7 +40,6 @@ write-spec =
     extreme-requires
     extreme-requires-2
     ticks-of-requires
-    cast-band
     band-requires
     slice-write-row
     slice-write-row-2

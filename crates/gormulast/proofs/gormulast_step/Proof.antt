@@ -4,10 +4,10 @@ use Rattle.gormulast.proofs.gormulast_step.Tie as tie
 use mathlib.Core.Path.{ap, _∙_}
 use Rattle.paper.specs.Refusals.{toldStep, packed}
 use Rattle.paper.specs.Calls.{gave}
-use Rattle.paper.specs.declared.Stepped.{Stepped}
+use Rattle.paper.specs.KeptCalls.{KeptStepExit}
 
-alone-requires : tie.Need-alone-requires
-alone-requires c κs = search needs
+step-requires : tie.Need-step-requires
+step-requires c κs = search needs
 
 packed-step-requires : tie.Need-packed-step-requires
 packed-step-requires c κs = search needs
@@ -20,10 +20,11 @@ same-length-2 c = search needs
 
 returns : tie.Need-returns
 returns c =
-    let answer = c .packed-step .ensures ∙ ap (λ (s : Stepped). packed (toldStep s)) (c .before .before .before .alone .ensures .0) in
-    let rest = c .before .before .before .alone .ensures .1 in
+    let e = c .before .before .before .step .ensures in
+    let answer = c .packed-step .ensures ∙ ap (λ (x : KeptStepExit). packed (toldStep (x .answer))) e in
+    let rest = ap (λ (x : KeptStepExit). x .kept) e in
     λ i. gave (answer i) (rest i)
 
 pub gormulast-step-spec : {M : Type 1} → statement M
 gormulast-step-spec =
-    tie.close (tie.spec alone-requires packed-step-requires same-length same-length-2 returns)
+    tie.close (tie.spec step-requires packed-step-requires same-length same-length-2 returns)
