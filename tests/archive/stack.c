@@ -148,7 +148,7 @@ int main(int count, char **words)
 	}
 	for (i = 0; i < GORMULAST_MAX_EDGES; i++)
 		edges[i] = (uint32_t)i;
-	measure("zones", call_zones, 1024);
-	measure("zones step", call_zones_step, 2048 + 256 + 384); /* a step's, and 96 numbers of 32 bits at the most */
+	measure("zones", call_zones, 640);
+	measure("zones step", call_zones_step, 2048 + 256 + 384 + 192); /* a step's, 96 temperatures in 32 bits, and the zones' four slices kept over the step */
 	return failed;
 }

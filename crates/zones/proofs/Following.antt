@@ -59,7 +59,7 @@ unfolding offScale
 copied-agrees n t h e k a b =
     table-at (length (take n t)) (k - 1) (λ i. held (cell (take n t) i)) (omega (arith, length-take-le n t h))
     ∙ ap held (getD-take n t (k - 1) (pos 0) (omega arith))
-    ∙ ap (λ (q : Bool). cond q (cell t (k - 1)) (pos 0)) (not-false _ (first-none n 0 (λ i. not (onScale (cell t i))) e (k - 1) (omega arith) (omega arith)))
+    ∙ ap (λ (q : Bool). cond q (cell t (k - 1)) (pos 0)) (not-false (onScale (cell t (k - 1))) (first-none n 0 (λ i. not (onScale (cell t i))) e (k - 1) (omega arith) (omega arith)))
 
 -- of the copy, as the code lends it
 pub follow-is : (was old new : List ℤ) (counts members edges summary : List ℕ) {n : ℕ} → length was ≡ n → was ≡ copied (take n old)

@@ -2,6 +2,7 @@ use borrow.Author.Needs.{needs}
 use Rattle.zones.proofs.follow.Statement.{statement}
 use Rattle.zones.proofs.follow.Tie as tie
 use mathlib.Core.Path.{sym, _∙_}
+use mathlib.Core.Bool.{false}
 use native.Mathlib.Omega.{arith}
 use borrow.Author.Tests.{not-true}
 use lib.ListN.{length}
@@ -19,7 +20,7 @@ returns c =
     (still-told (s .old .now) (s .new .now) (sym (c .before .moved .ensures) ∙ not-true _ (c .if1 .taken))))
 
 refresh-requires : tie.Need-refresh-requires
-refresh-requires c κs = let s = c .before .before .before .before .before .before .before .args in laid-asks (length (s .old .now)) (s .old .now) (s .new .now) (s .counts .now) (s .members .now) (s .edges .now) (s .summary .now) (omega arith) (omega (arith, c .before .before .before .before .before .before .before .pre .0)) (c .before .before .before .before .before .before .before .pre .1) (c .before .before .before .before .before .before .before .pre .2)
+refresh-requires c κs = let s = c .before .before .before .before .before .before .before .args in laid-asks false (length (s .old .now)) (s .old .now) (s .new .now) (s .counts .now) (s .members .now) (s .edges .now) (s .summary .now) (λ _. omega arith) (omega (arith, c .before .before .before .before .before .before .before .pre .0)) (c .before .before .before .before .before .before .before .pre .1) (c .before .before .before .before .before .before .before .pre .2)
 
 same-length : tie.Need-same-length
 same-length c = search needs

@@ -1,70 +1,28 @@
 use borrow.Author.Needs.{needs}
 use Rattle.zones.proofs.judged_step.Statement.{statement}
 use Rattle.zones.proofs.judged_step.Tie as tie
+use mathlib.Core.Path.{refl, _∙_}
 use native.Mathlib.Omega.{arith}
+use lib.IntN.{pos}
+use lib.ListN.{replicate}
 use Rattle.laws.proofs.Judged.{deck}
-use Rattle.step.proofs.Past.{in-slice, in-starts, in-nodes, own}
-use Rattle.zones.proofs.Steps.{cut-zones}
+use Rattle.step.proofs.Arrays.{part-long}
+use Rattle.zones.proofs.Afresh.{few-of}
 
 nodes-requires : tie.Need-nodes-requires
 nodes-requires c κs = deck (c .before .before .before .before .before .before .args .table .now) (c .before .before .before .before .before .before .pre .0 .judge)
 
-sub-covered : tie.Need-sub-covered
-sub-covered c = search needs
+sub-prepared : tie.Need-sub-prepared
+sub-prepared c = search needs
 
-part-covered-start : tie.Need-part-covered-start
-part-covered-start c = search needs
+part-old-start : tie.Need-part-old-start
+part-old-start c = search needs
 
-part-covered-end : tie.Need-part-covered-end
-part-covered-end c = in-slice (c .before .before .before .before .before .before .before .pre .0) (c .nodes .result) (c .nodes .ensures) (c .before .before .before .before .before .before .before .args .p .now) (c .before .before .before .before .before .before .before .pre .0 .p-room)
+part-old-end : tie.Need-part-old-end
+part-old-end c = few-of (c .before .before .before .before .before .before .before .before .before .args .table .now) (c .before .before .before .before .before .before .before .before .before .pre .0 .judge) (c .before .before .nodes .ensures)
 
-sub-covered-2 : tie.Need-sub-covered-2
-sub-covered-2 c = search needs
-
-part-covered-start-2 : tie.Need-part-covered-start-2
-part-covered-start-2 c = search needs
-
-part-covered-end-2 : tie.Need-part-covered-end-2
-part-covered-end-2 c = in-slice (c .before .before .before .before .before .before .before .before .pre .0) (c .before .nodes .result) (c .before .nodes .ensures) (c .before .before .before .before .before .before .before .before .args .a .now) (c .before .before .before .before .before .before .before .before .pre .0 .a-room)
-
-sub-covered-3 : tie.Need-sub-covered-3
-sub-covered-3 c = search needs
-
-part-covered-start-3 : tie.Need-part-covered-start-3
-part-covered-start-3 c = search needs
-
-part-covered-end-3 : tie.Need-part-covered-end-3
-part-covered-end-3 c = in-slice (c .before .before .before .before .before .before .before .before .before .pre .0) (c .before .before .nodes .result) (c .before .before .nodes .ensures) (c .before .before .before .before .before .before .before .before .before .args .factor .now) (c .before .before .before .before .before .before .before .before .before .pre .0 .f-room)
-
-sub-covered-4 : tie.Need-sub-covered-4
-sub-covered-4 c = search needs
-
-part-covered-start-4 : tie.Need-part-covered-start-4
-part-covered-start-4 c = search needs
-
-part-covered-end-4 : tie.Need-part-covered-end-4
-part-covered-end-4 c = in-starts (c .before .before .before .before .before .before .before .before .before .before .pre .0) (c .before .before .before .nodes .result) (c .before .before .before .nodes .ensures)
-
-sub-covered-5 : tie.Need-sub-covered-5
-sub-covered-5 c = search needs
-
-part-covered-start-5 : tie.Need-part-covered-start-5
-part-covered-start-5 c = search needs
-
-part-covered-end-5 : tie.Need-part-covered-end-5
-part-covered-end-5 c = in-nodes (c .before .before .before .before .before .before .before .before .before .before .before .pre .0) (c .before .before .before .before .nodes .result) (c .before .before .before .before .nodes .ensures) (c .before .before .before .before .before .before .before .before .before .before .before .args .temperatures .now) (c .before .before .before .before .before .before .before .before .before .before .before .pre .0 .old-room)
-
-sub-covered-6 : tie.Need-sub-covered-6
-sub-covered-6 c = search needs
-
-part-covered-start-6 : tie.Need-part-covered-start-6
-part-covered-start-6 c = search needs
-
-part-covered-end-6 : tie.Need-part-covered-end-6
-part-covered-end-6 c = in-nodes (c .before .before .before .before .before .before .before .before .before .before .before .before .pre .0) (c .before .before .before .before .before .nodes .result) (c .before .before .before .before .before .nodes .ensures) (c .before .before .before .before .before .before .before .before .before .before .before .before .args .carried .now) (c .before .before .before .before .before .before .before .before .before .before .before .before .pre .0 .carried-room)
-
-covered-requires : tie.Need-covered-requires
-covered-requires c κs = (own (c .before .before .before .before .before .before .before .before .before .before .before .before .before .before .pre .0) (c .before .before .before .before .before .before .before .nodes .result) (c .before .before .before .before .before .before .before .nodes .ensures), c .before .before .before .before .before .before .before .before .before .before .before .before .before .before .pre .1)
+prepared-requires : tie.Need-prepared-requires
+prepared-requires c κs = (c .before .before .before .before .before .before .before .before .before .before .before .pre .0, c .before .before .before .before .before .before .before .before .before .before .before .pre .1, part-long (replicate 96 (pos 0)) (c .before .before .before .before .nodes .result) refl (few-of (c .before .before .before .before .before .before .before .before .before .before .before .args .table .now) (c .before .before .before .before .before .before .before .before .before .before .before .pre .0 .judge) (c .before .before .before .before .nodes .ensures)) ∙ c .before .before .before .before .nodes .ensures)
 
 same-length : tie.Need-same-length
 same-length c = search needs
@@ -76,32 +34,17 @@ same-length-3 : tie.Need-same-length-3
 same-length-3 c = search needs
 
 returns : tie.Need-returns
-returns c = let s = c .before .before .before .before .before .before .before .before .before .before .before .before .before .before .before .before .before .before .before .args in cut-zones (c .before .before .before .before .before .before .before .before .before .before .before .before .before .before .before .before .before .before .before .pre .0) (c .before .before .before .before .before .before .before .before .before .before .before .before .nodes .result) (c .before .before .before .before .before .before .before .before .before .before .before .before .nodes .ensures) (s .counts .now) (s .members .now) (s .edges .now) (s .summary .now) (c .before .before .before .before .covered .ensures)
+returns c = search needs
 
 pub judged-step-spec : {M : Type 1} → statement M
 judged-step-spec =
     tie.close
     (tie.spec
     nodes-requires
-    sub-covered
-    part-covered-start
-    part-covered-end
-    sub-covered-2
-    part-covered-start-2
-    part-covered-end-2
-    sub-covered-3
-    part-covered-start-3
-    part-covered-end-3
-    sub-covered-4
-    part-covered-start-4
-    part-covered-end-4
-    sub-covered-5
-    part-covered-start-5
-    part-covered-end-5
-    sub-covered-6
-    part-covered-start-6
-    part-covered-end-6
-    covered-requires
+    sub-prepared
+    part-old-start
+    part-old-end
+    prepared-requires
     same-length
     same-length-2
     same-length-3

@@ -8,7 +8,7 @@ use native.Mathlib.Omega.{arith}
 use borrow.Author.Tests.{not-true, not-false}
 use lib.IntN.{ℤ}
 use lib.ListN.{length, take}
-use Rattle.zones.proofs.Afresh.{exits, short-nodes, short-zones, off-scale, on-scale, front-asks, front-exit}
+use Rattle.zones.proofs.Afresh.{exits, short-nodes, short-zones, off-scale, on-scale, front-exit}
 
 returns : tie.Need-returns
 returns c = let s = c .before .before .before .before .before .args in exits (s .temperatures .now) (s .counts .now) (s .members .now) (s .edges .now) (s .summary .now) (short-nodes (s .n) (s .temperatures .now) (s .counts .now) (s .members .now) (s .edges .now) (s .summary .now) (omega (arith, c .if1 .taken)))
@@ -47,7 +47,7 @@ part-past-11-end : tie.Need-part-past-11-end
 part-past-11-end c = search needs
 
 past-11-requires : tie.Need-past-11-requires
-past-11-requires c κs = front-asks (c .before .before .before .before .before .before .before .before .before .before .before .before .args .n) (c .before .before .before .before .before .before .before .before .before .before .before .before .args .temperatures .now) (c .before .before .before .before .before .before .before .before .before .before .before .before .args .counts .now) (c .before .before .before .before .before .before .before .before .before .before .before .before .args .members .now) (c .before .before .before .before .before .before .before .before .before .before .before .before .args .summary .now) (c .before .before .before .before .before .before .before .before .before .before .before .before .pre) (omega (arith, c .before .before .before .before .before .before .before .if1 .left)) (c .before .before .before .off-scale .ensures) (c .before .before .if3 .left) (sym (c .before .before .before .before .before .room-for .ensures) ∙ not-false _ (c .before .before .before .before .if2 .left))
+past-11-requires c κs = sym (c .before .before .before .before .before .room-for .ensures) ∙ not-false _ (c .before .before .before .before .if2 .left)
 
 same-length-3 : tie.Need-same-length-3
 same-length-3 c = search needs
