@@ -9,6 +9,7 @@
 
 #[path = "../../reference/tests/common/mod.rs"]
 mod decks;
+#[allow(dead_code)]
 #[path = "../../tests/differential/src/face.rs"]
 mod face;
 #[cfg(feature = "run")]
@@ -127,6 +128,7 @@ fn calls(boards: &[Board]) {
         if let Some(factors) = board.factors_for(4) {
             show("step by 4", board, steps(board, factors));
         }
+        zones(board);
         #[cfg(feature = "run")]
         runs(board);
     }
@@ -161,6 +163,18 @@ fn steps(board: &Board, [packed, kept]: [Vec<i64>; 2]) -> [f64; 3] {
         plain::step_kept(board, kept.clone()),
         archive::step(board, kept),
     ])
+}
+
+/// A step with zones against the step alone.
+fn zones(board: &Board) {
+    let [_, kept] = board.factors();
+    let works = [
+        archive::step(board, kept.clone()),
+        archive::zones_step(board, kept),
+    ];
+    let [alone, zones] = in_turns(works);
+    let (nodes, times) = (board.nodes, zones / alone);
+    println!("step with zones {nodes:>5} {alone:>9.0} ns alone {zones:>9.0} ns, {times:.2} of it");
 }
 
 /// All of the deck's steps; and the same with changes, one at every other step and as many as there may be.
