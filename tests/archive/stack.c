@@ -149,6 +149,7 @@ int main(int count, char **words)
 	for (i = 0; i < GORMULAST_MAX_EDGES; i++)
 		edges[i] = (uint32_t)i;
 	measure("zones", call_zones, 640);
-	measure("zones step", call_zones_step, 2048 + 256 + 384 + 192); /* a step's, 96 temperatures in 32 bits, and the zones' four slices kept over the step */
+	/* a step's; the temperatures before it in 32 bits; the zones' slices, which are kept over the step */
+	measure("zones step", call_zones_step, 2048 + 256 + 384 + 192);
 	return failed;
 }
