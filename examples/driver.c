@@ -3,10 +3,11 @@
  *
  * After each page the model takes one step. The reading light, the case and the frame are cards of the deck: switching the
  * light replaces the H cards, opening the case replaces the F cards, a hand that warms the frame replaces the G cards, and the
- * model redoes only what depends on them. Each line has a page and the temperature of the panel at every corner of its zones,
- * in degrees Celsius.
+ * model redoes only what depends on them. Each line has a page and the temperature of the panel at every node, in degrees
+ * Celsius; then, for each of the panel's zones, the band of its coldest node and the waveform that is picked by it, and how long
+ * the page takes to draw, which is as long as its slowest zone.
  *
- * panel_open, panel_page and the three switches are what would stand in a kernel; main and the printing are not.
+ * panel_open, panel_page, panel_waveform and the three switches are what would stand in a kernel; main and the printing are not.
  *
  * Light, case and frame change different cards, so whoever switches them may do so in any order, one at a time: where no switch
  * is refused, the model ends in the same numbers. A switch that is refused may want another first; the cards that it changed
@@ -26,7 +27,41 @@ struct panel {
 	int64_t temperatures[GORMULAST_MAX_NODES];
 	int64_t carried[GORMULAST_MAX_NODES]; /* what each step leaves to the next */
 	size_t nodes;
+	uint32_t counts[GORMULAST_MAX_ZONES], members[GORMULAST_MAX_NODES]; /* the panel's zones */
+	size_t zones, placed; /* how many, and their nodes together */
+	uint32_t summary[3 * GORMULAST_MAX_ZONES]; /* coldest node, hottest node, band; kept by every step */
 };
+
+/* The band edges, and a waveform for each band: the colder the ink, the longer it takes. */
+static const uint32_t edges[] = {
+	298 * GORMULAST_KELVIN, 298 * GORMULAST_KELVIN + GORMULAST_KELVIN / 4, 298 * GORMULAST_KELVIN + GORMULAST_KELVIN / 2,
+};
+#define EDGES (sizeof edges / sizeof *edges)
+static const struct waveform { const char *name; unsigned milliseconds; } waveforms[EDGES + 1] = {
+	{ "cold", 900 }, { "cool", 620 }, { "warm", 480 }, { "hot", 410 },
+};
+
+static const struct waveform *panel_waveform(const struct panel *panel, size_t zone)
+{
+	return &waveforms[panel->summary[3 * zone + 2]];
+}
+
+/* Zones of three nodes in turn, the last one of what is left, and their summary of the temperatures as they are. */
+static uint64_t panel_zones(struct panel *panel)
+{
+	size_t node;
+
+	panel->zones = 0;
+	panel->placed = panel->nodes;
+	for (node = 0; node < panel->nodes; node++) {
+		if (node % 3 == 0 && panel->zones < GORMULAST_MAX_ZONES)
+			panel->counts[panel->zones++] = 0;
+		panel->counts[panel->zones - 1]++;
+		panel->members[node] = (uint32_t)node + 1;
+	}
+	return gormulast_zones(panel->table, panel->length, panel->temperatures, panel->nodes, panel->counts, panel->zones,
+			       panel->members, panel->placed, edges, EDGES, panel->summary, 3 * panel->zones);
+}
 
 static uint64_t panel_build(struct panel *panel)
 {
@@ -34,7 +69,7 @@ static uint64_t panel_build(struct panel *panel)
 			       panel->factor, MATRIX, panel->work, MATRIX, panel->starts, GORMULAST_MAX_NODES);
 }
 
-/* Reads a deck, builds its matrices and starts every node at D's temperature, with nothing carried. */
+/* Reads a deck, builds its matrices and starts every node at D's temperature, with nothing carried; then the zones. */
 static uint64_t panel_open(struct panel *panel, const uint8_t *bytes, size_t length)
 {
 	uint64_t start, end, answer;
@@ -49,15 +84,19 @@ static uint64_t panel_open(struct panel *panel, const uint8_t *bytes, size_t len
 		panel->temperatures[node] = panel->table[2];
 		panel->carried[node] = 0;
 	}
-	return panel_build(panel);
+	answer = panel_build(panel);
+	return answer ? answer : panel_zones(panel);
 }
 
-/* After a page: one step. Refused, it leaves the temperatures and what is carried as they were. */
+/* After a page: one step, and the zones with a node that it changed. Refused, it leaves the temperatures, what is carried and the
+ * summary as they were. */
 static uint64_t panel_page(struct panel *panel)
 {
-	return gormulast_step(panel->table, panel->length, panel->p, MATRIX, panel->a, MATRIX,
-			      panel->factor, MATRIX, panel->starts, panel->nodes,
-			      panel->temperatures, panel->nodes, panel->carried, panel->nodes);
+	return gormulast_zones_step(panel->table, panel->length, panel->p, MATRIX, panel->a, MATRIX,
+				    panel->factor, MATRIX, panel->starts, panel->nodes,
+				    panel->temperatures, panel->nodes, panel->carried, panel->nodes,
+				    panel->counts, panel->zones, panel->members, panel->placed, edges, EDGES,
+				    panel->summary, 3 * panel->zones);
 }
 
 /* Gives a field and the one after it new values, in every card of a letter; stops at the first that is refused. */
@@ -125,14 +164,29 @@ static void print_celsius(int64_t ticks)
 	printf(" %s%lld.%02lld", hundredths < 0 ? "-" : "", (long long)(size / 100), (long long)(size % 100));
 }
 
+/* How long it takes to draw a page: zones are driven side by side, so as long as the slowest. */
+static unsigned drawn(const struct panel *panel)
+{
+	unsigned most = 0;
+	size_t zone;
+
+	for (zone = 0; zone < panel->zones; zone++)
+		if (panel_waveform(panel, zone)->milliseconds > most)
+			most = panel_waveform(panel, zone)->milliseconds;
+	return most;
+}
+
 static void print_page(const struct panel *panel, int page, unsigned corrections)
 {
-	size_t node;
+	size_t node, zone;
 
 	printf("page %2d (%u)", page, corrections);
 	for (node = 0; node < panel->nodes; node++)
 		print_celsius(panel->temperatures[node]);
-	printf("\n");
+	printf("\n        bands");
+	for (zone = 0; zone < panel->zones; zone++)
+		printf(" %u %s", panel->summary[3 * zone + 2], panel_waveform(panel, zone)->name);
+	printf(", drawn in %u ms\n", drawn(panel));
 }
 
 static struct panel panel;

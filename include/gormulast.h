@@ -10,7 +10,7 @@
  *     where that length is 0;
  *   - no two buffers of one call overlap, and no one else touches them while the call runs.
  *
- * An answer is number + 256 * corrections + 65536 * place. Number 0 is acceptance, 1 to 14 or 17 a refusal; place says where;
+ * An answer is number + 256 * corrections + 65536 * place. Number 0 is acceptance, 1 to 14 or 17 to 19 a refusal; place says where;
  * corrections is how often a step corrected, 1 to 4, and 0 on a refusal and in every other call.
  */
 #ifndef GORMULAST_H
@@ -33,7 +33,7 @@ extern "C" {
 
 /* The refusals: name, number, plain words. Where the words have a %u, it is the place, from 1; elsewhere the place is 0. */
 #define GORMULAST_REFUSALS(row) \
-	row(LENGTH, 1, "no deck has so few or so many bytes or numbers") \
+	row(LENGTH, 1, "no deck has so few or so many bytes or numbers, or there are too many zones, nodes in one or edges") \
 	row(TRAILER, 2, "the last card is no trailer, or its counts don't fit") \
 	row(FORM, 3, "card %u is malformed, or stands where it may not") \
 	row(RANGE, 4, "card %u has a field out of its range, or a key that does not rise") \
@@ -47,7 +47,9 @@ extern "C" {
 	row(UNSETTLED, 12, "row %u is not settled after four corrections") \
 	row(REPLACEMENT, 13, "card %u can't become that card, or there is no such card") \
 	row(THIN, 14, "element %u is too thin for its longest side") \
-	row(STRAY, 17, "row %u begins elsewhere in this deck than the lent starts say")
+	row(STRAY, 17, "row %u begins elsewhere in this deck than the lent starts say") \
+	row(ZONE, 18, "zone %u is empty, or has a node that is not in the deck") \
+	row(EDGE, 19, "band edge %u is not above the one before it")
 
 #define GORMULAST_NUMBERED(name, number, words) GORMULAST_##name = number,
 enum gormulast_refusal { GORMULAST_REFUSALS(GORMULAST_NUMBERED) GORMULAST_ACCEPTED = 0 };
@@ -161,6 +163,46 @@ uint64_t gormulast_step(const uint32_t *table, size_t table_length,
 			const uint32_t *starts, size_t starts_length,
 			int64_t *temperatures, size_t temperatures_length,
 			int64_t *carried, size_t carried_length);
+
+/* Waveform zones. A zone is a list of nodes, of which a panel has one band. Lent of them:
+ *   counts   how many nodes each zone has, 1 to 96 each; its length is the number of zones, at most 16
+ *   members  all zones' nodes, numbered from 1, one zone after another. A node may stand in several zones, and twice in one
+ *   edges    the band edges, at most 14, in ticks, each above the one before it
+ *   summary  three numbers a zone: its coldest node, its hottest node, and the band of the coldest, which is the number of edges at
+ *            or below its temperature, 0 to 14. Among nodes of one temperature the lowest number counts
+ * No zones and no edges are right too. */
+#define GORMULAST_MAX_ZONES 16
+#define GORMULAST_MAX_EDGES 14
+
+/* The summary of the temperatures lent, made afresh.
+ *   0        summary holds it; numbers past three a zone stay
+ *   refused  the summary stays
+ * Refuses with 1 to 4, 9 and 11, then 1 for more zones, nodes in a zone or edges than that, 18 and 19. */
+uint64_t gormulast_zones(const uint32_t *table, size_t table_length,
+			 const int64_t *temperatures, size_t temperatures_length,
+			 const uint32_t *counts, size_t counts_length,
+			 const uint32_t *members, size_t members_length,
+			 const uint32_t *edges, size_t edges_length,
+			 uint32_t *summary, size_t summary_length);
+
+/* A step, as gormulast_step, and then the zones with a node whose temperature it changed. A summary that was that of the old
+ * temperatures, for the same zones and edges, is then that of the new ones; of a zone with no changed node the three numbers stay,
+ * whatever they are. So make it once by gormulast_zones, keep it with the temperatures, and make it anew when they, the zones or the
+ * edges are set anew.
+ *   0        as after a step; summary as said, numbers past three a zone stay
+ *   refused  the temperatures, carried and the summary stay
+ * Refuses as a step does, with its 9 also of members or summary; then with 1, 18 and 19, as above. */
+uint64_t gormulast_zones_step(const uint32_t *table, size_t table_length,
+			      const int64_t *p, size_t p_length,
+			      const int64_t *a, size_t a_length,
+			      const int64_t *factor, size_t factor_length,
+			      const uint32_t *starts, size_t starts_length,
+			      int64_t *temperatures, size_t temperatures_length,
+			      int64_t *carried, size_t carried_length,
+			      const uint32_t *counts, size_t counts_length,
+			      const uint32_t *members, size_t members_length,
+			      const uint32_t *edges, size_t edges_length,
+			      uint32_t *summary, size_t summary_length);
 
 #ifdef __cplusplus
 }

@@ -121,6 +121,49 @@ pub fn step(board: &Board, factor: Vec<i64>) -> Work<'_> {
     })
 }
 
+/// The same with as many zones and edges as there may be, each zone of all nodes.
+#[cfg_attr(feature = "before", allow(dead_code))]
+pub fn zones_step(board: &Board, factor: Vec<i64>) -> Work<'_> {
+    let [p, a, ..] = &board.kept;
+    let (start, mut carried) = (board.start(), vec![0; board.nodes]);
+    let mut temperatures = start.clone();
+    let counts = [board.nodes as u32; 16];
+    let members: Vec<u32> = counts.iter().flat_map(|&count| 1..=count).collect();
+    let edges: Vec<u32> = (1..=14).map(|edge| edge << 21).collect();
+    let mut summary = [0; 48];
+    Box::new(move || {
+        temperatures.copy_from_slice(&start);
+        carried.fill(0);
+        let answer = unsafe {
+            gormulast_zones_step(
+                board.table.as_ptr(),
+                board.table.len(),
+                p.as_ptr(),
+                p.len(),
+                a.as_ptr(),
+                a.len(),
+                factor.as_ptr(),
+                factor.len(),
+                board.starts.as_ptr(),
+                board.starts.len(),
+                temperatures.as_mut_ptr(),
+                temperatures.len(),
+                carried.as_mut_ptr(),
+                carried.len(),
+                counts.as_ptr(),
+                counts.len(),
+                members.as_ptr(),
+                members.len(),
+                edges.as_ptr(),
+                edges.len(),
+                summary.as_mut_ptr(),
+                summary.len(),
+            )
+        };
+        answer & 255
+    })
+}
+
 #[cfg(feature = "run")]
 pub fn run(board: &Board) -> Work<'_> {
     let mut lent = board.lent(&board.kept);

@@ -13,6 +13,7 @@
 
 #[path = "../../reference/tests/common/mod.rs"]
 mod decks;
+#[allow(dead_code)]
 #[path = "../../tests/differential/src/face.rs"]
 mod face;
 #[cfg(feature = "run")]
@@ -145,6 +146,7 @@ fn calls(boards: &[Board]) {
         if let Some(bare) = board.without_sources() {
             radiation(board, &bare);
         }
+        zones(board);
         #[cfg(feature = "run")]
         runs(board);
     }
@@ -196,6 +198,18 @@ fn radiation(board: &Board, bare: &Board) {
         let mark = if ratio <= 1.5 { "" } else { "  more" };
         println!("step, {name} corrections: without R {without:.0} ns, with {cards} R cards {with:.0} ns, {ratio:.2} of it{mark}");
     }
+}
+
+/// A step with zones against the step alone.
+fn zones(board: &Board) {
+    let [_, kept] = board.factors();
+    let works = [
+        archive::step(board, kept.clone()),
+        archive::zones_step(board, kept),
+    ];
+    let [alone, zones] = in_turns(works);
+    let (nodes, times) = (board.nodes, zones / alone);
+    println!("step with zones {nodes:>5} {alone:>9.0} ns alone {zones:>9.0} ns, {times:.2} of it");
 }
 
 /// All of the deck's steps; and the same with changes, one at every other step and as many as there may be.

@@ -6,6 +6,9 @@
  *   /sys/class/misc/gormulast/steps      written: how many steps to take, 1 to 100,000; the first refusal ends them
  *   /sys/class/misc/gormulast/temperatures   read: ticks, one number for each node
  *   /sys/class/misc/gormulast/carried    read: what the last step left to the next, one number for each node
+ *   /sys/class/misc/gormulast/zones      written: the band edges in ticks, then the nodes of each zone, a ';' before each zone: as
+ *                                        "19595264 19660800;1 2 3;4 5"; a new deck has no zones
+ *   /sys/class/misc/gormulast/bands      read: of each zone the band of its coldest node
  *   /sys/class/misc/gormulast/answer     read: the last answer, in plain words
  *
  * A write that is not such numbers fails and leaves the last answer. All memory is taken once, when the module is loaded: for any
@@ -16,6 +19,8 @@
 #include <linux/module.h>
 #include <linux/mutex.h>
 #include <linux/sched/signal.h>
+#include <linux/slab.h>
+#include <linux/string.h>
 #include <linux/sysfs.h>
 #include <linux/uaccess.h>
 #include "model.h"
@@ -34,6 +39,7 @@ static struct board {
 	uint32_t steps;  /* that it came after, where it is a step's */
 	bool open;       /* the bytes are someone's */
 	size_t length;   /* of the bytes */
+	struct zones asked; /* zones not yet accepted */
 	uint8_t bytes[GORMULAST_MAX_BYTES + 1]; /* one more than a deck may have, to see that it is too long */
 } *board;
 
@@ -164,6 +170,70 @@ static ssize_t steps_store(struct device *device, struct device_attribute *attri
 }
 static DEVICE_ATTR_WO(steps);
 
+/* Numbers up to the end of a list, with one blank between two; how many, or -1 where they are more than there is room for or no numbers. */
+static int list_of(char *list, uint32_t *numbers, size_t room)
+{
+	size_t count = 0;
+	char *word;
+
+	while (list && *list && (word = strsep(&list, " "))) {
+		if (count == room || kstrtou32(word, 10, &numbers[count++]))
+			return -1;
+	}
+	return count;
+}
+
+/* Lists, a ';' between two: the edges first, then each zone's nodes. */
+static int zones_of(char *text, struct zones *zones)
+{
+	char *list = strsep(&text, ";");
+	int count = list_of(list, zones->edges, ARRAY_SIZE(zones->edges));
+
+	zones->edged = count;
+	zones->zones = zones->placed = 0;
+	while (count >= 0 && (list = strsep(&text, ";"))) {
+		if (zones->zones == ARRAY_SIZE(zones->counts))
+			return -EINVAL;
+		count = list_of(list, zones->members + zones->placed, ARRAY_SIZE(zones->members) - zones->placed);
+		if (count < 0)
+			break;
+		zones->counts[zones->zones++] = count;
+		zones->placed += count;
+	}
+	return count < 0 ? -EINVAL : 0;
+}
+
+/* Text that is no such lists leaves the zones and the last answer. */
+static ssize_t zones_store(struct device *device, struct device_attribute *attribute, const char *text, size_t count)
+{
+	char *copy = kstrndup(text, count, GFP_KERNEL), *rest = copy;
+	int error;
+
+	if (!copy)
+		return -ENOMEM;
+	mutex_lock(&board->lock);
+	error = zones_of(strsep(&rest, "\n"), &board->asked);
+	if (!error)
+		answered(model_zones(&board->model, &board->asked), 0);
+	mutex_unlock(&board->lock);
+	kfree(copy);
+	return error ? error : count;
+}
+static DEVICE_ATTR_WO(zones);
+
+static ssize_t bands_show(struct device *device, struct device_attribute *attribute, char *page)
+{
+	size_t zone;
+	int at = 0;
+
+	mutex_lock(&board->lock);
+	for (zone = 0; zone < board->model.zones.zones; zone++)
+		at += sysfs_emit_at(page, at, "%s%u", zone ? " " : "", board->model.summary[3 * zone + 2]);
+	mutex_unlock(&board->lock);
+	return at + sysfs_emit_at(page, at, "\n");
+}
+static DEVICE_ATTR_RO(bands);
+
 /* One for each node. */
 static ssize_t show_numbers(const int64_t *numbers, char *page)
 {
@@ -207,6 +277,8 @@ static struct attribute *board_attrs[] = {
 	&dev_attr_steps.attr,
 	&dev_attr_temperatures.attr,
 	&dev_attr_carried.attr,
+	&dev_attr_zones.attr,
+	&dev_attr_bands.attr,
 	&dev_attr_answer.attr,
 	NULL,
 };

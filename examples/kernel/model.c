@@ -1,4 +1,5 @@
 // SPDX-License-Identifier: GPL-2.0-only OR MIT
+#include <linux/kernel.h>
 #include <linux/string.h>
 #include "model.h"
 
@@ -11,7 +12,7 @@ void model_lend(struct model *model, int64_t *memory, size_t numbers)
 	model->numbers = numbers;
 }
 
-/* Reads a deck, builds its matrices and starts every node at D's temperature, with nothing carried. The deck is read into a
+/* Reads a deck, builds its matrices and starts every node at D's temperature, with nothing carried and no zones. The deck is read into a
  * table of its own, and a refused build leaves p, a, factor and starts, so a deck that is refused, wherever, leaves the old one at
  * work. */
 uint64_t model_deck(struct model *model, const uint8_t *bytes, size_t length)
@@ -35,7 +36,21 @@ uint64_t model_deck(struct model *model, const uint8_t *bytes, size_t length)
 		model->temperatures[node] = model->table[2];
 		model->carried[node] = 0;
 	}
+	model->zones.zones = 0;
 	return 0;
+}
+
+/* The zones from now on, and their summary of the temperatures as they are. */
+uint64_t model_zones(struct model *model, const struct zones *zones)
+{
+	uint64_t answer;
+
+	answer = gormulast_zones(model->table, model->length, model->temperatures, model->nodes, zones->counts, zones->zones,
+				 zones->members, zones->placed, zones->edges, zones->edged,
+				 model->summary, ARRAY_SIZE(model->summary));
+	if (!answer)
+		model->zones = *zones;
+	return answer;
 }
 
 /* What is carried stays: it is heat that is still due. */
@@ -48,6 +63,14 @@ uint64_t model_replace(struct model *model, uint32_t card, const uint32_t new[GO
 
 uint64_t model_step(struct model *model)
 {
+	const struct zones *zones = &model->zones;
+
+	if (zones->zones)
+		return gormulast_zones_step(model->table, model->length, model->p, model->numbers, model->a, model->numbers,
+					    model->factor, model->numbers, model->starts, model->nodes,
+					    model->temperatures, model->nodes, model->carried, model->nodes,
+					    zones->counts, zones->zones, zones->members, zones->placed,
+					    zones->edges, zones->edged, model->summary, 3 * zones->zones);
 	return gormulast_step(model->table, model->length, model->p, model->numbers, model->a, model->numbers,
 			      model->factor, model->numbers, model->starts, model->nodes,
 			      model->temperatures, model->nodes, model->carried, model->nodes);

@@ -12,6 +12,13 @@
 #define MOST_NUMBERS GORMULAST_MATRIX(GORMULAST_MAX_NODES)
 #define MATRICES 4
 
+/* Zones of nodes and their band edges, as gormulast.h has them. One zone, node or edge too many still has room, to be refused. */
+#define MOST_MEMBERS 2048 /* a page of text has no more numbers */
+struct zones {
+	uint32_t counts[GORMULAST_MAX_ZONES + 1], members[MOST_MEMBERS], edges[GORMULAST_MAX_EDGES + 1];
+	size_t zones, placed, edged; /* how many of each */
+};
+
 struct model {
 	uint32_t table[GORMULAST_MAX_TABLE];
 	size_t length; /* of the table: six numbers a card, 0 before the first deck */
@@ -22,6 +29,8 @@ struct model {
 	int64_t temperatures[GORMULAST_MAX_NODES];
 	int64_t carried[GORMULAST_MAX_NODES]; /* what each step leaves to the next */
 	size_t nodes;
+	struct zones zones; /* none after a deck, until they are set */
+	uint32_t summary[3 * (GORMULAST_MAX_ZONES + 1)]; /* of each its coldest node, its hottest and its band, kept by every step */
 };
 
 /* Lends an empty model the memory of its matrices, MATRICES times so many numbers, as long as it is used. */
@@ -31,6 +40,7 @@ void model_lend(struct model *model, int64_t *memory, size_t numbers);
 uint64_t model_deck(struct model *model, const uint8_t *bytes, size_t length);
 uint64_t model_replace(struct model *model, uint32_t card, const uint32_t new[GORMULAST_CARD_NUMBERS]);
 uint64_t model_step(struct model *model);
+uint64_t model_zones(struct model *model, const struct zones *zones);
 
 /* The deck as bytes: how many, 0 where there is no deck or too little room. */
 size_t model_bytes(const struct model *model, uint8_t *bytes, size_t room);

@@ -17,6 +17,8 @@ pub const THIN: u8 = 14;
 pub const INFINITE: u8 = 15;
 pub const GARBLED: u8 = 16;
 pub const STRAY: u8 = 17;
+pub const ZONE: u8 = 18;
+pub const EDGE: u8 = 19;
 
 /// A row of the paper's table of refusals, with its place.
 #[derive(Clone, Copy, Debug, PartialEq, Eq)]

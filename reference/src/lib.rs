@@ -24,6 +24,7 @@ mod single;
 mod solid;
 mod step;
 mod text;
+pub mod zones;
 
 pub use answer::{Answer, Ran, Refusal, Stepped};
 pub use calls::{read, write};

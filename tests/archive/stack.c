@@ -16,6 +16,7 @@ static size_t length, rows;
 static uint32_t table[GORMULAST_MAX_TABLE];
 static int64_t p[MATRIX], a[MATRIX], factor[MATRIX], work[MATRIX], temperatures[GORMULAST_MAX_NODES], carried[GORMULAST_MAX_NODES];
 static uint32_t starts[GORMULAST_MAX_NODES];
+static uint32_t counts[GORMULAST_MAX_ZONES], members[GORMULAST_MAX_ZONES], edges[GORMULAST_MAX_EDGES], summary[3 * GORMULAST_MAX_ZONES];
 static uint64_t answer;
 static uint32_t card;
 
@@ -77,6 +78,20 @@ static void call_step(void)
 				temperatures, GORMULAST_MAX_NODES, carried, GORMULAST_MAX_NODES);
 }
 
+static void call_zones(void)
+{
+	answer = gormulast_zones(table, 6 * rows, temperatures, GORMULAST_MAX_NODES, counts, GORMULAST_MAX_ZONES,
+				 members, GORMULAST_MAX_ZONES, edges, GORMULAST_MAX_EDGES, summary, 3 * GORMULAST_MAX_ZONES);
+}
+
+static void call_zones_step(void)
+{
+	answer = gormulast_zones_step(table, 6 * rows, p, MATRIX, a, MATRIX, factor, MATRIX, starts, GORMULAST_MAX_NODES,
+				      temperatures, GORMULAST_MAX_NODES, carried, GORMULAST_MAX_NODES,
+				      counts, GORMULAST_MAX_ZONES, members, GORMULAST_MAX_ZONES,
+				      edges, GORMULAST_MAX_EDGES, summary, 3 * GORMULAST_MAX_ZONES);
+}
+
 static int failed;
 static size_t more;
 
@@ -127,5 +142,14 @@ int main(int count, char **words)
 	for (i = 0; i < GORMULAST_MAX_NODES; i++)
 		temperatures[i] = table[2];
 	measure("step", call_step, 2048 + 256); /* a frame, and what the functions below it take */
+	for (i = 0; i < GORMULAST_MAX_ZONES; i++) {
+		counts[i] = 1;
+		members[i] = (uint32_t)(i % 3 + 1);
+	}
+	for (i = 0; i < GORMULAST_MAX_EDGES; i++)
+		edges[i] = (uint32_t)i;
+	measure("zones", call_zones, 640);
+	/* a step's; the temperatures before it in 32 bits; the zones' slices, which are kept over the step */
+	measure("zones step", call_zones_step, 2048 + 256 + 384 + 192);
 	return failed;
 }

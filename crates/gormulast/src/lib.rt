@@ -3,6 +3,7 @@ ghost use mathlib.Core.Path.{_≡_};
 ghost use mathlib.Core.List.{List, [], _∷_};
 ghost use Rattle.paper.specs.Calls.{gave, marked, readToC, writeToC};
 ghost use Rattle.paper.specs.KeptCalls.{kept, keptBuild, keptReplace, keptStep, keptToC, keptStepToC};
+ghost use Rattle.paper.specs.Zones.{summariseCall, zoned, zonesStep, zonesToC, zonesStepToC};
 
 #[no_mangle]
 pub extern "C" fn gormulast_read(
@@ -104,5 +105,57 @@ pub extern "C" fn gormulast_step(
         starts,
         &mut temperatures[..],
         &mut carried[..],
+    ))
+}
+
+#[no_mangle]
+pub extern "C" fn gormulast_zones(
+    table: &[u32],
+    temperatures: &[i64],
+    counts: &[u32],
+    members: &[u32],
+    edges: &[u32],
+    summary: &mut [u32],
+) -> u64
+    ensures { λ r. ⌜ gave r (now (summary .exit)) ≡ zonesToC (summariseCall (now (table .entry)) (now (temperatures .entry)) (now (counts .entry)) (now (members .entry)) (now (edges .entry)) (now (summary .entry))) ⌝ }
+{
+    paper::packed_answer(zones::summarise(
+        table,
+        temperatures,
+        counts,
+        members,
+        edges,
+        &mut summary[..],
+    ))
+}
+
+#[no_mangle]
+pub extern "C" fn gormulast_zones_step(
+    table: &[u32],
+    p: &[i64],
+    a: &[i64],
+    factor: &[i64],
+    starts: &[u32],
+    temperatures: &mut [i64],
+    carried: &mut [i64],
+    counts: &[u32],
+    members: &[u32],
+    edges: &[u32],
+    summary: &mut [u32],
+) -> u64
+    ensures { λ r. ⌜ gave r (zoned (kept (now (table .entry)) (now (p .entry)) (now (a .entry)) (now (factor .entry)) [] (now (starts .entry)) (now (temperatures .exit)) (now (carried .exit))) (now (summary .exit))) ≡ zonesStepToC (zonesStep (zoned (kept (now (table .entry)) (now (p .entry)) (now (a .entry)) (now (factor .entry)) [] (now (starts .entry)) (now (temperatures .entry)) (now (carried .entry))) (now (summary .entry))) (now (counts .entry)) (now (members .entry)) (now (edges .entry))) ⌝ }
+{
+    paper::packed_step(zones::step(
+        table,
+        p,
+        a,
+        factor,
+        starts,
+        &mut temperatures[..],
+        &mut carried[..],
+        counts,
+        members,
+        edges,
+        &mut summary[..],
     ))
 }

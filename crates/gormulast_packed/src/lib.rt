@@ -206,6 +206,7 @@ fn step_by(
         &starts[..],
         &mut temperatures[0..n],
         &mut carried[0..n],
+        true,
     )
 }
 

@@ -80,3 +80,6 @@ pub mod Posted
 pub mod Shuffled
 pub mod Reordered
 pub mod Foil
+pub mod Zones
+pub mod Extremes
+pub mod Fresh

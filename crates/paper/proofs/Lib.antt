@@ -13,3 +13,4 @@ pub mod Recorded
 pub mod Kept
 pub mod Changed
 pub mod Posted
+pub mod Zoned

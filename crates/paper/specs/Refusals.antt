@@ -5,7 +5,7 @@ use Rattle.paper.specs.declared.Answer.{Answer}
 use Rattle.paper.specs.declared.Answer.the-variants.{Done, Refused}
 use Rattle.paper.specs.declared.Given.{Given}
 use Rattle.paper.specs.declared.Refusal.{Refusal}
-use Rattle.paper.specs.declared.Refusal.the-variants.{Length, Trailer, Form, Range, Flat, Stiff, Pivot, Bound, Short, Foreign, OffScale, Unsettled, Replacement, Thin, Infinite, Garbled, Stray}
+use Rattle.paper.specs.declared.Refusal.the-variants.{Length, Trailer, Form, Range, Flat, Stiff, Pivot, Bound, Short, Foreign, OffScale, Unsettled, Replacement, Thin, Infinite, Garbled, Stray, Zone, Falling}
 use Rattle.paper.specs.declared.Stepped.{Stepped}
 use Rattle.paper.specs.declared.Stepped.the-variants as stepAnswer
 use Rattle.paper.specs.declared.Ran.{Ran}
@@ -33,6 +33,8 @@ givenBy (Thin element) = given 14 element
 givenBy (Infinite entry) = given 15 entry
 givenBy (Garbled entry) = given 16 entry
 givenBy (Stray row) = given 17 row
+givenBy (Zone zone) = given 18 zone
+givenBy (Falling edge) = given 19 edge
 
 abbrev pub numberOf : Refusal → ℕ
 numberOf r = givenBy r .number

@@ -96,6 +96,8 @@ pub enum Refusal {
     Infinite(u32),
     Garbled(u32),
     Stray(u32),
+    Zone(u32),
+    Falling(u32),
 }
 
 // A refusal's number and place.
@@ -159,6 +161,8 @@ pub fn given_by(r: Refusal) -> Given
         Refusal::Infinite(record) => row(15, record),
         Refusal::Garbled(record) => row(16, record),
         Refusal::Stray(line) => row(17, line),
+        Refusal::Zone(zone) => row(18, zone),
+        Refusal::Falling(edge) => row(19, edge),
     }
 }
 

@@ -4,13 +4,15 @@ use mathlib.Core.Bool.{cond}
 use mathlib.Core.List.{List}
 use Prim.Native.Nat.{ℕ}
 use lib.Dec.{eqb}
+use lib.IntN.{ℤ}
 use Rattle.paper.specs.Refusals.{numberOf, placeOf}
 use Rattle.paper.specs.Calls.{readCall, writeCall, Lent, buildCall, replaceCall, stepCall}
 use Rattle.paper.specs.Running.{runCall}
 use Rattle.paper.specs.KeptCalls.{Kept, keptBuild, keptReplace, keptStep, keptRun}
 use Rattle.paper.specs.Records.{importCall}
+use Rattle.paper.specs.Zones.{summariseCall, Zoned, zonesStep}
 use Rattle.paper.specs.declared.Refusal.{Refusal}
-use Rattle.paper.specs.declared.Refusal.the-variants.{Length, Trailer, Form, Range, Flat, Stiff, Pivot, Bound, Short, Foreign, OffScale, Unsettled, Replacement, Thin, Infinite, Garbled, Stray}
+use Rattle.paper.specs.declared.Refusal.the-variants.{Length, Trailer, Form, Range, Flat, Stiff, Pivot, Bound, Short, Foreign, OffScale, Unsettled, Replacement, Thin, Infinite, Garbled, Stray, Zone, Falling}
 
 -- the paper's number and place tell each refusal: this one has them
 abbrev pub refusalOf : ℕ → ℕ → Refusal
@@ -19,7 +21,8 @@ refusalOf n place =
     (cond (eqb n 5) (Flat place) (cond (eqb n 6) (Stiff place) (cond (eqb n 7) (Pivot place) (cond (eqb n 8) (Bound place)
     (cond (eqb n 9) Short (cond (eqb n 10) Foreign (cond (eqb n 11) (OffScale place) (cond (eqb n 12) (Unsettled place)
     (cond (eqb n 13) (Replacement place) (cond (eqb n 14) (Thin place) (cond (eqb n 15) (Infinite place)
-    (cond (eqb n 16) (Garbled place) (Stray place))))))))))))))))
+    (cond (eqb n 16) (Garbled place) (cond (eqb n 17) (Stray place)
+    (cond (eqb n 18) (Zone place) (Falling place))))))))))))))))))
 
 pub number-and-place-tell : (r : Refusal) → refusalOf (numberOf r) (placeOf r) ≡ r
 number-and-place-tell Length = refl
@@ -39,6 +42,8 @@ number-and-place-tell (Thin k) = refl
 number-and-place-tell (Infinite k) = refl
 number-and-place-tell (Garbled k) = refl
 number-and-place-tell (Stray k) = refl
+number-and-place-tell (Zone k) = refl
+number-and-place-tell (Falling k) = refl
 
 -- every outcome that keeps the promise is this one
 abbrev pub Only : {X : Type 0} → X → Type 0
@@ -79,3 +84,9 @@ kept-run-only z = only (keptRun z)
 
 pub import-only : (table records second : List ℕ) → Only (importCall table records second)
 import-only table records second = only (importCall table records second)
+
+pub summarise-only : (table : List ℕ) (temperatures : List ℤ) (counts members edges summary : List ℕ) → Only (summariseCall table temperatures counts members edges summary)
+summarise-only table temperatures counts members edges summary = only (summariseCall table temperatures counts members edges summary)
+
+pub zones-step-only : (z : Zoned) (counts members edges : List ℕ) → Only (zonesStep z counts members edges)
+zones-step-only z counts members edges = only (zonesStep z counts members edges)

@@ -1,25 +1,28 @@
 -- The one number that C has of an answer tells all of it: number, corrections and place come out again, and no two answers
 -- pack to the same number.
-use mathlib.Core.Path.{_≡_, refl, sym, ap, _∙_}
+use mathlib.Core.Path.{_≡_, refl, sym, ap, subst, _∙_}
+use mathlib.Core.List.{List}
 use Prim.Native.Nat.{ℕ, _/_, _%_, _≤_, _<_}
 use native.Mathlib.Omega.{arith}
 use Rattle.paper.specs.Refusals.{numberOf, placeOf, Told, refusal, told, toldStep, toldRun, packed}
 use Rattle.paper.specs.Calls.{Lent, stepCall}
 use Rattle.paper.specs.KeptCalls.{Kept, widened, keptStep}
+use Rattle.paper.specs.Zones.{Zoned, zonesStep}
 use Rattle.paper.specs.declared.Answer.{Answer}
 use Rattle.paper.specs.declared.Answer.the-variants.{Done, Refused}
 use Rattle.paper.specs.declared.Refusal.{Refusal}
-use Rattle.paper.specs.declared.Refusal.the-variants.{Length, Trailer, Form, Range, Flat, Stiff, Pivot, Bound, Short, Foreign, OffScale, Unsettled, Replacement, Thin, Infinite, Garbled, Stray}
+use Rattle.paper.specs.declared.Refusal.the-variants.{Length, Trailer, Form, Range, Flat, Stiff, Pivot, Bound, Short, Foreign, OffScale, Unsettled, Replacement, Thin, Infinite, Garbled, Stray, Zone, Falling}
 use Rattle.paper.specs.declared.Stepped.{Stepped}
 use Rattle.paper.specs.declared.Stepped.the-variants as stepAnswer
 use Rattle.paper.specs.declared.Ran.{Ran}
 use Rattle.paper.specs.declared.Ran.the-variants as runAnswer
 use Rattle.laws.proofs.KeptLeft as leaves
+use Rattle.laws.proofs.Fresh as zoned
 use Rattle.promises.proofs.Outcomes.{refusalOf, number-and-place-tell}
 use Rattle.promises.proofs.Step.{at-most-four}
 
--- the numbers of the table of refusals are 1 to 17
-pub number-in-table : (r : Refusal) → (1 ≤ numberOf r) × (numberOf r ≤ 17)
+-- the numbers of the table of refusals are 1 to 19
+pub number-in-table : (r : Refusal) → (1 ≤ numberOf r) × (numberOf r ≤ 19)
 number-in-table Length = (omega arith, omega arith)
 number-in-table Trailer = (omega arith, omega arith)
 number-in-table (Form k) = (omega arith, omega arith)
@@ -37,6 +40,8 @@ number-in-table (Thin k) = (omega arith, omega arith)
 number-in-table (Infinite k) = (omega arith, omega arith)
 number-in-table (Garbled k) = (omega arith, omega arith)
 number-in-table (Stray k) = (omega arith, omega arith)
+number-in-table (Zone k) = (omega arith, omega arith)
+number-in-table (Falling k) = (omega arith, omega arith)
 
 -- number and place tell a refusal
 tells : (r q : Refusal) → numberOf r ≡ numberOf q → placeOf r ≡ placeOf q → r ≡ q
@@ -94,6 +99,15 @@ kept-step-out z = go (keptStep z .answer) refl
   where
     go : (s : Stepped) → keptStep z .answer ≡ s → Holds (packed (toldStep s)) (toldStep s)
     go (stepAnswer.Settled c) e = out (toldStep (stepAnswer.Settled c)) (omega arith) (omega (arith, at-most-four (widened (z .lent)) c (leaves.step-settled z c e .0)))
+    go (stepAnswer.Refused r) e = refusal-out r
+
+-- and with zones
+pub zones-step-out : (z : Zoned) (counts members edges : List ℕ) → let s = zonesStep z counts members edges .answer in Holds (packed (toldStep s)) (toldStep s)
+unfolding toldStep
+zones-step-out z counts members edges = go (zonesStep z counts members edges .answer) refl
+  where
+    go : (s : Stepped) → zonesStep z counts members edges .answer ≡ s → Holds (packed (toldStep s)) (toldStep s)
+    go (stepAnswer.Settled c) e = subst (λ (y : Stepped). Holds (packed (toldStep y)) (toldStep y)) (zoned.step-settled z counts members edges c e .0) (kept-step-out (z .kept))
     go (stepAnswer.Refused r) e = refusal-out r
 
 pub step-told : (s z : Stepped) → packed (toldStep s) ≡ packed (toldStep z) → s ≡ z

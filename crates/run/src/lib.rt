@@ -201,6 +201,7 @@ fn turn(
         &mut temperatures[..],
         &mut carried[..],
         long,
+        true,
     );
     if let Stepped::Refused(why) = answer {
         return Next::Refused(why);

@@ -1,5 +1,5 @@
 -- The laws of corrections, one after another.
 mod Boards
 mod Corrections
-mod Copying
-mod Ends
+pub mod Copying
+pub mod Ends

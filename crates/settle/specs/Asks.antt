@@ -1,5 +1,6 @@
 -- What the corrections ask, and what they leave. Matrices and factors are packed triangles here.
 use mathlib.Core.Path.{_≡_}
+use mathlib.Core.Bool.{Bool, true, false}
 use mathlib.Core.List.{List}
 use Prim.Native.Nat.{ℕ}
 use lib.IntN.{ℤ}
@@ -58,3 +59,13 @@ endsAs b carried (refused r) = ending (Refused r) (b .old) carried
 -- what a step past its refusals leaves
 abbrev pub stepsTo : List ℕ → List ℤ → List ℤ → List ℤ → List ℤ → List ℤ → Ending
 stepsTo t p a l old carried = let b = boardOf t p a old carried in endsAs b carried (stepped b l)
+
+-- whether a step is written: it settles, and its caller keeps it
+abbrev pub writes : Stepped → Bool → Bool
+writes (Settled c) keeps = keeps
+writes (Refused r) keeps = false
+
+-- how a step ends where its caller keeps it; else it answers the same, and all is left as it was
+abbrev pub keeping : Bool → List ℤ → List ℤ → Ending → Ending
+keeping true old carried x = x
+keeping false old carried x = ending (x .answer) old carried

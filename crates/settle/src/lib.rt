@@ -14,7 +14,7 @@ ghost use Rattle.starts.specs.Lent.{wide};
 ghost use Rattle.lent.specs.Rows.{Mild};
 ghost use Rattle.correction.specs.Asks.{Sound};
 ghost use Rattle.residual.specs.Asks.{board, Beside, Weighed};
-ghost use Rattle.settle.specs.Asks.{Trying, Begins, ended, ending, stepsTo};
+ghost use Rattle.settle.specs.Asks.{Trying, Begins, ended, ending, stepsTo, writes, keeping};
 
 // ---- corrections
 
@@ -126,8 +126,18 @@ fn keep(fixed: &[i32], t: &[i32], r: &[i64], old: &mut [i64], carried: &mut [i64
     carry(fixed, r, &mut carried[..]);
 }
 
+// Whether a step is written: it settles, and its caller keeps it.
+fn writes(e: Stepped, keeps: bool) -> bool
+    ensures { λ r. ⌜ r ≡ writes e keeps ⌝ }
+{
+    match e {
+        Stepped::Settled(_) => keeps,
+        Stepped::Refused(_) => false,
+    }
+}
+
 // The corrections from the old temperatures. The loads, the same in every pass, lie on top of what is carried; where the corrections
-// settle, the new temperatures and what each node carries on take their places, and else the loads are taken off again.
+// settle and are kept, the new temperatures and what each node carries on take their places, and else the loads are taken off again.
 pub fn finish(
     table: &[u32],
     p: &[i64],
@@ -139,9 +149,10 @@ pub fn finish(
     carried: &mut [i64],
     t: &mut [i32],
     r: &mut [i64],
+    keeps: bool,
 ) -> Stepped
     requires { ⌜ Begins (now table) (wide (now starts) (now p)) (wide (now starts) (now a)) (now fixed) (now old) (now carried) (now t) (now r) (length (now starts)) × Beside (now starts) (now p) (now a) × Sound (now starts) (now l) ⌝ }
-    ensures { λ e. ⌜ ending e (now (old .exit)) (now (carried .exit)) ≡ stepsTo (now (table .entry)) (wide (now (starts .entry)) (now (p .entry))) (wide (now (starts .entry)) (now (a .entry))) (wide (now (starts .entry)) (now (l .entry))) (now (old .entry)) (now (carried .entry)) ⌝ }
+    ensures { λ e. ⌜ ending e (now (old .exit)) (now (carried .exit)) ≡ keeping keeps (now (old .entry)) (now (carried .entry)) (stepsTo (now (table .entry)) (wide (now (starts .entry)) (now (p .entry))) (wide (now (starts .entry)) (now (a .entry))) (wide (now (starts .entry)) (now (l .entry))) (now (old .entry)) (now (carried .entry))) ⌝ }
 {
     narrow(&old[..], &mut t[..]);
     loads::load(table, &old[..], &mut carried[..]);
@@ -156,10 +167,10 @@ pub fn finish(
         &mut t[..],
         &mut r[..],
     );
-    let Stepped::Settled(c) = e else {
+    if !writes(e, keeps) {
         loads::unload(table, &old[..], &mut carried[..], &mut r[..]);
         return e;
-    };
+    }
     keep(fixed, &t[..], &r[..], &mut old[..], &mut carried[..]);
-    Stepped::Settled(c)
+    e
 }

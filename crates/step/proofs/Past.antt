@@ -20,7 +20,7 @@ use Rattle.paper.specs.Judge.{judged}
 use Rattle.paper.specs.Building.{Slices, slices}
 use Rattle.paper.specs.Factor.{small}
 use Rattle.paper.specs.Lent.{foreign, laden, enough, opened, lentJudged}
-use Rattle.paper.specs.Step.{Settling, boardOf, stepped, carriedOn, offScale}
+use Rattle.paper.specs.Step.{Board, Settling, boardOf, stepped, carriedOn, offScale}
 use Rattle.paper.specs.Calls.{Lent, StepExit, lent, leftStep, endsStep, stepCall}
 use Rattle.paper.specs.Coupled.{firstOf}
 use Rattle.paper.specs.KeptCalls.{keptLong}
@@ -35,8 +35,8 @@ use Rattle.laws.proofs.Narrowed.{expand-take}
 use Rattle.laws.proofs.KeptCalls.{wideOf}
 use Rattle.starts.specs.Lent.{Starts, wide, Laid}
 use Rattle.starts.proofs.Lent.{laid-lent, laid-wide}
-use Rattle.settle.specs.Asks.{Ending, ending, endsAs}
-use Rattle.step.specs.Asks.{Own, pastNine, Past}
+use Rattle.settle.specs.Asks.{Ending, ending, endsAs, keeping}
+use Rattle.step.specs.Asks.{Own, pastNine, Past, keepingStep}
 
 -- ---- of what is lent, its front alone matters
 
@@ -62,6 +62,10 @@ whole-exit t p a l w old carried p′ a′ {e} {x} {y} (refused r) long q =
     ∙ (λ i. leftStep (Refused r) (lent t p a l w (take-append-drop (nodes t) old i) (take-append-drop (nodes t) carried i)))
 
 -- ---- document 01's step
+
+same-answer : (z : Lent) (b : Board) (carried : List ℤ) (o : Outcome Settling) → endsAs b carried o .answer ≡ endsStep z o .answer
+same-answer z b carried (done s) = refl
+same-answer z b carried (refused r) = refl
 
 foreign-first : (b : Bool) (o : Outcome Settling) → after (cond b (answer.Refused Foreign) answer.Done) o ≡ when (not b) Foreign o
 foreign-first true o = refl
@@ -96,6 +100,22 @@ module _ (t : List ℕ) (p a l w old carried : List ℤ) (jd : judged t ≡ answ
       → ending x new on ≡ endsAs (boardOf t (o .p) (o .a) (take n old) (take n carried)) (take n carried) (pastNine n t o (take n old) (take n carried))
       → leftStep x (lent t p a l w (new ++ drop n old) (on ++ drop n carried)) ≡ stepCall z
   exit-is x new on long q = whole-exit t p a l w old carried (o .p) (o .a) (pastNine n t o (take n old) (take n carried)) long q ∙ sym call-is
+
+  -- one that is not kept
+  pub exit-left : (x : Stepped) (new on : List ℤ)
+      → ending x new on ≡ ending (endsAs (boardOf t (o .p) (o .a) (take n old) (take n carried)) (take n carried) (pastNine n t o (take n old) (take n carried)) .answer) (take n old) (take n carried)
+      → leftStep x (lent t p a l w (new ++ drop n old) (on ++ drop n carried)) ≡ leftStep (stepCall z .answer) z
+  exit-left x new on q =
+      (λ i. leftStep (q i .answer) (lent t p a l w (q i .temperatures ++ drop n old) (q i .carried ++ drop n carried)))
+      ∙ (λ i. leftStep (same-answer z (boardOf t (o .p) (o .a) (take n old) (take n carried)) (take n carried) (pastNine n t o (take n old) (take n carried)) i) (lent t p a l w (take-append-drop n old i) (take-append-drop n carried i)))
+      ∙ ap (λ (y : StepExit). leftStep (y .answer) z) (sym call-is)
+
+  -- kept or not
+  pub exit-kept : (keeps : Bool) (x : Stepped) (new on : List ℤ) → length new ≡ n
+      → ending x new on ≡ keeping keeps (take n old) (take n carried) (endsAs (boardOf t (o .p) (o .a) (take n old) (take n carried)) (take n carried) (pastNine n t o (take n old) (take n carried)))
+      → leftStep x (lent t p a l w (new ++ drop n old) (on ++ drop n carried)) ≡ keepingStep keeps z
+  exit-kept true x new on long q = exit-is x new on long q
+  exit-kept false x new on long q = exit-left x new on q
 
 -- ---- by a deck's row starts
 
@@ -157,22 +177,22 @@ module _ {t : List ℕ} {p a f : List ℤ} {st : List ℕ} {old carried : List �
       roomy ks = le-leb (matrix (nodes t)) (length (wideOf t ks)) (omega (arith, length-expand (firstOf t) (nodes t) ks))
 
   -- THEOREM. Past 9 and 17, a step by the row starts is document 01's of packed triangles.
-  pub cut-is : (x : Stepped) (new on : List ℤ) → length new ≡ length (take (n - 0) old)
+  pub cut-is : (keeps : Bool) (x : Stepped) (new on : List ℤ) → length new ≡ length (take (n - 0) old)
       → let wp = wide (take (n - 0) st) (take (long - 0) p) in
       let wa = wide (take (n - 0) st) (take (long - 0) a) in
       let wf = wide (take (n - 0) st) (take (long - 0) f) in
       ending x new on
-      ≡ endsAs (boardOf t wp wa (take (n - 0) old) (take (n - 0) carried)) (take (n - 0) carried) (pastNine (length (take (n - 0) st)) t (slices wp wa wf) (take (n - 0) old) (take (n - 0) carried))
-      → leftStep x (lent t (wideOf t p) (wideOf t a) (wideOf t f) [] (new ++ drop (n - 0) old) (on ++ drop (n - 0) carried)) ≡ stepCall (lent t (wideOf t p) (wideOf t a) (wideOf t f) [] old carried)
+      ≡ keeping keeps (take (n - 0) old) (take (n - 0) carried) (endsAs (boardOf t wp wa (take (n - 0) old) (take (n - 0) carried)) (take (n - 0) carried) (pastNine (length (take (n - 0) st)) t (slices wp wa wf) (take (n - 0) old) (take (n - 0) carried)))
+      → leftStep x (lent t (wideOf t p) (wideOf t a) (wideOf t f) [] (new ++ drop (n - 0) old) (on ++ drop (n - 0) carried)) ≡ keepingStep keeps (lent t (wideOf t p) (wideOf t a) (wideOf t f) [] old carried)
   unfolding opened
-  cut-is x new on e w =
+  cut-is keeps x new on e w =
       let ep = wide-is p (q .p-room) ∙ whole p in
       let ea = wide-is a (q .a-room) ∙ whole a in
       let ef = wide-is f (q .f-room) ∙ whole f in
       let long′ : length new ≡ nodes t = e ∙ length-take-le (n - 0) old (omega (arith, q .old-room)) ∙ m-is in
       (λ i. leftStep x (lent t (wideOf t p) (wideOf t a) (wideOf t f) [] (new ++ drop (m-is i) old) (on ++ drop (m-is i) carried)))
-      ∙ exit-is t (wideOf t p) (wideOf t a) (wideOf t f) [] old carried (q .judge) room (q .old-room) (q .carried-room) x new on long′
-      (w ∙ (λ i. endsAs (boardOf t (ep i) (ea i) (take (m-is i) old) (take (m-is i) carried)) (take (m-is i) carried) (pastNine (count i) t (slices (ep i) (ea i) (ef i)) (take (m-is i) old) (take (m-is i) carried))))
+      ∙ exit-kept t (wideOf t p) (wideOf t a) (wideOf t f) [] old carried (q .judge) room (q .old-room) (q .carried-room) keeps x new on long′
+      (w ∙ (λ i. keeping keeps (take (m-is i) old) (take (m-is i) carried) (endsAs (boardOf t (ep i) (ea i) (take (m-is i) old) (take (m-is i) carried)) (take (m-is i) carried) (pastNine (count i) t (slices (ep i) (ea i) (ef i)) (take (m-is i) old) (take (m-is i) carried)))))
 
 -- ---- the next step
 

@@ -1,6 +1,6 @@
 -- What a step asks past its first refusals, and what it comes to.
 use mathlib.Core.Path.{_≡_}
-use mathlib.Core.Bool.{not}
+use mathlib.Core.Bool.{Bool, true, false, not}
 use mathlib.Core.List.{List}
 use Prim.Native.Nat.{ℕ, _≤_}
 use lib.IntN.{ℤ}
@@ -12,6 +12,7 @@ use Rattle.paper.specs.Judge.{judged}
 use Rattle.paper.specs.Building.{Slices}
 use Rattle.paper.specs.Lent.{foreign, laden}
 use Rattle.paper.specs.Step.{Settling, boardOf, stepped, offScale}
+use Rattle.paper.specs.Calls.{Lent, StepExit, leftStep, stepCall}
 use Rattle.paper.specs.Coupled.{firstOf}
 use Rattle.paper.specs.KeptCalls.{keptLong}
 use Rattle.paper.specs.declared.Answer.the-variants.{Done}
@@ -54,3 +55,8 @@ pub record Past (t : List ℕ) (p a f : List ℤ) (st : List ℕ) (old carried :
 abbrev pub opens : Judged → Outcome ℕ
 opens (Long long) = done long
 opens (Refused r) = refused r
+
+-- document 01's step where its caller keeps it; else it answers the same, and all is left as it was lent
+abbrev pub keepingStep : Bool → Lent → StepExit
+keepingStep true z = stepCall z
+keepingStep false z = leftStep (stepCall z .answer) z

@@ -10,14 +10,14 @@ ghost use lib.ListN.{length};
 ghost use Rattle.paper.specs.Refusals.{done, after};
 ghost use Rattle.paper.specs.Building.{slices};
 ghost use Rattle.paper.specs.Step.{boardOf};
-ghost use Rattle.paper.specs.Calls.{lent, leftStep, stepCall};
+ghost use Rattle.paper.specs.Calls.{lent, leftStep};
 ghost use Rattle.paper.specs.KeptCalls.{kept, keptLong, nodesJudged, leftKeptStep, keptStep};
 ghost use Rattle.laws.proofs.KeptCalls.{wideOf};
 ghost use Rattle.starts.specs.Lent.{wide};
 ghost use Rattle.correction.specs.Asks.{Sound};
 ghost use Rattle.residual.specs.Asks.{Beside};
-ghost use Rattle.settle.specs.Asks.{Ready, ending, endsAs, stepsTo};
-ghost use Rattle.step.specs.Asks.{Own, pastNine, Past, opens};
+ghost use Rattle.settle.specs.Asks.{Ready, ending, endsAs, stepsTo, keeping};
+ghost use Rattle.step.specs.Asks.{Own, pastNine, Past, opens, keepingStep};
 
 // ---- past the refusals
 
@@ -33,9 +33,10 @@ fn prepared(
     carried: &mut [i64],
     t: &mut [i32],
     r: &mut [i64],
+    keeps: bool,
 ) -> Stepped
     requires { ⌜ Ready (now table) (wide (now starts) (now p)) (wide (now starts) (now a)) (now old) (now carried) (length (now starts)) × Beside (now starts) (now p) (now a) × Sound (now starts) (now l) × (length (now fixed) ≡ length (now starts)) × (length (now t) ≡ length (now starts)) × (length (now r) ≡ length (now starts)) ⌝ }
-    ensures { λ e. ⌜ ending e (now (old .exit)) (now (carried .exit)) ≡ stepsTo (now (table .entry)) (wide (now (starts .entry)) (now (p .entry))) (wide (now (starts .entry)) (now (a .entry))) (wide (now (starts .entry)) (now (l .entry))) (now (old .entry)) (now (carried .entry)) ⌝ }
+    ensures { λ e. ⌜ ending e (now (old .exit)) (now (carried .exit)) ≡ keeping keeps (now (old .entry)) (now (carried .entry)) (stepsTo (now (table .entry)) (wide (now (starts .entry)) (now (p .entry))) (wide (now (starts .entry)) (now (a .entry))) (wide (now (starts .entry)) (now (l .entry))) (now (old .entry)) (now (carried .entry))) ⌝ }
 {
     loads::fixed(table, &mut fixed[..]);
     settle::finish(
@@ -49,6 +50,7 @@ fn prepared(
         &mut carried[..],
         &mut t[..],
         &mut r[..],
+        keeps,
     )
 }
 
@@ -61,9 +63,10 @@ fn work(
     starts: &[u32],
     old: &mut [i64],
     carried: &mut [i64],
+    keeps: bool,
 ) -> Stepped
     requires { ⌜ Ready (now table) (wide (now starts) (now p)) (wide (now starts) (now a)) (now old) (now carried) (length (now starts)) × Beside (now starts) (now p) (now a) × Sound (now starts) (now l) ⌝ }
-    ensures { λ e. ⌜ ending e (now (old .exit)) (now (carried .exit)) ≡ stepsTo (now (table .entry)) (wide (now (starts .entry)) (now (p .entry))) (wide (now (starts .entry)) (now (a .entry))) (wide (now (starts .entry)) (now (l .entry))) (now (old .entry)) (now (carried .entry)) ⌝ }
+    ensures { λ e. ⌜ ending e (now (old .exit)) (now (carried .exit)) ≡ keeping keeps (now (old .entry)) (now (carried .entry)) (stepsTo (now (table .entry)) (wide (now (starts .entry)) (now (p .entry))) (wide (now (starts .entry)) (now (a .entry))) (wide (now (starts .entry)) (now (l .entry))) (now (old .entry)) (now (carried .entry))) ⌝ }
 {
     let mut fixed = [0i32; 96];
     let mut t = [0i32; 96];
@@ -80,12 +83,14 @@ fn work(
         &mut carried[..],
         &mut t[0..n],
         &mut r[0..n],
+        keeps,
     )
 }
 
 // ---- refusals
 
-// Past 9 and 17, over what of the lent slices the deck covers, by any row starts: refusals 10 and 11, and then the step.
+// Past 9 and 17, over what of the lent slices the deck covers, by any row starts: refusals 10 and 11, and then the step. Where its
+// caller does not keep it, nothing is written.
 pub fn covered(
     table: &[u32],
     p: &[i64],
@@ -94,9 +99,10 @@ pub fn covered(
     starts: &[u32],
     old: &mut [i64],
     carried: &mut [i64],
+    keeps: bool,
 ) -> Stepped
     requires { ⌜ Own (now table) (now starts) (now p) (now a) (now l) (now old) (now carried) ⌝ }
-    ensures { λ e. ⌜ ending e (now (old .exit)) (now (carried .exit)) ≡ endsAs (boardOf (now (table .entry)) (wide (now (starts .entry)) (now (p .entry))) (wide (now (starts .entry)) (now (a .entry))) (now (old .entry)) (now (carried .entry))) (now (carried .entry)) (pastNine (length (now (starts .entry))) (now (table .entry)) (slices (wide (now (starts .entry)) (now (p .entry))) (wide (now (starts .entry)) (now (a .entry))) (wide (now (starts .entry)) (now (l .entry)))) (now (old .entry)) (now (carried .entry))) ⌝ }
+    ensures { λ e. ⌜ ending e (now (old .exit)) (now (carried .exit)) ≡ keeping keeps (now (old .entry)) (now (carried .entry)) (endsAs (boardOf (now (table .entry)) (wide (now (starts .entry)) (now (p .entry))) (wide (now (starts .entry)) (now (a .entry))) (now (old .entry)) (now (carried .entry))) (now (carried .entry)) (pastNine (length (now (starts .entry))) (now (table .entry)) (slices (wide (now (starts .entry)) (now (p .entry))) (wide (now (starts .entry)) (now (a .entry))) (wide (now (starts .entry)) (now (l .entry)))) (now (old .entry)) (now (carried .entry)))) ⌝ }
 {
     if lent::foreign(p, a, l, starts) {
         return Stepped::Refused(Refusal::Foreign);
@@ -109,7 +115,16 @@ pub fn covered(
     if node != 0 {
         return Stepped::Refused(Refusal::OffScale(node));
     }
-    work(table, p, a, l, starts, &mut old[..], &mut carried[..])
+    work(
+        table,
+        p,
+        a,
+        l,
+        starts,
+        &mut old[..],
+        &mut carried[..],
+        keeps,
+    )
 }
 
 // Whether there is a temperature and a carried number for each node.
@@ -128,7 +143,8 @@ pub enum Judged {
     Refused(Refusal),
 }
 
-// The deck's refusals, then 9 and 17, of a step and of a run.
+// The deck's refusals, then 9 and 17, of a step, of a run and of a step with zones. Each slice is handed on as a part: so its callers
+// need not have it in memory, and that is stack below a step.
 pub fn judge(
     table: &[u32],
     p: &[i64],
@@ -140,21 +156,21 @@ pub fn judge(
 ) -> Judged
     ensures { λ r. ⌜ opens r ≡ after (nodesJudged (kept (now (table .entry)) (now (p .entry)) (now (a .entry)) (now (factor .entry)) [] (now (starts .entry)) (now (temperatures .entry)) (now (carried .entry)))) (done (keptLong (now (table .entry)))) ⌝ }
 {
-    let verdict = cards::judge(table);
+    let verdict = cards::judge(&table[..]);
     if let Answer::Refused(why) = verdict {
         return Judged::Refused(why);
     }
-    let n = element::nodes(table);
-    let found = starts::find(table, starts, n);
-    let rest = room(temperatures, carried, n);
-    let answer = lent::judge(found, p, a, factor, starts, rest, n);
+    let n = element::nodes(&table[..]);
+    let found = starts::find(&table[..], &starts[..], n);
+    let rest = room(&temperatures[..], &carried[..], n);
+    let answer = lent::judge(found, &p[..], &a[..], &factor[..], &starts[..], rest, n);
     if let Answer::Refused(why) = answer {
         return Judged::Refused(why);
     }
     Judged::Long(found.long)
 }
 
-// A step past those, as document 01 has it of packed triangles: for a run, which judges once.
+// A step past those, as document 01 has it of packed triangles: for a run, which judges once, and for zones, which may refuse it yet.
 pub fn judged_step(
     table: &[u32],
     p: &[i64],
@@ -164,9 +180,10 @@ pub fn judged_step(
     temperatures: &mut [i64],
     carried: &mut [i64],
     long: usize,
+    keeps: bool,
 ) -> Stepped
     requires { ⌜ Past (now table) (now p) (now a) (now factor) (now starts) (now temperatures) (now carried) long ⌝ }
-    ensures { λ e. ⌜ leftStep e (lent (now (table .entry)) (wideOf (now (table .entry)) (now (p .entry))) (wideOf (now (table .entry)) (now (a .entry))) (wideOf (now (table .entry)) (now (factor .entry))) [] (now (temperatures .exit)) (now (carried .exit))) ≡ stepCall (lent (now (table .entry)) (wideOf (now (table .entry)) (now (p .entry))) (wideOf (now (table .entry)) (now (a .entry))) (wideOf (now (table .entry)) (now (factor .entry))) [] (now (temperatures .entry)) (now (carried .entry))) ⌝ }
+    ensures { λ e. ⌜ leftStep e (lent (now (table .entry)) (wideOf (now (table .entry)) (now (p .entry))) (wideOf (now (table .entry)) (now (a .entry))) (wideOf (now (table .entry)) (now (factor .entry))) [] (now (temperatures .exit)) (now (carried .exit))) ≡ keepingStep keeps (lent (now (table .entry)) (wideOf (now (table .entry)) (now (p .entry))) (wideOf (now (table .entry)) (now (a .entry))) (wideOf (now (table .entry)) (now (factor .entry))) [] (now (temperatures .entry)) (now (carried .entry))) ⌝ }
 {
     let n = element::nodes(table);
     covered(
@@ -177,6 +194,7 @@ pub fn judged_step(
         &starts[0..n],
         &mut temperatures[0..n],
         &mut carried[0..n],
+        keeps,
     )
 }
 
@@ -202,6 +220,7 @@ pub fn step(
             &mut temperatures[..],
             &mut carried[..],
             long,
+            true,
         ),
         Judged::Refused(why) => Stepped::Refused(why),
     }

@@ -1,9 +1,10 @@
 //! The checked numbers, P1 to P12, those of the edge film, of the tetrahedron, of what a step carries, of thin triangles and of radiation, out
-//! of an archive alone: that of the kept form and that of the packed one. And those of starts and of changes.
+//! of an archive alone: that of the kept form and that of the packed one. And those of starts, of changes and of zones.
 
 use crate::archive;
 use crate::case::{Call, Lent};
-use crate::decks::{kept_of, triangle, turned, Groups, E, F, G, H, V};
+use crate::decks::{kept_of, triangle, turned, Groups, E, F, G, H, TOP, V};
+use crate::zones::{by_archive, How, Zones};
 
 /// A call of an archive.
 type Archive = fn(Call, &mut Lent) -> u64;
@@ -461,4 +462,76 @@ pub fn changes() {
     assert_eq!(lent.matrices[1][..6], thick, "kept");
     assert_eq!(lent.temperatures[..3], [START + 7; 3], "one step");
     assert_eq!(lent.carried[..3], [-4_464; 3], "one step");
+}
+
+/// Zones: P6 with node 1 held, so that nodes 2 and 3 go up by 8 ticks; a zone of each kind, and each refusal in its turn.
+pub fn zones() {
+    let mut groups = Groups::base();
+    groups.heats.push([1, 3]);
+    groups.fixed.push([1, START as u32]);
+    let mut lent = lend(&groups);
+    assert_eq!(archive::call(Call::Build, &mut lent), 0, "zones");
+    let edges = vec![START as u32, START as u32 + 8, START as u32 + 9];
+    let zones = Zones {
+        counts: vec![1, 2, 3],
+        members: vec![1, 3, 2, 3, 2, 1],
+        edges,
+        summary: vec![7; 10],
+    };
+    let step = |zones: &Zones| by_archive(How::Step, &lent, zones);
+    let after = step(&zones);
+    assert_eq!(after.answer, 256, "a step with zones");
+    assert_eq!(
+        after.lent.temperatures[..3],
+        [START, START + 8, START + 8],
+        "a step with zones"
+    );
+    assert_eq!(after.zones.summary, [7, 7, 7, 2, 2, 2, 1, 2, 1, 7], "kept");
+    let afresh = by_archive(How::Afresh, &after.lent, &zones);
+    assert_eq!(afresh.answer, 0, "afresh");
+    assert_eq!(
+        afresh.zones.summary,
+        [1, 1, 1, 2, 2, 2, 1, 2, 1, 7],
+        "afresh"
+    );
+    // Each fault alone, and with those that come after it.
+    let mut spoiled = zones.clone();
+    let mut answers = vec![];
+    let mut tell = |lent: &Lent, zones: &Zones| {
+        let after = by_archive(How::Step, lent, zones);
+        assert!(
+            after.lent == *lent && after.zones == *zones,
+            "refused, it wrote"
+        );
+        answers.push(after.answer);
+    };
+    spoiled.edges[2] = spoiled.edges[1];
+    tell(&lent, &spoiled);
+    spoiled.members[5] = 4;
+    tell(&lent, &spoiled);
+    spoiled.members[1] = 0;
+    tell(&lent, &spoiled);
+    spoiled.edges = vec![0; 15];
+    tell(&lent, &spoiled);
+    let mut hot = lent.clone();
+    hot.temperatures[1] = i64::from(TOP) + 1;
+    tell(&hot, &spoiled);
+    hot.starts[2] = 4;
+    tell(&hot, &spoiled);
+    spoiled.summary.truncate(8);
+    tell(&hot, &spoiled);
+    hot.table.pop();
+    tell(&hot, &spoiled);
+    let place = 65_536;
+    let right = [
+        19 + 3 * place,
+        18 + 3 * place,
+        18 + 2 * place,
+        1,
+        11 + 2 * place,
+        17 + 3 * place,
+        9,
+        1,
+    ];
+    assert_eq!(answers, right, "the order of refusals");
 }

@@ -26,6 +26,7 @@ mod met_runs;
 mod met_solids;
 mod met_sources;
 mod met_thin;
+mod met_zones;
 mod packed;
 mod packed_face;
 mod plan;
@@ -38,6 +39,7 @@ mod solids;
 mod sources;
 mod thin;
 mod trial;
+mod zones;
 
 use std::process::ExitCode;
 use std::time::Duration;
@@ -59,10 +61,12 @@ fn main() -> ExitCode {
     figures::all(packed::call);
     figures::rows();
     figures::changes();
-    println!("P1 to P12, the figures of the edge film, the tetrahedron, the residuals, thin triangles, radiation, starts and changes out of the archive: as the papers have them");
+    figures::zones();
+    println!("P1 to P12, the figures of the edge film, the tetrahedron, the residuals, thin triangles, radiation, starts, changes and zones out of the archive: as the papers have them");
     println!("seed {seed}");
     let mut trial = trial::Trial::new(seed, MOST);
-    let parts = plan::LENT.into_iter().chain(runs::ALL).chain(posted::ALL);
+    let lent = plan::LENT.into_iter().chain(runs::ALL);
+    let parts = lent.chain(posted::ALL).chain(zones::ALL);
     let parts = parts.chain(plan::DAMAGED);
     for (name, part) in parts {
         let (cases, seconds) = (trial.cases(), trial.seconds());

@@ -4,6 +4,7 @@ use crate::case::{Call, Case, Lent, MATRICES};
 use crate::decks::{kept_of, nodes_of, Chance, NUMBERS};
 use crate::met::Met;
 use crate::met_runs::Runs;
+use crate::met_zones;
 use crate::posted::Posted;
 use crate::show;
 use crate::shrink::shrink;
@@ -21,6 +22,7 @@ pub struct Trial {
     things: Met,
     runs: Runs,
     pub posted: Posted,
+    zones: met_zones::Met,
     /// Decks after replacements that were compared with a fresh build.
     fresh: u64,
     began: Instant,
@@ -35,6 +37,7 @@ impl Trial {
             things: Met::default(),
             runs: Runs::default(),
             posted: Posted::default(),
+            zones: met_zones::Met::default(),
             fresh: 0,
             began: Instant::now(),
             most,
@@ -129,6 +132,11 @@ impl Trial {
         self.runs.as_by_hand(changes);
     }
 
+    /// A call with zones, which agreed.
+    pub fn zoned(&mut self, seen: &met_zones::Seen) {
+        self.zones.see(seen);
+    }
+
     pub fn fresh(&self) -> u64 {
         self.fresh
     }
@@ -143,11 +151,11 @@ impl Trial {
     }
 
     pub fn cases(&self) -> u64 {
-        self.met.iter().flatten().sum()
+        self.met.iter().flatten().sum::<u64>() + self.zones.cases()
     }
 
-    /// Prints what was met. Was every refusal, and all of G, of heats, of residuals, of V, of thin triangles, of starts, of C, of R, of runs and
-    /// of changes in two orders?
+    /// Prints what was met. Was every refusal, and all of G, of heats, of residuals, of V, of thin triangles, of starts, of C, of R, of runs, of
+    /// changes in two orders and of zones?
     pub fn report(&self) -> bool {
         print!("{:8} {:>8} {:>8}", "call", "cases", "done");
         (1..NUMBERS).for_each(|number| print!(" {number:>6}"));
@@ -172,9 +180,12 @@ impl Trial {
         self.runs.lines().iter().for_each(|line| println!("{line}"));
         let posted = self.posted.lines();
         posted.iter().for_each(|line| println!("{line}"));
+        let zones = self.zones.lines();
+        zones.iter().for_each(|line| println!("{line}"));
         let mut things = self.things.unmet();
         things.extend(self.runs.unmet());
         things.extend(self.posted.unmet());
+        things.extend(self.zones.unmet());
         things.iter().for_each(|thing| println!("not met: {thing}"));
         unmet.is_empty() && things.is_empty()
     }

@@ -5,6 +5,7 @@ use crate::decks::{
     about_thin, bytes_of, put, text_of, turned, Chance, Groups, C, D, E, F, G, H, M, N, R, SIDES,
     T, TOP, V, Z,
 };
+use crate::model::Zones;
 use crate::plan::LENT;
 use crate::record::Record;
 use crate::trial::Trial;
@@ -20,6 +21,7 @@ pub fn all(record: &mut Record) {
     refused_steps(record);
     boards(record);
     closed_board(record);
+    zones(record);
     largest(record);
     wild_decks(record);
     edges(record);
@@ -318,6 +320,66 @@ fn closed_board(record: &mut Record) {
     record.back();
     record.deck(deck);
     record.steps(1);
+}
+
+/// A board's zones over steps and replacements, zones that are refused and leave the old ones, and a new deck that has none.
+fn zones(record: &mut Record) {
+    record.zones(Zones::default());
+    let start = 298 * 65_536;
+    for (columns, rows, many) in [(4, 3, 4), (6, 6, 16), (12, 8, 16)] {
+        let mut groups = Groups::sheet(&mut record.chance, columns, rows);
+        groups.d[1] = start;
+        record.deck(&bytes_of(&groups.table()));
+        record.steps(2);
+        let nodes = columns * rows;
+        let each = |many: u32| -> Vec<Vec<u32>> {
+            let nodes = 1..=nodes;
+            let zone = |zone: u32| nodes.clone().filter(move |node| node % many == zone);
+            (0..many).map(|number| zone(number).collect()).collect()
+        };
+        let right = Zones {
+            edges: (0..14).map(|edge| start - 30_000 + 9_000 * edge).collect(),
+            each: each(many),
+        };
+        record.zones(right.clone());
+        for _ in 0..4 {
+            record.steps(1);
+            replaced(record, 3, 2);
+        }
+        record.steps(25);
+        // Each of these leaves the right ones at work.
+        let mut wrong = [(); 7].map(|()| right.clone());
+        wrong[0].edges.push(u32::MAX);
+        wrong[1].each = each(17);
+        wrong[2].each[1] = vec![1; 97];
+        wrong[3].each[2].clear();
+        wrong[4].each[3][0] = 0;
+        wrong[5].each[3].push(nodes + 1);
+        wrong[6].edges[5] = wrong[6].edges[4];
+        for wrong in wrong {
+            record.zones(wrong);
+            record.steps(1);
+        }
+        record.zones(Zones {
+            edges: vec![],
+            each: vec![vec![nodes; 96], vec![1, 1, 2]],
+        });
+        record.steps(3);
+    }
+    for line in [
+        "zones x;1",
+        "zones 5;1 x",
+        "zones 5;1,2",
+        "zones 1 2 3 4 5 6 7 8 9 10 11 12 13 14 15 16;1",
+        "zones ;1;1;1;1;1;1;1;1;1;1;1;1;1;1;1;1;1;1",
+        "zones 5;-1",
+        "zones 5;4294967296",
+    ] {
+        record.nonsense(line);
+    }
+    assert!([0, 1, 18, 19]
+        .iter()
+        .all(|&number: &usize| record.zones[number] > 0));
 }
 
 /// As many cards of each kind as there may be; then one more, which no trailer allows.

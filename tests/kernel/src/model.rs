@@ -2,7 +2,7 @@
 
 use crate::decks::nodes_of;
 use reference::kept::{build, replace, step};
-use reference::{read, write, Answer, Card, Stepped, MAX_NODES, MAX_ROWS};
+use reference::{read, write, zones, Answer, Card, Stepped, MAX_NODES, MAX_ROWS};
 
 pub struct Model {
     pub table: Vec<u32>,
@@ -13,6 +13,36 @@ pub struct Model {
     starts: Vec<u32>,
     pub temperatures: Vec<i64>,
     pub carried: Vec<i64>,
+    zones: Zones,
+    /// Three numbers a zone.
+    summary: Vec<u32>,
+}
+
+/// The band edges, and the nodes of each zone.
+#[derive(Clone, Default)]
+pub struct Zones {
+    pub edges: Vec<u32>,
+    pub each: Vec<Vec<u32>>,
+}
+
+impl Zones {
+    fn counts(&self) -> Vec<u32> {
+        self.each.iter().map(|zone| zone.len() as u32).collect()
+    }
+
+    /// As the module takes them.
+    pub fn text(&self) -> String {
+        let list = |numbers: &Vec<u32>| {
+            let numbers: Vec<String> = numbers.iter().map(u32::to_string).collect();
+            numbers.join(" ")
+        };
+        let lists: Vec<String> = [&self.edges]
+            .into_iter()
+            .chain(&self.each)
+            .map(list)
+            .collect();
+        lists.join(";")
+    }
 }
 
 impl Model {
@@ -28,6 +58,8 @@ impl Model {
             starts: vec![0; MAX_NODES],
             temperatures: vec![],
             carried: vec![],
+            zones: Zones::default(),
+            summary: vec![],
         }
     }
 
@@ -52,8 +84,34 @@ impl Model {
             self.temperatures = vec![i64::from(table[2]); nodes_of(&table)];
             self.carried = vec![0; nodes_of(&table)];
             self.table = table;
+            self.zones = Zones::default();
         }
         answer
+    }
+
+    /// Zones that are refused leave the old ones.
+    pub fn set_zones(&mut self, new: Zones) -> Answer {
+        let mut summary = vec![0; 3 * new.each.len()];
+        let (counts, members) = (new.counts(), new.each.concat());
+        let (table, temperatures) = (&self.table, &self.temperatures);
+        let answer = zones::summarise(
+            table,
+            temperatures,
+            &counts,
+            &members,
+            &new.edges,
+            &mut summary,
+        );
+        if answer == Answer::Done {
+            (self.zones, self.summary) = (new, summary);
+        }
+        answer
+    }
+
+    /// Of each zone, the band of its coldest node.
+    pub fn bands(&self) -> Vec<u32> {
+        let zones = 0..self.zones.each.len();
+        zones.map(|zone| self.summary[3 * zone + 2]).collect()
     }
 
     pub fn replace(&mut self, card: u32, new: Card) -> Answer {
@@ -72,6 +130,7 @@ impl Model {
     /// The last answer, and how many steps were done before a refusal.
     pub fn steps(&mut self, wanted: u32) -> (Stepped, u32) {
         let mut done = 0;
+        let (counts, members) = (self.zones.counts(), self.zones.each.concat());
         loop {
             let Model {
                 table,
@@ -81,9 +140,26 @@ impl Model {
                 starts,
                 temperatures,
                 carried,
+                zones,
+                summary,
                 ..
             } = self;
-            let answer = step(table, p, a, factor, starts, temperatures, carried);
+            let answer = match zones.each.is_empty() {
+                true => step(table, p, a, factor, starts, temperatures, carried),
+                false => zones::step(
+                    table,
+                    p,
+                    a,
+                    factor,
+                    starts,
+                    temperatures,
+                    carried,
+                    &counts,
+                    &members,
+                    &zones.edges,
+                    summary,
+                ),
+            };
             if let Stepped::Refused(_) = answer {
                 return (answer, done);
             }

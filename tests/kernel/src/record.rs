@@ -1,7 +1,7 @@
 //! The commands, one a line, and what the guest shows of each.
 
 use crate::decks::{triangle, Chance, G, NUMBERS, V};
-use crate::model::Model;
+use crate::model::{Model, Zones};
 use crate::trial::Trial;
 use crate::words;
 use reference::{Answer, Card, Stepped, MAX_NODES};
@@ -25,7 +25,12 @@ pub struct Record {
     pub edges: [u32; NUMBERS],
     /// And those by a V card.
     pub solids: [u32; NUMBERS],
+    /// Zones that were set, by answer.
+    pub zones: [u32; ZONE_NUMBERS],
 }
+
+/// As many as there are refusals, and acceptance: 18 and 19 are of zones.
+pub const ZONE_NUMBERS: usize = 20;
 
 fn number_of(answer: Answer) -> usize {
     (answer.packed() & 255) as usize
@@ -51,6 +56,7 @@ impl Record {
             met: [[0; NUMBERS]; 3],
             edges: [0; NUMBERS],
             solids: [0; NUMBERS],
+            zones: [0; ZONE_NUMBERS],
         }
     }
 
@@ -60,13 +66,23 @@ impl Record {
         self.commands.push(line);
     }
 
-    /// After every command but `back`: the answer, the temperatures and what is carried.
+    /// After every command but `back`: the answer, the temperatures, what is carried and the bands.
     fn show(&mut self) {
         self.shown.push(self.answer.clone());
         for numbers in [&self.model.temperatures, &self.model.carried] {
             let numbers: Vec<String> = numbers.iter().map(i64::to_string).collect();
             self.shown.push(numbers.join(" "));
         }
+        let bands: Vec<String> = self.model.bands().iter().map(u32::to_string).collect();
+        self.shown.push(bands.join(" "));
+    }
+
+    pub fn zones(&mut self, zones: Zones) {
+        self.command(format!("zones {}", zones.text()).trim_end().to_string());
+        let answer = self.model.set_zones(zones);
+        self.zones[number_of(answer)] += 1;
+        self.answer = words::answered(answer);
+        self.show();
     }
 
     pub fn deck(&mut self, bytes: &[u8]) {
@@ -145,8 +161,10 @@ impl Record {
             format!("{} accepted and {refused} refused", met[0])
         });
         Ok(format!(
-            "{} commands; decks {decks}, replacements {replacements}, steps {steps}; {} cases of lent buffers",
+            "{} commands; decks {decks}, replacements {replacements}, steps {steps}, zones {} accepted and {} refused; {} cases of lent buffers",
             self.commands.len(),
+            self.zones[0],
+            self.zones[1..].iter().sum::<u32>(),
             trial.cases()
         ))
     }

@@ -72,7 +72,7 @@ same-length-2 : tie.Need-same-length-2
 same-length-2 c = search needs
 
 returns : tie.Need-returns
-returns c = cut-is (c .before .before .before .before .before .before .before .before .before .before .before .before .pre) (c .before .before .before .before .before .before .before .before .before .nodes .result) (c .before .before .before .before .before .before .before .before .before .nodes .ensures) (c .before .before .covered .result) (c .before .before .covered .last .1 .1 .1 .1 .1 .0) (c .before .before .covered .last .1 .1 .1 .1 .1 .1 .0) (c .before .before .covered .kept .1 .1 .1 .1 .1 .0) (c .before .before .covered .ensures)
+returns c = cut-is (c .before .before .before .before .before .before .before .before .before .before .before .before .pre) (c .before .before .before .before .before .before .before .before .before .nodes .result) (c .before .before .before .before .before .before .before .before .before .nodes .ensures) (c .before .before .before .before .before .before .before .before .before .before .before .before .args .keeps) (c .before .before .covered .result) (c .before .before .covered .last .1 .1 .1 .1 .1 .0) (c .before .before .covered .last .1 .1 .1 .1 .1 .1 .0) (c .before .before .covered .kept .1 .1 .1 .1 .1 .0) (c .before .before .covered .ensures)
 
 pub judged-step-spec : {M : Type 1} → statement M
 judged-step-spec =

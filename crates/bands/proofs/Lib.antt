@@ -1,0 +1,6 @@
+-- The laws of a summary's loops, and of the zones' refusals.
+mod InRows
+mod Turns
+mod Refreshing
+mod Judging
+pub mod Told

@@ -1,0 +1,2 @@
+-- What the stages of the zones' calls ask of each other.
+pub mod Asks
