@@ -10,5 +10,4 @@ pub mod Orders
 pub mod Redone
 pub mod Solids
 pub mod Kept
-pub mod Changed
 pub mod Posted
