@@ -11,7 +11,7 @@ ghost use Rattle.paper.specs.Cards.{nodes};
 ghost use Rattle.paper.specs.Judge.{judged};
 ghost use Rattle.paper.specs.Calls.{lent, left, leftStep, buildCall, replaceCall, stepCall, gave, exitToC, stepToC};
 ghost use Rattle.paper.specs.KeptCalls.{kept};
-ghost use Rattle.paper.specs.Changes.{changingRun};
+ghost use Rattle.paper_changes.specs.Changes.{changingRun};
 ghost use Rattle.paper.specs.declared.Answer.the-variants.{Done};
 ghost use Rattle.admit.specs.Asks.{cardsJudged};
 ghost use Rattle.gormulast_packed.specs.Runs.{ranPacked, runToC};

@@ -14,7 +14,7 @@ use Rattle.paper.specs.Building.{Slices}
 use Rattle.paper.specs.Calls.{Lent, Exit, leaves, stepCall}
 use Rattle.paper.specs.KeptCalls.{Kept, widened, narrowed, keptRoomy, keptEnough, KeptExit, leftKept, KeptRunExit, leftKeptRun, keptReplace, keptStep}
 use Rattle.paper.specs.KeptReplacements.{KeptHolds}
-use Rattle.paper.specs.Changes.{target, renewed, falls, onwards, changed, changesFrom, changesAt, answered, stepDone, changingFrom, ranTo, changingRun, Hand, handOf, HandExit, leftHand, byHandThen, handChanged, handChanges, handStep, handRun}
+use Rattle.paper_changes.specs.Changes.{target, renewed, falls, onwards, changed, changesFrom, changesAt, answered, stepDone, changingFrom, ranTo, changingRun, Hand, handOf, HandExit, leftHand, byHandThen, handChanged, handChanges, handStep, handRun}
 use Rattle.paper.specs.declared.Answer.{Answer}
 use Rattle.paper.specs.declared.Answer.the-variants.{Done, Refused}
 use Rattle.laws.proofs.Tables.{row-length}

@@ -12,7 +12,7 @@ use Rattle.whole.specs.Sums.{sumN}
 use Rattle.paper.specs.Kinds.{about, letterOf, kindOf}
 use Rattle.paper.specs.Cards.{before, columns, ranked, rank, triple, field, letter, rowAt, rows}
 use Rattle.paper.specs.KeptCalls.{Kept, leftKept}
-use Rattle.paper.specs.Changes.{falls, changesFrom, changesAt}
+use Rattle.paper_changes.specs.Changes.{falls, changesFrom, changesAt}
 use Rattle.paper.specs.declared.Answer.the-variants.{Done}
 use Rattle.paper.specs.declared.Kind.{Kind}
 use Rattle.paper.specs.declared.Kind.the-variants.{D, N, M, E, «V», H, F, G, R, T, C, Z, Other}

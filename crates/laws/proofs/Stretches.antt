@@ -9,7 +9,7 @@ use Rattle.paper.specs.Cards.{rows}
 use Rattle.paper.specs.Building.{Slices, build}
 use Rattle.paper.specs.Calls.{Lent, Exit, lent, stepCall}
 use Rattle.paper.specs.Running.{runFrom}
-use Rattle.paper.specs.Changes.{falls, answered, Hand, handOf, HandExit, leftHand, byHandThen, handChanges, handStep, handRun, Quiet, handSteps}
+use Rattle.paper_changes.specs.Changes.{falls, answered, Hand, handOf, HandExit, leftHand, byHandThen, handChanges, handStep, handRun, Quiet, handSteps}
 use Rattle.paper.specs.declared.Answer.{Answer}
 use Rattle.paper.specs.declared.Answer.the-variants.{Done, Refused}
 use Rattle.paper.specs.declared.Refusal.{Refusal}

@@ -13,7 +13,7 @@ use Rattle.whole.proofs.First.{first-longer, first-most}
 use Rattle.paper.specs.Kinds.{about, aboutOf, kindOf, kindAt, letterOf}
 use Rattle.paper.specs.Cards.{before, countsAt, field, letter, rowAt, rows}
 use Rattle.paper.specs.Judge.{cardNamed, asks, judged}
-use Rattle.paper.specs.Changes.{target, renewed}
+use Rattle.paper_changes.specs.Changes.{target, renewed}
 use Rattle.paper.specs.declared.Answer.the-variants.{Done}
 use Rattle.paper.specs.declared.Kind.{Kind}
 use Rattle.paper.specs.declared.Kind.the-variants.{D, N, M, E, «V», H, F, G, R, T, C, Z, Other}

@@ -6,7 +6,7 @@ use lib.ListN.{take}
 use Rattle.paper.specs.Cards.{nodes, stepsOf}
 use Rattle.paper.specs.KeptCalls.{Kept, keptBuild, keptRun}
 use Rattle.paper.specs.KeptReplacements.{keptReady, keptOn, keptPresent, KeptHolds}
-use Rattle.paper.specs.Changes.{changing, ranTo, changingFrom, changingRun, Hand, handOf, byHandThen, handRun, Quiet, handSteps}
+use Rattle.paper_changes.specs.Changes.{changing, ranTo, changingFrom, changingRun, Hand, handOf, byHandThen, handRun, Quiet, handSteps}
 use Rattle.paper.specs.declared.Answer.the-variants.{Done}
 use Rattle.laws.proofs.ByHand as by-hand
 use Rattle.laws.proofs.Stretches as stretches

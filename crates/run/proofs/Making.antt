@@ -4,7 +4,7 @@ use mathlib.Core.List.{List}
 use Prim.Native.Nat.{ℕ, _-_}
 use Rattle.paper.specs.Cards.{rowAt}
 use Rattle.paper.specs.KeptCalls.{Kept, keptReplace}
-use Rattle.paper.specs.Changes.{target, renewed, changed}
+use Rattle.paper_changes.specs.Changes.{target, renewed, changed}
 
 pub as-changed : (z : Kept) (at card : ℕ) (new : List ℕ) → let t = z .lent .table in card ≡ target t (rowAt t at) → new ≡ renewed (rowAt t (card - 1)) (rowAt t at)
     → keptReplace z card new ≡ changed z (rowAt t at)

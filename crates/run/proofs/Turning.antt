@@ -9,7 +9,7 @@ use lib.ListN.{length}
 use Rattle.paper.specs.Cards.{rows}
 use Rattle.paper.specs.Calls.{lent, leftStep, stepCall}
 use Rattle.paper.specs.KeptCalls.{Kept, kept, KeptExit, leftKept, leftKeptStep, keptStep}
-use Rattle.paper.specs.Changes.{changesFrom}
+use Rattle.paper_changes.specs.Changes.{changesFrom}
 use Rattle.paper.specs.declared.Answer.the-variants.{Done, Refused}
 use Rattle.paper.specs.declared.Refusal.{Refusal}
 use Rattle.paper.specs.declared.Stepped.{Stepped}

@@ -13,7 +13,7 @@ ghost use Rattle.paper.specs.Kinds.{aboutOf};
 ghost use Rattle.paper.specs.Cards.{rowAt, rows};
 ghost use Rattle.paper.specs.Judge.{judged};
 ghost use Rattle.paper.specs.KeptCalls.{kept, leftKept, leftKeptRun};
-ghost use Rattle.paper.specs.Changes.{target, renewed, changed, changesFrom, changingFrom, changingRun};
+ghost use Rattle.paper_changes.specs.Changes.{target, renewed, changed, changesFrom, changingFrom, changingRun};
 ghost use Rattle.paper.specs.declared.Answer.the-variants.{Done};
 ghost use Rattle.laws.proofs.Cursor.{Cursor};
 ghost use Rattle.laws.proofs.Turns.{turnOf, turnsFrom};

@@ -2,7 +2,7 @@ use borrow.Author.Needs.{needs}
 use Rattle.run.proofs.renewed_at.Statement.{statement}
 use Rattle.run.proofs.renewed_at.Tie as tie
 use mathlib.Core.Path.{_∙_}
-use Rattle.paper.specs.Changes.{renewed}
+use Rattle.paper_changes.specs.Changes.{renewed}
 use Rattle.cards.proofs.Rows.{lent}
 
 mul-from : tie.Need-mul-from

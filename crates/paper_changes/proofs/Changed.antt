@@ -10,30 +10,30 @@ use Rattle.whole.specs.Sums.{sum, sumN, any, firstFrom, table}
 use Rattle.whole.specs.Packed.{tri, place, lower}
 use Rattle.whole.specs.Kept.{starts, rowStarts, keptLower, keptCell, keptEntry, expand, shrink}
 use Rattle.whole.specs.Largest.{climb}
 use Rattle.paper.specs.Refusals.{told, toldRun, Told}
 use Rattle.paper.specs.Kinds.{about, kindOf, letterOf}
 use Rattle.paper.specs.Cards.{before, columns, used, usedBy, zeros, inRange, agree, ranked, field, rows, nodes, materials, elements, put}
 use Rattle.paper.specs.Judge.{stands, clean, rises, ordered, full, nameAt, cardNamed, formed, ranged, judgeOne, asks, judgeCard, judgeFrom, trailer, judgeRows, judged, answers, newJudged}
 use Rattle.paper.specs.Corners.{square, mass, spread, share, shapeOf, area}
 use Rattle.paper.specs.Triangle.{b, c, S, side², longest², thin, pair, u, faceFilm}
 use Rattle.paper.specs.Tetrahedron.{spaceOf}
 use Rattle.paper.specs.Edge.{length², reaches, edgeFilm}
 use Rattle.paper.specs.Elements.{bodyOf, flatOf, elementOf, fair, areaOf, formJudged, elementJudged}
 use Rattle.paper.specs.Parts.{heatShare, partOf, least}
 use Rattle.paper.specs.Matrices.{addsP, addsA, addsLoad, P, A, loadOf, fixed, held, cleared}
 use Rattle.paper.specs.Radiation.{takes, lossAt, loadNow}
 use Rattle.paper.specs.Factor.{w, l, rowFrom, rowsFrom}
 use Rattle.paper.specs.Building.{elementsFrom, build}
 use Rattle.paper.specs.Replacing.{formOf, moved, redone, replaced}
 use Rattle.paper.specs.Lent.{rowSize, heavy, badRow, noFactor, foreign, laden, enough, opened, lentJudged}
 use Rattle.paper.specs.Step.{boardOf, rightSide, residual, residuals, rowBound, yAt, forwardFrom, xAt, backFrom, warmed, addFrom, correct, unsettled, attempts, stepped, carriedOn, offScale}
 use Rattle.paper.specs.Calls.{closed, leaves, buildCall, replaceCall, stepCall}
 use Rattle.paper.specs.Coupled.{corner, coupled, firstOf, strayRow}
 use Rattle.paper.specs.KeptCalls.{Kept, kept, widened, narrowed, keptEnough, lengthsJudged, startsJudged, keptBuild, keptReplace, keptStep}
-use Rattle.paper.specs.Changes.{target, renewed, falls, changed, changesFrom, changingFrom, changingRun, Hand, handOf, handChanged, handChanges, handStep, handRun}
+use Rattle.paper_changes.specs.Changes.{target, renewed, falls, changed, changesFrom, changingFrom, changingRun, Hand, handOf, handChanged, handChanges, handStep, handRun}
 use Rattle.paper.specs.declared.Kind.the-variants.{D, E, H, F, T, C, Z}
 use Rattle.paper.proofs.Cases.{same, eqZ, figures-told}
 use Rattle.paper.proofs.Checked.{right, element, material}
 
 -- ---- a deck of three nodes and an element, heated, with a film and a held node: cards 6 to 9; then its changes, from card 10 on
 
