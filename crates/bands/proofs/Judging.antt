@@ -4,7 +4,7 @@ use mathlib.Core.Bool.{Bool, true, false, cond}
 use mathlib.Core.List.{List}
 use Prim.Native.Nat.{ℕ, zero, suc}
 use Rattle.paper.specs.Refusals.{andThen}
-use Rattle.paper.specs.Zones.{crowded, refusedAt, wrongZone, sunkEdge, zonesJudged}
+use Rattle.paper_zones.specs.Zones.{crowded, refusedAt, wrongZone, sunkEdge, zonesJudged}
 use Rattle.paper.specs.declared.Answer.{Answer}
 use Rattle.paper.specs.declared.Answer.the-variants.{Done, Refused}
 use Rattle.paper.specs.declared.Refusal.{Refusal}

@@ -12,7 +12,7 @@ use lib.Seq.{drop-drop}
 use Rattle.whole.specs.Sums.{sumN}
 use Rattle.whole.proofs.Lists.{put-length, put-beyond}
 use Rattle.paper.specs.Calls.{joined}
-use Rattle.paper.specs.Zones.{zones, zoneStart, zoneAt, rowOf, wrong}
+use Rattle.paper_zones.specs.Zones.{zones, zoneStart, zoneAt, rowOf, wrong}
 use Rattle.laws.proofs.Zones.{start-more}
 use Rattle.bands.specs.Asks.{Moved, Laid, rowThen, rowsThen}
 use Rattle.bands.proofs.InRows.{rows-more, rows-end}

@@ -8,7 +8,7 @@ use lib.IntN.{ℤ, pos, negsuc}
 use lib.ListN.{length}
 use Rattle.whole.specs.Packed.{cell}
 use Rattle.whole.proofs.Sums.{any-each}
-use Rattle.paper.specs.Zones.{zones, ticksOf, laid, summaryOf, differ, refreshed, roomFor, zonesJudged}
+use Rattle.paper_zones.specs.Zones.{zones, ticksOf, laid, summaryOf, differ, refreshed, roomFor, zonesJudged}
 use Rattle.paper.specs.declared.Answer.the-variants.{Done}
 use Rattle.laws.proofs.Zones.{room-told, right, AgreeTo}
 use Rattle.laws.proofs.Fresh.{same}

@@ -17,7 +17,7 @@ use borrow.Author.Tests.{le-leb, lt-leb, leb-true, leb-false, lt-ltb, le-ltb, eq
 use Rattle.whole.specs.Sums.{any}
 use Rattle.whole.specs.Packed.{cell}
 use Rattle.whole.proofs.Calc.{rd}
-use Rattle.paper.specs.Zones.{zones, zoneStart, zoneAt, ticksOf, ahead, leads, better, best, extreme, reached, band, three, differ, changed, roomFor, crowded, outside, wrong, sunk}
+use Rattle.paper_zones.specs.Zones.{zones, zoneStart, zoneAt, ticksOf, ahead, leads, better, best, extreme, reached, band, three, differ, changed, roomFor, crowded, outside, wrong, sunk}
 use Rattle.laws.proofs.Zones.{start-more, start-upto, right-some, right-in}
 use Rattle.lent.proofs.Narrow.{rd32, wide-is}
 use Rattle.bands.specs.Asks.{Node, Zoned, Moved, rowThen}

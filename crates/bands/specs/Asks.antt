@@ -8,7 +8,7 @@ use lib.ListN.{length}
 use Rattle.whole.specs.Sums.{any}
 use Rattle.whole.specs.Packed.{cell}
 use Rattle.paper.specs.Calls.{joined}
-use Rattle.paper.specs.Zones.{zones, zoneStart, zoneAt, three, laid, rowOf, differ, changed, wrong}
+use Rattle.paper_zones.specs.Zones.{zones, zoneStart, zoneAt, three, laid, rowOf, differ, changed, wrong}
 
 -- a node with a temperature
 pub record Node (t : List ℤ) (node : ℕ) : Type 0 where

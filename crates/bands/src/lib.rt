@@ -7,7 +7,7 @@ ghost use Prim.Native.Nat.{_≤_, _<_};
 ghost use lib.Dec.{ltb};
 ghost use lib.ListN.{length, getD};
 ghost use Rattle.whole.specs.Sums.{any};
-ghost use Rattle.paper.specs.Zones.{zones, zoneStart, ticksOf, ahead, leads, better, extreme, reached, band, three, differ, changed, roomFor, crowded, outside, wrong, wrongZone, sunk, sunkEdge, zonesJudged};
+ghost use Rattle.paper_zones.specs.Zones.{zones, zoneStart, ticksOf, ahead, leads, better, extreme, reached, band, three, differ, changed, roomFor, crowded, outside, wrong, wrongZone, sunk, sunkEdge, zonesJudged};
 ghost use Rattle.bands.specs.Asks.{Node, Zoned, Moved, Laid, rowThen, rowsThen, moved};
 
 // ---- a zone's three numbers

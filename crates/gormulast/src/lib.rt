@@ -3,7 +3,7 @@ ghost use mathlib.Core.Path.{_≡_};
 ghost use mathlib.Core.List.{List, [], _∷_};
 ghost use Rattle.paper.specs.Calls.{gave, marked, readToC, writeToC};
 ghost use Rattle.paper.specs.KeptCalls.{kept, keptBuild, keptReplace, keptStep, keptToC, keptStepToC};
-ghost use Rattle.paper.specs.Zones.{summariseCall, zoned, zonesStep, zonesToC, zonesStepToC};
+ghost use Rattle.paper_zones.specs.Zones.{summariseCall, zoned, zonesStep, zonesToC, zonesStepToC};
 
 #[no_mangle]
 pub extern "C" fn gormulast_read(

@@ -11,7 +11,7 @@ use Rattle.whole.specs.Sums.{firstFrom}
 use Rattle.paper.specs.Kinds.{about, letterOf}
 use Rattle.paper.specs.Cards.{before, cards, orderOf, countsAt, mostRows, rowAt, field, rows}
 use Rattle.paper.specs.Calls.{joined}
-use Rattle.paper.specs.Records.{recordCount, recordRow, earlyFrom, early, lastRow, orAll, fixedPlace, secondRow, secondRows, secondTable, imports, imported, importCall}
+use Rattle.paper_records.specs.Records.{recordCount, recordRow, earlyFrom, early, lastRow, orAll, fixedPlace, secondRow, secondRows, secondTable, imports, imported, importCall}
 use Rattle.paper.specs.declared.Answer.the-variants.{Done, Refused}
 use Rattle.paper.specs.declared.Refusal.{Refusal}
 use Rattle.paper.specs.declared.Counts.{Counts}

@@ -13,7 +13,7 @@ use Rattle.paper.specs.Refusals.{Outcome, refused, done, when, then, answerOf}
 use Rattle.paper.specs.Kinds.{about, kindAt, letterOf}
 use Rattle.paper.specs.Cards.{columnsOf, inRange, countsAt, rowAt, rows}
 use Rattle.paper.specs.Judge.{asks, judged}
-use Rattle.paper.specs.Records.{recordKind, recordNumber, recordCard, recordAt, recordCount, inTwelves, isTail, follows, fitting, recordJudged, recordsFrom, recordsJudged, isMade, firstMade, earlyFrom, secondRows, roomJudged, imports}
+use Rattle.paper_records.specs.Records.{recordKind, recordNumber, recordCard, recordAt, recordCount, inTwelves, isTail, follows, fitting, recordJudged, recordsFrom, recordsJudged, isMade, firstMade, earlyFrom, secondRows, roomJudged, imports}
 use Rattle.paper.specs.declared.Answer.the-variants.{Done, Refused}
 use Rattle.paper.specs.declared.Refusal.{Refusal}
 use Rattle.paper.specs.declared.Refusal.the-variants.{Length, Range, Short, Replacement, Garbled}

@@ -5,7 +5,7 @@ use Prim.Native.Nat.{ℕ, _+_, _*_, _-_, _≤_, _<_}
 use lib.ListN.{length}
 use Rattle.paper.specs.Kinds.{about}
 use Rattle.paper.specs.Cards.{before, cards, mostRows, rowAt, rows}
-use Rattle.paper.specs.Records.{recordCount, early, fixedPlace}
+use Rattle.paper_records.specs.Records.{recordCount, early, fixedPlace}
 use Rattle.paper.specs.declared.Counts.{Counts}
 use Rattle.paper.specs.declared.Kind.the-variants.{H}
 use Rattle.import.specs.declared.Split.{Split}

@@ -13,7 +13,7 @@ ghost use Rattle.whole.specs.Sums.{firstFrom};
 ghost use Rattle.paper.specs.Kinds.{about, kindOf, kindAt};
 ghost use Rattle.paper.specs.Cards.{cards, mostRows, orderOf, rowAt};
 ghost use Rattle.paper.specs.Calls.{joined};
-ghost use Rattle.paper.specs.Records as paper;
+ghost use Rattle.paper_records.specs.Records as paper;
 ghost use Rattle.import.specs.Asks.{Sized, splitOf, Placed};
 
 // Where the parts of a second table begin: the deck's rows before its loads, before the fixed nodes and before Z; the records before

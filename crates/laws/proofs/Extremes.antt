@@ -11,7 +11,7 @@ use lib.Signed.{ltZ, _≤ℤ_}
 use lib.ListN.{length, getD}
 use Rattle.whole.proofs.Linear.{zarith, up, dn, ltT, ltF, leL, ofEq}
 use Rattle.whole.proofs.Tests.{never}
-use Rattle.paper.specs.Zones.{ticksOf, ahead, leads, better, best, extreme}
+use Rattle.paper_zones.specs.Zones.{ticksOf, ahead, leads, better, best, extreme}
 
 -- ---- in the zone
 

@@ -15,7 +15,7 @@ use lib.Ieee.Fits.{mul-fits, down-pos}
 use lib.Ieee.Bits.{ofBits-toBits, toBits-ofBits, nanBits-is, is-false}
 use borrow.Author.Tests.{ne-eqb, eqb-false, lt-leb, ltb-true}
 use Rattle.whole.proofs.Tests.{and-false}
-use Rattle.paper.specs.Singles.{negative, exponent, fraction, finite, mantissa, shift, size, toNearest, asField}
+use Rattle.paper_records.specs.Singles.{negative, exponent, fraction, finite, mantissa, shift, size, toNearest, asField}
 use Rattle.paper.specs.Cards.{outside, Column, within}
 use Rattle.laws.proofs.Rounds.{mantissa-bound, mantissa-leads, product-leads, rounded-high, sizeAt, field-pos, field-neg, same-nearest}
 

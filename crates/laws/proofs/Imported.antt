@@ -16,7 +16,7 @@ use Rattle.paper.specs.Refusals.{Outcome, refused, done}
 use Rattle.paper.specs.Kinds.{about, aboutOf, bodies, kindOf, kindAt, letterOf, isA}
 use Rattle.paper.specs.Cards.{before, cards, columns, columnsOf, inRange, orderOf, rank, countsOf, countsAt, rowAt, letter, rows}
 use Rattle.paper.specs.Judge.{stands, clean, rises, ordered, full, nameAt, cardNamed, asks, trailer, judged}
-use Rattle.paper.specs.Records.{recordKind, recordNumber, recordCard, recordAt, recordCount, inTwelves, recordsFrom, recordsJudged, isMade, firstMade, made, recordRow, early, lastRow, fixedPlace, secondRow, secondRows, secondTable, roomJudged, imports}
+use Rattle.paper_records.specs.Records.{recordKind, recordNumber, recordCard, recordAt, recordCount, inTwelves, recordsFrom, recordsJudged, isMade, firstMade, made, recordRow, early, lastRow, fixedPlace, secondRow, secondRows, secondTable, roomJudged, imports}
 use Rattle.paper.specs.declared.Answer.the-variants.{Done}
 use Rattle.paper.specs.declared.Refusal.the-variants.{Length, Short, Replacement}
 use Rattle.paper.specs.declared.Counts.{Counts}

@@ -7,7 +7,7 @@ use lib.Seq.{take-at, drop-at}
 use Rattle.paper.specs.Refusals.{done}
 use Rattle.paper.specs.Cards.{before, cards, countsAt, rowAt}
 use Rattle.paper.specs.Judge.{judged}
-use Rattle.paper.specs.Records.{recordCard, recordAt, recordCount, early, fixedPlace, secondRows, secondTable, imports, importCall}
+use Rattle.paper_records.specs.Records.{recordCard, recordAt, recordCount, early, fixedPlace, secondRows, secondTable, imports, importCall}
 use Rattle.paper.specs.declared.Answer.{Answer}
 use Rattle.paper.specs.declared.Answer.the-variants.{Done, Refused}
 use Rattle.paper.specs.declared.Refusal.{Refusal}

@@ -13,7 +13,7 @@ use Rattle.whole.proofs.Tests.{never, nor-told, and-false}
 use Rattle.paper.specs.Kinds.{about, kindOf, kindAt, letterOf, isA}
 use Rattle.paper.specs.Cards.{before, columns, inRange, orderOf, ranked, rank}
 use Rattle.paper.specs.Judge.{stands, rises, ordered, full, trailer, judgeCard}
-use Rattle.paper.specs.Records.{isMade}
+use Rattle.paper_records.specs.Records.{isMade}
 use Rattle.paper.specs.declared.About.{About}
 use Rattle.paper.specs.declared.Counts.{Counts}
 use Rattle.paper.specs.declared.Kind.{Kind}

@@ -14,8 +14,8 @@ use Rattle.paper.specs.Refusals.{Outcome, refused, done, when, then, answerOf}
 use Rattle.paper.specs.Kinds.{about, kindOf, kindAt}
 use Rattle.paper.specs.Cards.{columns, columnsOf, used, usedBy, zeros, inRange, orderOf}
 use Rattle.paper.specs.Judge.{clean, asks}
-use Rattle.paper.specs.Singles.{finite}
-use Rattle.paper.specs.Records.{recordKind, recordNumber, firstBits, secondBits, heatCard, filmCard, fixedCard, oneUsed, bothUsed, recordCard, recordAt, follows, fitting, recordJudged, recordsFrom, earlyFrom}
+use Rattle.paper_records.specs.Singles.{finite}
+use Rattle.paper_records.specs.Records.{recordKind, recordNumber, firstBits, secondBits, heatCard, filmCard, fixedCard, oneUsed, bothUsed, recordCard, recordAt, follows, fitting, recordJudged, recordsFrom, earlyFrom}
 use Rattle.paper.specs.declared.Answer.the-variants.{Done}
 use Rattle.paper.specs.declared.Refusal.{Refusal}
 use Rattle.paper.specs.declared.Refusal.the-variants.{Range, Infinite, Garbled}

@@ -12,7 +12,7 @@ use Rattle.whole.specs.Nearest.{nearestN, nearest}
 use Rattle.whole.proofs.Signs.{neg-times}
 use Rattle.whole.proofs.Rounding.{nearest-zero}
 use Rattle.whole.proofs.Tests.{cond-true, cond-false}
-use Rattle.paper.specs.Singles.{negative, exponent, fraction, mantissa, shift, size, value, toNearest, asField}
+use Rattle.paper_records.specs.Singles.{negative, exponent, fraction, mantissa, shift, size, value, toNearest, asField}
 use Rattle.paper.specs.Cards.{outside}
 
 -- ---- of the nearest

@@ -15,7 +15,7 @@ use Rattle.whole.proofs.Tests.{never, nor-told, cond-true, cond-false}
 use Rattle.paper.specs.Kinds.{about, kindAt, letterOf, isA}
 use Rattle.paper.specs.Cards.{before, cards, columns, orderOf}
 use Rattle.paper.specs.Judge.{stands, nameAt, cardNamed, asks}
-use Rattle.paper.specs.Records.{isMade, recordCount, early, recordRow, lastRow, orAll, fixedPlace, secondRow}
+use Rattle.paper_records.specs.Records.{isMade, recordCount, early, recordRow, lastRow, orAll, fixedPlace, secondRow}
 use Rattle.paper.specs.declared.Counts.{Counts}
 use Rattle.paper.specs.declared.Kind.{Kind}
 use Rattle.paper.specs.declared.Kind.the-variants.{D, N, M, E, «V», H, F, G, R, T, C, Z, Other}

@@ -12,7 +12,7 @@ use Rattle.whole.specs.Sums.{any}
 use Rattle.whole.proofs.Sums.{any-ext, any-each, first-none, sumN-more, sumN-upto}
 use Rattle.whole.proofs.Tests.{nor-told, and-told}
 use Rattle.paper.specs.Refusals.{andThen}
-use Rattle.paper.specs.Zones.{zones, zoneStart, zoneAt, rowOf, ticksOf, ahead, leads, better, best, extreme, band, three, differ, changed, refreshed, refusedAt, roomFor, crowded, outside, wrong, wrongZone, sunkEdge, zonesJudged}
+use Rattle.paper_zones.specs.Zones.{zones, zoneStart, zoneAt, rowOf, ticksOf, ahead, leads, better, best, extreme, band, three, differ, changed, refreshed, refusedAt, roomFor, crowded, outside, wrong, wrongZone, sunkEdge, zonesJudged}
 use Rattle.paper.specs.declared.Answer.{Answer}
 use Rattle.paper.specs.declared.Answer.the-variants.{Done, Refused}
 use Rattle.paper.specs.declared.Refusal.{Refusal}

@@ -9,8 +9,6 @@ pub mod Edges
 pub mod Orders
 pub mod Redone
 pub mod Solids
-pub mod Recorded
 pub mod Kept
 pub mod Changed
 pub mod Posted
-pub mod Zoned

@@ -9,8 +9,8 @@ use Rattle.paper.specs.Refusals.{numberOf, placeOf}
 use Rattle.paper.specs.Calls.{readCall, writeCall, Lent, buildCall, replaceCall, stepCall}
 use Rattle.paper.specs.Running.{runCall}
 use Rattle.paper.specs.KeptCalls.{Kept, keptBuild, keptReplace, keptStep, keptRun}
-use Rattle.paper.specs.Records.{importCall}
-use Rattle.paper.specs.Zones.{summariseCall, Zoned, zonesStep}
+use Rattle.paper_records.specs.Records.{importCall}
+use Rattle.paper_zones.specs.Zones.{summariseCall, Zoned, zonesStep}
 use Rattle.paper.specs.declared.Refusal.{Refusal}
 use Rattle.paper.specs.declared.Refusal.the-variants.{Length, Trailer, Form, Range, Flat, Stiff, Pivot, Bound, Short, Foreign, OffScale, Unsettled, Replacement, Thin, Infinite, Garbled, Stray, Zone, Falling}
 

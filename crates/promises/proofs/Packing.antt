@@ -7,7 +7,7 @@ use native.Mathlib.Omega.{arith}
 use Rattle.paper.specs.Refusals.{numberOf, placeOf, Told, refusal, told, toldStep, toldRun, packed}
 use Rattle.paper.specs.Calls.{Lent, stepCall}
 use Rattle.paper.specs.KeptCalls.{Kept, widened, keptStep}
-use Rattle.paper.specs.Zones.{Zoned, zonesStep}
+use Rattle.paper_zones.specs.Zones.{Zoned, zonesStep}
 use Rattle.paper.specs.declared.Answer.{Answer}
 use Rattle.paper.specs.declared.Answer.the-variants.{Done, Refused}
 use Rattle.paper.specs.declared.Refusal.{Refusal}

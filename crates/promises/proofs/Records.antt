@@ -12,11 +12,11 @@ use lib.Ieee.Exact.{HasValue}
 use Rattle.paper.specs.Refusals.{done}
 use Rattle.paper.specs.Cards.{Column, within, before, cards, countsAt, rowAt, outside}
 use Rattle.paper.specs.Judge.{judged}
-use Rattle.paper.specs.Singles.{negative, exponent, size, toNearest, asField}
-use Rattle.paper.specs.Records.{recordCard, recordAt, recordCount, early, fixedPlace, secondRows, importCall}
+use Rattle.paper_records.specs.Singles.{negative, exponent, size, toNearest, asField}
+use Rattle.paper_records.specs.Records.{recordCard, recordAt, recordCount, early, fixedPlace, secondRows, importCall}
 use Rattle.paper.specs.declared.Answer.the-variants.{Done, Refused}
 use Rattle.paper.specs.declared.Refusal.{Refusal}
-use Rattle.paper.proofs.Recorded as figures
+use Rattle.paper_records.proofs.Recorded as figures
 use Rattle.laws.proofs.Floats as floats
 use Rattle.laws.proofs.Importing as below
 

@@ -7,7 +7,7 @@ use lib.IntN.{ℤ}
 use lib.Signed.{_≤ℤ_}
 use lib.ListN.{length, getD, drop}
 use Rattle.paper.specs.KeptCalls.{keptStep}
-use Rattle.paper.specs.Zones.{zones, zoneAt, ticksOf, coldest, hottest, extreme, Fresh, rowOf, changed, roomFor, summariseCall, Zoned, ZonesStepExit, zonesStep}
+use Rattle.paper_zones.specs.Zones.{zones, zoneAt, ticksOf, coldest, hottest, extreme, Fresh, rowOf, changed, roomFor, summariseCall, Zoned, ZonesStepExit, zonesStep}
 use Rattle.paper.specs.declared.Answer.the-variants.{Done, Refused}
 use Rattle.paper.specs.declared.Refusal.{Refusal}
 use Rattle.paper.specs.declared.Stepped.the-variants as stepAnswer

@@ -8,8 +8,8 @@ use lib.Ieee.{Float, isNan}
 use borrow.Author.Tests.{eq-eqb, ne-eqb, lt-ltb, le-ltb}
 use Rattle.whole.proofs.Tests.{cond-true, cond-false, and-told}
 use Rattle.paper.specs.Refusals.{Outcome, refused, done}
-use Rattle.paper.specs.Singles.{finite}
-use Rattle.paper.specs.Records.{halfAt, wordAt, recordKind, recordNumber, heatCard, filmCard, fixedCard, oneUsed, bothUsed, recordCard, isTail, follows}
+use Rattle.paper_records.specs.Singles.{finite}
+use Rattle.paper_records.specs.Records.{halfAt, wordAt, recordKind, recordNumber, heatCard, filmCard, fixedCard, oneUsed, bothUsed, recordCard, isTail, follows}
 use Rattle.paper.specs.declared.Refusal.the-variants as refusal
 use Rattle.laws.proofs.Floats.{single-told, bits-back}
 use Rattle.records.specs.Decoding.{single, bits, told}

@@ -4,7 +4,7 @@ use mathlib.Core.List.{List}
 use Prim.Native.Nat.{ℕ}
 use lib.Ieee.{Float, binary32, ofBits, toBits, isNan}
 use Rattle.paper.specs.Refusals.{Outcome, refused, done}
-use Rattle.paper.specs.Records.{heatCard, filmCard, fixedCard}
+use Rattle.paper_records.specs.Records.{heatCard, filmCard, fixedCard}
 use Rattle.paper.specs.declared.Refusal.the-variants as refusal
 use Rattle.records.specs.declared.Record.{Record}
 use Rattle.records.specs.declared.Record.the-variants.{Heat, Film, Fixed}

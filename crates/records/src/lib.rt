@@ -8,8 +8,8 @@ ghost use lib.Ieee.{binary32, toBits, isNan};
 ghost use Rattle.whole.specs.Nearest.{nearestN};
 ghost use Rattle.paper.specs.Ticks.{kelvin};
 ghost use Rattle.paper.specs.Cards.{outside};
-ghost use Rattle.paper.specs.Singles.{finite, mantissa, shift, scaled};
-ghost use Rattle.paper.specs.Records.{halfAt, wordAt, heatCard, filmCard, fixedCard, oneUsed, bothUsed, recordCard, isTail, follows};
+ghost use Rattle.paper_records.specs.Singles.{finite, mantissa, shift, scaled};
+ghost use Rattle.paper_records.specs.Records.{halfAt, wordAt, heatCard, filmCard, fixedCard, oneUsed, bothUsed, recordCard, isTail, follows};
 ghost use Rattle.records.specs.Decoding.{single, told, toldOf, cardOf, outcome};
 
 // A record's values: heat in W; a film in W/(m² K) beside its ambient in kelvins; a fixed node in kelvins.

@@ -14,7 +14,7 @@ use Rattle.paper.specs.Cards.{nodes}
 use Rattle.paper.specs.Judge.{judged}
 use Rattle.paper.specs.Step.{offScale}
 use Rattle.paper.specs.Calls.{whenDone, joined}
-use Rattle.paper.specs.Zones.{zones, zoneAt, ticksOf, three, laid, summaryOf, refusedAt, roomFor, zonesJudged, ZonesExit, leftZones, summarises, summariseCall}
+use Rattle.paper_zones.specs.Zones.{zones, zoneAt, ticksOf, three, laid, summaryOf, refusedAt, roomFor, zonesJudged, ZonesExit, leftZones, summarises, summariseCall}
 use Rattle.paper.specs.declared.Answer.{Answer}
 use Rattle.paper.specs.declared.Answer.the-variants.{Done, Refused}
 use Rattle.paper.specs.declared.Refusal.{Refusal}

@@ -20,7 +20,7 @@ use Rattle.paper.specs.Lent.{laden, lentJudged}
 use Rattle.paper.specs.Step.{Settling, offScale}
 use Rattle.paper.specs.Calls.{Lent, lent, StepExit, leftStep, endsStep, stepCall}
 use Rattle.paper.specs.KeptCalls.{orElse}
-use Rattle.paper.specs.Zones.{refreshed, zonesJudged, settles}
+use Rattle.paper_zones.specs.Zones.{refreshed, zonesJudged, settles}
 use Rattle.paper.specs.declared.Answer.{Answer}
 use Rattle.paper.specs.declared.Answer.the-variants.{Done, Refused}
 use Rattle.paper.specs.declared.Refusal.{Refusal}

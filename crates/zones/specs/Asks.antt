@@ -12,7 +12,7 @@ use Rattle.paper.specs.Refusals.{andThen}
 use Rattle.paper.specs.Step.{offScale}
 use Rattle.paper.specs.Calls.{whenDone, StepExit}
 use Rattle.paper.specs.KeptCalls.{orElse}
-use Rattle.paper.specs.Zones.{laid, summaryOf, refreshed, refusedAt, roomFor, zonesJudged, ZonesExit, leftZones, settles}
+use Rattle.paper_zones.specs.Zones.{laid, summaryOf, refreshed, refusedAt, roomFor, zonesJudged, ZonesExit, leftZones, settles}
 use Rattle.paper.specs.declared.Answer.{Answer}
 use Rattle.paper.specs.declared.Answer.the-variants.{Done, Refused}
 use Rattle.paper.specs.declared.Refusal.{Refusal}

@@ -13,7 +13,7 @@ ghost use Rattle.paper.specs.Cards.{nodes};
 ghost use Rattle.paper.specs.Judge.{judged};
 ghost use Rattle.paper.specs.Calls.{lent, stepCall};
 ghost use Rattle.paper.specs.KeptCalls.{kept};
-ghost use Rattle.paper.specs.Zones.{refreshed, roomFor, zonesJudged, leftZones, summariseCall, zoned, leftZoned, zonesStep};
+ghost use Rattle.paper_zones.specs.Zones.{refreshed, roomFor, zonesJudged, leftZones, summariseCall, zoned, leftZoned, zonesStep};
 ghost use Rattle.paper.specs.declared.Answer.the-variants.{Done};
 ghost use Rattle.laws.proofs.KeptCalls.{wideOf};
 ghost use Rattle.step.specs.Asks.{Past};

@@ -11,7 +11,7 @@ use mir.Syntax.{w64}
 use mir.Val.{toZ}
 use mir.Facts.{toZ-ofZ}
 use Rattle.whole.proofs.Calc.{rd}
-use Rattle.paper.specs.Zones.{band}
+use Rattle.paper_zones.specs.Zones.{band}
 use Rattle.bands.proofs.Turns.{reached-most, band-on, band-end}
 
 abbrev Inv-loop : tie.InvT-loop

@@ -9,7 +9,7 @@ use borrow.Author.Needs.{sfits-of}
 use lib.ListN.{length, getD}
 use Rattle.whole.specs.Sums.{any}
 use Rattle.whole.proofs.Sums.{any-next}
-use Rattle.paper.specs.Zones.{ticksOf, differ, changed}
+use Rattle.paper_zones.specs.Zones.{ticksOf, differ, changed}
 use Rattle.lent.proofs.Turns.{stop, end}
 use Rattle.bands.proofs.Turns.{differ-is, zoned-node, moved-old, moved-new}
 

@@ -5,7 +5,7 @@ use mathlib.Core.Path.{_≡_, refl}
 use Prim.Native.Nat.{_-_, _≤_}
 use native.Mathlib.Omega.{arith}
 use lib.ListN.{length, drop}
-use Rattle.paper.specs.Zones.{leads, best, extreme}
+use Rattle.paper_zones.specs.Zones.{leads, best, extreme}
 use Rattle.bands.specs.Asks.{Node}
 use Rattle.bands.proofs.Turns.{zoned-some, zoned-node, better-node, best-on, best-end}
 

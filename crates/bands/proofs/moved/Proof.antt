@@ -10,7 +10,7 @@ use lib.ListN.{length}
 use Rattle.whole.specs.Sums.{any}
 use Rattle.whole.specs.Packed.{cell}
 use Rattle.whole.proofs.Sums.{any-next}
-use Rattle.paper.specs.Zones.{differ}
+use Rattle.paper_zones.specs.Zones.{differ}
 use Rattle.lent.proofs.Turns.{stop, end}
 use Rattle.bands.specs.Asks.{moved}
 use Rattle.bands.proofs.Turns.{differ-is}

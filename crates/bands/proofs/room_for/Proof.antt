@@ -6,7 +6,7 @@ use Prim.Native.Nat.{_+_, _-_, _≤_}
 use native.Mathlib.Omega.{arith}
 use lib.ListN.{length}
 use Rattle.whole.specs.Sums.{sumN}
-use Rattle.paper.specs.Zones.{zoneStart}
+use Rattle.paper_zones.specs.Zones.{zoneStart}
 use Rattle.laws.proofs.Zones.{start-more}
 use Rattle.bands.proofs.Turns.{room-short, room-end}
 

@@ -6,7 +6,7 @@ use Prim.Native.Nat.{_-_}
 use native.Mathlib.Omega.{arith}
 use lib.ListN.{length}
 use Rattle.whole.proofs.First.{Looking, look-start, look-here, look-on, look-end}
-use Rattle.paper.specs.Zones.{sunk, sunkEdge}
+use Rattle.paper_zones.specs.Zones.{sunk, sunkEdge}
 
 abbrev Inv-loop : tie.InvT-loop
 Inv-loop edges k₀ k = Looking (sunk edges) (length edges) k

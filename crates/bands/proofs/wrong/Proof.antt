@@ -8,7 +8,7 @@ use native.Mathlib.Omega.{arith}
 use lib.ListN.{length, getD}
 use Rattle.whole.specs.Sums.{any}
 use Rattle.whole.proofs.Sums.{any-next}
-use Rattle.paper.specs.Zones.{outside}
+use Rattle.paper_zones.specs.Zones.{outside}
 use Rattle.lent.proofs.Turns.{stop, end}
 use Rattle.bands.proofs.Turns.{wrong-empty, wrong-rest}
 

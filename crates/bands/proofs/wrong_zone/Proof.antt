@@ -7,7 +7,7 @@ use native.Mathlib.Omega.{arith}
 use lib.ListN.{length}
 use Rattle.whole.specs.Sums.{sumN}
 use Rattle.whole.proofs.First.{Looking, look-start, look-here, look-on, look-end}
-use Rattle.paper.specs.Zones.{zones, zoneStart, zoneAt, wrong, wrongZone}
+use Rattle.paper_zones.specs.Zones.{zones, zoneStart, zoneAt, wrong, wrongZone}
 use Rattle.laws.proofs.Zones.{start-more}
 use Rattle.bands.proofs.Turns.{zone-in, zone-is}
 

@@ -4,7 +4,7 @@ use Rattle.gormulast.proofs.gormulast_zones.Tie as tie
 use mathlib.Core.Path.{ap, _∙_}
 use Rattle.paper.specs.Refusals.{told, packed}
 use Rattle.paper.specs.Calls.{gave}
-use Rattle.paper.specs.Zones.{ZonesExit}
+use Rattle.paper_zones.specs.Zones.{ZonesExit}
 
 summarise-requires : tie.Need-summarise-requires
 summarise-requires c κs = search needs

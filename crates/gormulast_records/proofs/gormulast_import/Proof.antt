@@ -4,7 +4,7 @@ use Rattle.gormulast_records.proofs.gormulast_import.Tie as tie
 use mathlib.Core.Path.{ap, _∙_}
 use Rattle.paper.specs.Refusals.{told, packed}
 use Rattle.paper.specs.Calls.{gave}
-use Rattle.paper.specs.Records.{Imported}
+use Rattle.paper_records.specs.Records.{Imported}
 
 import-requires : tie.Need-import-requires
 import-requires c κs = search needs

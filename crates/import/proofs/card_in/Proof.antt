@@ -3,7 +3,7 @@ use Rattle.import.proofs.card_in.Statement.{statement}
 use Rattle.import.proofs.card_in.Tie as tie
 use mathlib.Core.Path.{refl, sym, ap, _∙_}
 use Prim.Native.Nat.{ℕ}
-use Rattle.paper.specs.Records.{made, halfAt}
+use Rattle.paper_records.specs.Records.{made, halfAt}
 use Rattle.records.specs.declared.Decoded.{Decoded}
 use Rattle.records.specs.Decoding.{outcome, cardOf, toldOf}
 

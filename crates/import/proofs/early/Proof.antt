@@ -6,7 +6,7 @@ use Prim.Native.Nat.{ℕ, _+_, _-_, _≤_}
 use native.Mathlib.Nat.{sub-zero}
 use native.Mathlib.Omega.{arith}
 use mathlib.Core.List.{List}
-use Rattle.paper.specs.Records.{earlyFrom, halfAt}
+use Rattle.paper_records.specs.Records.{earlyFrom, halfAt}
 use Rattle.import.proofs.Turns.{lent, early-here, early-on, early-end}
 
 abbrev Inv-loop : tie.InvT-loop

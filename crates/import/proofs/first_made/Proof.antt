@@ -6,7 +6,7 @@ use Prim.Native.Nat.{_-_}
 use native.Mathlib.Omega.{arith}
 use Rattle.whole.proofs.First.{Looking, look-start, look-here, look-on, look-end}
 use Rattle.paper.specs.Cards.{rowAt}
-use Rattle.paper.specs.Records.{isMade}
+use Rattle.paper_records.specs.Records.{isMade}
 use Rattle.cards.proofs.Rows.{first-at}
 
 abbrev Inv-loop : tie.InvT-loop

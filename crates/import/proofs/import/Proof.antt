@@ -3,7 +3,7 @@ use Rattle.import.proofs.import.Statement.{statement}
 use Rattle.import.proofs.import.Tie as tie
 use mathlib.Core.Path.{_≡_, sym, ap, _∙_}
 use native.Mathlib.Omega.{arith}
-use Rattle.paper.specs.Records.{imported}
+use Rattle.paper_records.specs.Records.{imported}
 use Rattle.paper.specs.declared.Answer.{Answer}
 use Rattle.paper.specs.declared.Answer.the-variants.{Done}
 use Rattle.laws.proofs.Judged.{deck}

@@ -4,7 +4,7 @@ use Rattle.import.proofs.judge.Tie as tie
 use mathlib.Core.Path.{_≡_, sym, _∙_}
 use native.Mathlib.Omega.{arith}
 use borrow.Author.Tests.{not-true, not-false}
-use Rattle.paper.specs.Records.{firstMade}
+use Rattle.paper_records.specs.Records.{firstMade}
 use Rattle.laws.proofs.Judged.{top-told}
 use Rattle.import.proofs.Turns.{call-deck, call-13, call-1, call-rest, sized-told}
 

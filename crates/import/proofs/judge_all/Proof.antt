@@ -4,7 +4,7 @@ use Rattle.import.proofs.judge_all.Tie as tie
 use mathlib.Core.Path.{_≡_, sym, ap, _∙_}
 use borrow.Author.Tests.{not-true, not-false}
 use Rattle.paper.specs.Cards.{rowAt}
-use Rattle.paper.specs.Records.{isTail}
+use Rattle.paper_records.specs.Records.{isTail}
 use Rattle.import.proofs.Turns.{lent, all-here, all-16, all-done}
 
 judge-records-requires : tie.Need-judge-records-requires

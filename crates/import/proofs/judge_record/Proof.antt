@@ -6,7 +6,7 @@ use Prim.Native.Nat.{ℕ}
 use borrow.Author.Tests.{not-true, not-false}
 use Rattle.paper.specs.Refusals.{done}
 use Rattle.paper.specs.Cards.{rowAt}
-use Rattle.paper.specs.Records.{halfAt}
+use Rattle.paper_records.specs.Records.{halfAt}
 use Rattle.paper.specs.declared.Refusal.the-variants.{Garbled, Infinite}
 use Rattle.records.specs.Decoding.{outcome, cardOf, toldOf}
 use Rattle.import.proofs.Turns.{no-change, record-refused, record-outside, record-astray, record-done}

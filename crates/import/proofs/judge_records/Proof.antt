@@ -7,7 +7,7 @@ use Prim.Native.Nat.{ℕ, _-_, _≤_}
 use native.Mathlib.Nat.{sub-zero}
 use native.Mathlib.Omega.{arith}
 use Rattle.paper.specs.Cards.{rowAt}
-use Rattle.paper.specs.Records.{halfAt, recordsFrom}
+use Rattle.paper_records.specs.Records.{halfAt, recordsFrom}
 use Rattle.import.proofs.Turns.{lent, lent-judged, records-on, records-here, records-end}
 
 abbrev Inv-loop : tie.InvT-loop

@@ -5,7 +5,7 @@ use mathlib.Core.Path.{ap, _∙_}
 use mathlib.Core.List.{List}
 use Prim.Native.Nat.{suc}
 use Prim.Native.Nat.{ℕ}
-use Rattle.paper.specs.Records.{made, recordCard, recordRow}
+use Rattle.paper_records.specs.Records.{made, recordCard, recordRow}
 use Rattle.import.proofs.Turns.{lent}
 
 mul-at : tie.Need-mul-at

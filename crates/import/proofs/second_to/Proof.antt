@@ -11,7 +11,7 @@ use lib.ListN.{length, take, drop}
 use Rattle.whole.proofs.Lists.{put-length, put-beyond}
 use Rattle.paper.specs.Cards.{rowAt}
 use Rattle.paper.specs.Calls.{joined}
-use Rattle.paper.specs.Records.{secondRow}
+use Rattle.paper_records.specs.Records.{secondRow}
 use Rattle.deck.proofs.InRows.{rows-more, rows-end}
 
 abbrev Inv-loop : tie.InvT-loop

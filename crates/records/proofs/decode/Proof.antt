@@ -2,7 +2,7 @@ use borrow.Author.Needs.{needs}
 use Rattle.records.proofs.decode.Statement.{statement}
 use Rattle.records.proofs.decode.Tie as tie
 use mathlib.Core.Path.{refl}
-use Rattle.paper.specs.Records.{halfAt}
+use Rattle.paper_records.specs.Records.{halfAt}
 use Rattle.records.specs.Decoding.{toldOf, outcome}
 use Rattle.records.proofs.Taken.{kind-1, kind-2, kind-3, kind-none}
 

@@ -5,7 +5,7 @@ use mathlib.Core.Path.{_∙_}
 use Prim.Native.Nat.{_*_, _-_, _^_, min}
 use native.Mathlib.Omega.{arith}
 use Rattle.whole.specs.Nearest.{nearestN}
-use Rattle.paper.specs.Singles.{mantissa, shift}
+use Rattle.paper_records.specs.Singles.{mantissa, shift}
 use Rattle.paper.specs.Cards.{outside}
 use Rattle.laws.proofs.Rounds.{mantissa-leads, product-bound, product-leads, field-pos, field-zero, field-neg}
 

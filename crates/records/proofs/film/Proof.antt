@@ -5,7 +5,7 @@ use mathlib.Core.Path.{refl, sym, _∙_}
 use mathlib.Core.Bool.{_&&_}
 use borrow.Author.Tests.{not-true, not-false}
 use native.Mathlib.Omega.{arith}
-use Rattle.paper.specs.Records.{filmCard}
+use Rattle.paper_records.specs.Records.{filmCard}
 use Rattle.records.specs.Decoding.{toldOf, told, cardOf}
 use Rattle.records.proofs.Taken.{both-first, both-second, both-got, made-told}
 

@@ -2,7 +2,7 @@ use borrow.Author.Needs.{needs}
 use Rattle.records.proofs.half.Statement.{statement}
 use Rattle.records.proofs.half.Tie as tie
 use native.Mathlib.Omega.{arith}
-use Rattle.paper.specs.Records.{halfAt}
+use Rattle.paper_records.specs.Records.{halfAt}
 use Prim.Native.Nat.{_+_}
 
 shared-slice-read-result : tie.Need-shared-slice-read-result

@@ -1,6 +1,6 @@
 use borrow.Author.Needs.{needs}
 use native.Mathlib.Omega.{arith}
-use Rattle.paper.specs.Singles.{shift}
+use Rattle.paper_records.specs.Singles.{shift}
 use Rattle.records.proofs.shift.Statement.{statement}
 use Rattle.records.proofs.shift.Tie as tie
 

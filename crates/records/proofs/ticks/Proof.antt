@@ -5,7 +5,7 @@ use mathlib.Core.Path.{sym, ap, subst, _∙_}
 use native.Mathlib.Omega.{arith}
 use lib.Dec.{T}
 use lib.Ieee.{binary32, toBits}
-use Rattle.paper.specs.Singles.{shift, asField}
+use Rattle.paper_records.specs.Singles.{shift, asField}
 use Rattle.laws.proofs.Floats.{ticks-high, product-told, product-nearest}
 
 float-to-bits-shift : tie.Need-float-to-bits-shift

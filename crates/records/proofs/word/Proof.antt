@@ -2,7 +2,7 @@ use borrow.Author.Needs.{needs}
 use Rattle.records.proofs.word.Statement.{statement}
 use Rattle.records.proofs.word.Tie as tie
 use Prim.Native.Nat.{_+_, _*_}
-use Rattle.paper.specs.Records.{wordAt}
+use Rattle.paper_records.specs.Records.{wordAt}
 
 half-requires : tie.Need-half-requires
 half-requires c κs = search needs

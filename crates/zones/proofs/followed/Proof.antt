@@ -9,7 +9,7 @@ use lib.IntN.{ℤ}
 use lib.ListN.{length, take}
 use lib.Seq.{length-take-le}
 use Rattle.paper.specs.Cards.{nodes}
-use Rattle.paper.specs.Zones.{refreshed, zonesJudged}
+use Rattle.paper_zones.specs.Zones.{refreshed, zonesJudged}
 use Rattle.laws.proofs.Zones.{room-told}
 use Rattle.zones.proofs.Following.{follow-is, step-refuses, zones-refuse, zones-follow}
 

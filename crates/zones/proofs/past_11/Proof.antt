@@ -6,7 +6,7 @@ use mathlib.Core.Bool.{true}
 use native.Mathlib.Omega.{arith}
 use lib.ListN.{length}
 use Rattle.whole.proofs.Tests.{never}
-use Rattle.paper.specs.Zones.{leftZones}
+use Rattle.paper_zones.specs.Zones.{leftZones}
 use Rattle.paper.specs.declared.Answer.the-variants.{Done}
 use Rattle.laws.proofs.Zones.{room-told}
 use Rattle.bands.proofs.Told.{laid-asks, all-is}

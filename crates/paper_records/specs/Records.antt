@@ -5,19 +5,19 @@ use Prim.Native.Nat.{ℕ, zero, suc, _+_, _-_, _*_, _/_, _%_}
 use lib.Dec.{ltb, leb, eqb}
 use lib.ListN.{length, getD, take, drop}
 use Rattle.whole.specs.Sums.{firstFrom}
 use Rattle.paper.specs.Ticks.{kelvin}
 use Rattle.paper.specs.Refusals.{Outcome, refused, done, when, then, andThen, answerOf, told, packed}
 use Rattle.paper.specs.Kinds.{about, kindAt, letterOf, isA}
 use Rattle.paper.specs.Cards.{before, cards, columnsOf, inRange, orderOf, countsAt, rowAt, rows}
 use Rattle.paper.specs.Text.{noCard}
 use Rattle.paper.specs.Judge.{asks, judged}
 use Rattle.paper.specs.Calls.{joined, whenDone, ToC, gave}
-use Rattle.paper.specs.Singles.{finite, scaled}
+use Rattle.paper_records.specs.Singles.{finite, scaled}
 use Rattle.paper.specs.declared.Answer.{Answer}
 use Rattle.paper.specs.declared.Answer.the-variants.{Done, Refused}
 use Rattle.paper.specs.declared.Refusal.the-variants.{Length, Range, Short, Replacement, Infinite, Garbled}
 use Rattle.paper.specs.declared.Counts.{Counts}
 use Rattle.paper.specs.declared.Kind.the-variants.{H, F, T, Z}
 
 -- ---- a record, little-endian: kind and number of 16 bits each, two single values
 

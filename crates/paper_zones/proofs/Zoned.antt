@@ -10,27 +10,27 @@ use Rattle.whole.specs.Nearest.{nearestN, nearest}
 use Rattle.whole.specs.Sums.{sum, sumN, any, firstFrom, table}
 use Rattle.whole.specs.Packed.{tri, cell, place, lower}
 use Rattle.whole.specs.Kept.{starts, rowStarts, keptLower, keptCell, keptEntry, expand, shrink}
 use Rattle.paper.specs.Refusals.{told, toldStep, Told}
 use Rattle.paper.specs.Kinds.{about, kindOf, letterOf}
 use Rattle.paper.specs.Cards.{before, columns, used, usedBy, zeros, inRange, agree, ranked, field, nodes, materials, elements}
 use Rattle.paper.specs.Judge.{stands, clean, rises, ordered, full, nameAt, formed, ranged, judgeOne, asks, judgeCard, judgeFrom, trailer, judgeRows, judged}
 use Rattle.paper.specs.Corners.{square, mass, spread, share, shapeOf, area}
 use Rattle.paper.specs.Triangle.{b, c, S, side², longest², thin, pair, u}
 use Rattle.paper.specs.Elements.{bodyOf, flatOf, elementOf, fair, areaOf, formJudged, elementJudged}
 use Rattle.paper.specs.Parts.{heatShare, partOf, least}
 use Rattle.paper.specs.Matrices.{addsP, addsA, addsLoad, P, A, loadOf, fixed, held, cleared}
 use Rattle.paper.specs.Radiation.{takes, lossAt, loadNow}
 use Rattle.paper.specs.Factor.{w, l, rowFrom, rowsFrom}
 use Rattle.paper.specs.Building.{elementsFrom, build}
 use Rattle.paper.specs.Lent.{rowSize, heavy, badRow, noFactor, foreign, laden, enough, opened, lentJudged}
 use Rattle.paper.specs.Step.{boardOf, rightSide, residual, residuals, rowBound, yAt, forwardFrom, xAt, backFrom, warmed, addFrom, correct, unsettled, attempts, stepped, carriedOn, offScale}
 use Rattle.paper.specs.Calls.{closed, leaves, joined, buildCall, stepCall}
 use Rattle.paper.specs.Coupled.{corner, coupled, firstOf, strayRow}
 use Rattle.paper.specs.KeptCalls.{Kept, kept, widened, narrowed, keptEnough, lengthsJudged, startsJudged, keptBuild, keptStep}
-use Rattle.paper.specs.Zones.{zoneStart, leads, best, extreme, band, three, summaryOf, changed, refreshed, roomFor, crowded, wrong, wrongZone, sunkEdge, zonesJudged, summarises, summariseCall, zoned, ZonesStepExit, zonesStep}
+use Rattle.paper_zones.specs.Zones.{zoneStart, leads, best, extreme, band, three, summaryOf, changed, refreshed, roomFor, crowded, wrong, wrongZone, sunkEdge, zonesJudged, summarises, summariseCall, zoned, ZonesStepExit, zonesStep}
 use Rattle.paper.specs.declared.Kind.the-variants.{H, T}
 use Rattle.paper.proofs.Cases.{same, numbers-told}
 use Rattle.paper.proofs.Checked.{deck, element, right}
 
 pub record Figure : Type 0 where
   pub got : List ℕ

@@ -8,16 +8,16 @@ use lib.IntN.{ℤ, pos, negsuc}
 use lib.ListN.{replicate}
 use Rattle.whole.specs.Nearest.{nearestN, nearest}
 use Rattle.whole.specs.Sums.{sumN, firstFrom}
 use Rattle.paper.specs.Refusals.{told}
 use Rattle.paper.specs.Kinds.{about, kindOf, letterOf}
 use Rattle.paper.specs.Cards.{before, columns, used, usedBy, zeros, inRange, ranked, field, outside}
 use Rattle.paper.specs.Judge.{stands, clean, rises, ordered, full, nameAt, cardNamed, formed, ranged, judgeOne, asks, judgeCard, judgeFrom, trailer, judgeRows, judged}
 use Rattle.paper.specs.Calls.{joined}
-use Rattle.paper.specs.Singles.{finite, mantissa, shift, size, value, toNearest, asField, scaled}
-use Rattle.paper.specs.Records.{halfAt, wordAt, oneUsed, bothUsed, recordCard, inTwelves, isTail, follows, fitting, recordJudged, recordsFrom, recordsJudged, firstMade, recordRow, earlyFrom, lastRow, fixedPlace, secondRow, secondTable, roomJudged, imports, importCall}
+use Rattle.paper_records.specs.Singles.{finite, mantissa, shift, size, value, toNearest, asField, scaled}
+use Rattle.paper_records.specs.Records.{halfAt, wordAt, oneUsed, bothUsed, recordCard, inTwelves, isTail, follows, fitting, recordJudged, recordsFrom, recordsJudged, firstMade, recordRow, earlyFrom, lastRow, fixedPlace, secondRow, secondTable, roomJudged, imports, importCall}
 use Rattle.paper.specs.declared.Kind.the-variants.{D, N, M, E, «V», H, F, T, C, Z}
 use Rattle.paper.proofs.Cases.{same, same-told, eqZ, eqZ-told, numbers-told}
 use Rattle.paper.proofs.Checked.{deck, element, right, rim, base, heated}
 
 -- ---- values
 
