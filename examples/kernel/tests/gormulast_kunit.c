@@ -1,6 +1,6 @@
 // SPDX-License-Identifier: GPL-2.0-only OR MIT
 /* KUnit test of the calls of gormulast.h: decks whose numbers are known, read, built, stepped and
- * replaced; each refusal; and what a refusal leaves.
+ * replaced; zones afresh and over steps; each refusal; and what a refusal leaves.
  *
  * All that is lent lies in one board, guard numbers on both sides of each buffer. After a call the
  * whole board is compared with one that has what the call should have left, so a number written
@@ -14,6 +14,7 @@
 #define NODES   4
 #define MATRIX  GORMULAST_MATRIX(NODES)
 #define CARDS   14
+#define ZONES   (GORMULAST_MAX_ZONES + 1) /* of zones one more than there may be */
 #define GUARDS  4
 #define FILLING 0x5a
 
@@ -27,6 +28,10 @@
 	row(uint32_t, starts, NODES) \
 	row(int64_t, temperatures, NODES) \
 	row(int64_t, carried, NODES) \
+	row(uint32_t, counts, ZONES) \
+	row(uint32_t, members, GORMULAST_MAX_NODES + 1) \
+	row(uint32_t, edges, GORMULAST_MAX_EDGES + 1) \
+	row(uint32_t, summary, 3 * ZONES) \
 	row(uint64_t, start, 1) \
 	row(uint64_t, end, 1)
 
@@ -73,7 +78,17 @@ static const char cold[] = /* P7 */
 	"E       1       2       3       1    1000\n"
 	"Z     252       3       1       1       0\n";
 
-static const char filmed[] = /* a card of each kind that a flat deck has */
+static const char docked[] = /* P7 over a plate that is ten kelvins colder */
+	"D    100019660800       1                \n"
+	"N       0       0                        \n"
+	"N     100       0                        \n"
+	"N       0     100                        \n"
+	"M    1000    1000    2400             900\n"
+	"E       1       2       3       1    1000\n"
+	"R       119005440                        \n"
+	"Z     294       3       1       1       1\n";
+
+static const char filmed[] = /* a card of each kind but R that a flat deck has */
 	"D    100019660800       9                \n"
 	"N       0       0                        \n"
 	"N     100       0                        \n"
@@ -134,6 +149,34 @@ static uint64_t step(struct board *b)
 			      LEND(b, starts), LEND(b, temperatures), LEND(b, carried));
 }
 
+static uint64_t zones(struct board *b)
+{
+	return gormulast_zones(LEND(b, table), LEND(b, temperatures), LEND(b, counts),
+			       LEND(b, members), LEND(b, edges), LEND(b, summary));
+}
+
+static uint64_t zones_step(struct board *b)
+{
+	return gormulast_zones_step(LEND(b, table), LEND(b, p), LEND(b, a), LEND(b, factor),
+				    LEND(b, starts), LEND(b, temperatures), LEND(b, carried),
+				    LEND(b, counts), LEND(b, members), LEND(b, edges),
+				    LEND(b, summary));
+}
+
+/* Calls that refuse the same: a step alone and with zones, zones afresh and with a step. */
+static const struct way {
+	const char *name;
+	uint64_t (*call)(struct board *b);
+} steps[] = { { "alone", step }, { "with zones", zones_step } },
+  zonings[] = { { "afresh", zones }, { "with a step", zones_step } };
+
+static void way_name(const struct way *way, char *name)
+{
+	strscpy(name, way->name, KUNIT_PARAM_DESC_SIZE);
+}
+KUNIT_ARRAY_PARAM(steps, steps, way_name);
+KUNIT_ARRAY_PARAM(zonings, zonings, way_name);
+
 #define NEW(...) ((const uint32_t[GORMULAST_CARD_NUMBERS]){ __VA_ARGS__ })
 
 /* ---- what a call answers, and all that it leaves */
@@ -181,8 +224,24 @@ static struct board *as_now(struct kunit *test)
 
 /* ---- boards */
 
-/* The filling everywhere but in the bytes, which are the deck's; lengths as the deck asks, with all
- * of its rows full. */
+/* Three zones, two nodes of them in several, and band edges at temperatures of the decks. */
+static void zone(struct board *b)
+{
+	static const uint32_t counts[] = { 3, 2, 1 }, members[] = { 3, 2, 1, 2, 1, 3 };
+	static const uint32_t edges[] = { 19000000, 19660800, 19797439 };
+
+	memset(b->counts.lent, 0, sizeof(b->counts.lent));
+	memcpy(b->counts.lent, counts, sizeof(counts));
+	memcpy(b->members.lent, members, sizeof(members));
+	memcpy(b->edges.lent, edges, sizeof(edges));
+	b->counts.length = ARRAY_SIZE(counts);
+	b->members.length = ARRAY_SIZE(members);
+	b->edges.length = ARRAY_SIZE(edges);
+	b->summary.length = 3 * ARRAY_SIZE(counts);
+}
+
+/* The filling everywhere but in the zones and in the bytes, which are the deck's; lengths as the
+ * deck asks, with all of its rows full. */
 static void lay(struct board *b, const char *deck)
 {
 	size_t cards = strlen(deck) / GORMULAST_CARD_BYTES, nodes = 0, i;
@@ -200,6 +259,7 @@ static void lay(struct board *b, const char *deck)
 	b->starts.length = nodes;
 	b->temperatures.length = nodes;
 	b->carried.length = nodes;
+	zone(b);
 }
 
 static void set_out(struct board *b)
@@ -272,6 +332,10 @@ static const struct known {
 	  { 5000, 2500, 5000, 2500, 2500, 5000 }, { 6000, 2000, 5500, 2000, 2500, 5500 },
 	  { 6000, 349525, 4833, 349525, 397691, 4138 },
 	  1, { 19660800, 19660800, 19660800 }, {} },
+	{ "a source of 290 K", docked, {}, 0,
+	  { 5000, 2500, 5000, 2500, 2500, 5000 }, { 6000, 2000, 5500, 2000, 2500, 5500 },
+	  { 6000, 349525, 4833, 349525, 397691, 4138 },
+	  1, { 19659369, 19659369, 19659369 }, { -2489, -2489, -2489 } },
 	{ "P3: a film of 479", filmed, { { 8, 2, 479 } }, 0,
 	  { 5000, 2500, 5000, 2500, 2500, 5000 }, { 6004, 2002, 5504, 2000, 2500, 5500 },
 	  { 6004, 349642, 4836, 0, 0, 1048576 },
@@ -374,6 +438,77 @@ static void gormulast_test_replaced(struct kunit *test)
 	if (change == changes)
 		KUNIT_EXPECT_EQ(test, memcmp(wanted->a.lent, thicker, sizeof(thicker)), 0);
 	expect(test, "replace", replace(b, change->card, change->new), 0);
+}
+
+/* ---- zones: after each call the three numbers of each */
+
+static void expect_zones(struct kunit *test, const char *what, uint64_t answer, uint64_t wanted,
+			 const uint32_t summary[9])
+{
+	struct pair *pair = test->priv;
+
+	memcpy(pair->wanted.summary.lent, summary, 9 * sizeof(*summary));
+	expect(test, what, answer, wanted);
+}
+
+static void gormulast_test_zones(struct kunit *test)
+{
+	static const uint32_t even[] = { 1, 1, 2, 1, 1, 2, 3, 3, 2 };
+	static const uint32_t first[] = { 3, 2, 1, 1, 2, 3, 3, 3, 1 };
+	static const uint32_t second[] = { 3, 2, 1, 1, 2, 2, 7, 8, 9 };
+	static const int64_t after[2][3] = { { 19797439, 19911261, 19000000 },
+					     { 19736514, 19922873, 19000000 } };
+	static const int64_t left[2][3] = { { -881, 153, 0 }, { 2452, -91, 0 } };
+	struct board *b = built(test, filmed), *wanted;
+
+	b->members.length++; /* what lies past the zones is neither read nor written */
+	b->summary.length += 2;
+	as_now(test);
+	expect_zones(test, "zones", zones(b), 0, even);
+	wanted = as_now(test);
+	memcpy(wanted->temperatures.lent, after[0], sizeof(after[0]));
+	memcpy(wanted->carried.lent, left[0], sizeof(left[0]));
+	expect_zones(test, "a step", zones_step(b), CORRECTED(1), first);
+	/* The third zone's node is held, so what stands there stays, whatever it is. */
+	memcpy(b->summary.lent, ((uint32_t[]){ 0, 0, 0, 0, 0, 0, 7, 8, 9 }), sizeof(second));
+	wanted = as_now(test);
+	memcpy(wanted->temperatures.lent, after[1], sizeof(after[1]));
+	memcpy(wanted->carried.lent, left[1], sizeof(left[1]));
+	expect_zones(test, "another step", zones_step(b), CORRECTED(1), second);
+}
+
+/* As many zones and edges as there may be, and as many nodes in one; or none. */
+static void gormulast_test_zones_counts(struct kunit *test)
+{
+	struct board *b = built(test, cold), *wanted;
+	size_t i;
+
+	for (i = 0; i < GORMULAST_MAX_NODES; i++)
+		b->members.lent[i] = 3 - i % 2;
+	for (i = 0; i < GORMULAST_MAX_EDGES; i++) /* eight of them at 300 K or below */
+		b->edges.lent[i] = 19660793 + i;
+	for (i = 0; i < GORMULAST_MAX_ZONES; i++)
+		b->counts.lent[i] = i ? 0 : GORMULAST_MAX_NODES;
+	b->members.length = GORMULAST_MAX_NODES;
+	b->edges.length = GORMULAST_MAX_EDGES;
+	b->counts.length = 1;
+	wanted = as_now(test);
+	memcpy(wanted->summary.lent, ((uint32_t[]){ 2, 2, 8 }), 3 * sizeof(uint32_t));
+	expect(test, "96 nodes", zones(b), 0);
+	for (i = 0; i < GORMULAST_MAX_ZONES; i++)
+		b->counts.lent[i] = 1;
+	b->counts.length = GORMULAST_MAX_ZONES;
+	b->summary.length = 3 * GORMULAST_MAX_ZONES;
+	wanted = as_now(test);
+	for (i = 0; i < GORMULAST_MAX_ZONES; i++)
+		memcpy(wanted->summary.lent + 3 * i,
+		       ((uint32_t[]){ 3 - i % 2, 3 - i % 2, 8 }), 3 * sizeof(uint32_t));
+	expect(test, "16 zones", zones(b), 0);
+	as_now(test);
+	expect(test, "a step that changes nothing", zones_step(b), CORRECTED(1));
+	b->counts.length = b->members.length = b->edges.length = b->summary.length = 0;
+	as_now(test);
+	expect(test, "no zones", zones(b), 0);
 }
 
 /* ---- refusals */
@@ -480,6 +615,22 @@ static void gormulast_test_replace_unfit(struct kunit *test)
 	EXPECT_CLEARED(test, replace(b, 6, thicker), GORMULAST_BOUND, 2);
 }
 
+/* A source can't be replaced, nor face a tetrahedron; an emissivity is not written as 0. */
+static void gormulast_test_source_refused(struct kunit *test)
+{
+	static const uint32_t source[] = { 'R', 2, 19005440, 0, 0, 0 };
+	struct board *b = built(test, docked);
+
+	EXPECT_REFUSED(test, replace(b, 7, NEW('R', 1, 19005440)), GORMULAST_REPLACEMENT, 7);
+	*b->start.lent = 0; /* as a refusal tells */
+	*b->end.lent = 0;
+	memcpy(b->bytes.lent + 4 * GORMULAST_CARD_BYTES + 38, "  0", 3);
+	EXPECT_REFUSED(test, deck_read(b), GORMULAST_RANGE, 5);
+	b = built(test, solid);
+	memcpy(&FIELD(b, 12, 0), source, sizeof(source));
+	EXPECT_REFUSED(test, build(b), GORMULAST_RANGE, 12);
+}
+
 /* A buffer with a number that no call gives; then as it was. */
 #define EXPECT_FOREIGN(test, b, name, at, number, call) do { \
 	int64_t old = (b)->name.lent[at]; \
@@ -500,6 +651,8 @@ static void gormulast_test_foreign(struct kunit *test)
 	EXPECT_FOREIGN(test, b, factor, 0, 15, step(b));
 	EXPECT_FOREIGN(test, b, factor, 5, (1ll << 38) + 1, step(b));
 	EXPECT_FOREIGN(test, b, carried, 2, -(1ll << 33) - 1, step(b));
+	EXPECT_FOREIGN(test, b, a, 5, (1ll << 33) + 1, zones_step(b));
+	EXPECT_FOREIGN(test, b, carried, 2, -(1ll << 33) - 1, zones_step(b));
 	EXPECT_FOREIGN(test, b, p, 0, S64_MAX, replace(b, 7, same));
 	EXPECT_FOREIGN(test, b, a, 3, -(1ll << 33) - 1, replace(b, 7, same));
 	EXPECT_FOREIGN(test, b, factor, 2, 0, replace(b, 7, same));
@@ -507,28 +660,30 @@ static void gormulast_test_foreign(struct kunit *test)
 
 static void gormulast_test_step_refused(struct kunit *test)
 {
+	const struct way *way = test->param_value;
 	struct board *b = built(test, heated);
 
-	EXPECT_TABLE_REFUSED(test, b, step(b));
-	EXPECT_SHORT(test, b, p, step(b));
-	EXPECT_SHORT(test, b, a, step(b));
-	EXPECT_SHORT(test, b, factor, step(b));
-	EXPECT_SHORT(test, b, starts, step(b));
-	EXPECT_SHORT(test, b, temperatures, step(b));
-	EXPECT_SHORT(test, b, carried, step(b));
+	EXPECT_TABLE_REFUSED(test, b, way->call(b));
+	EXPECT_SHORT(test, b, p, way->call(b));
+	EXPECT_SHORT(test, b, a, way->call(b));
+	EXPECT_SHORT(test, b, factor, way->call(b));
+	EXPECT_SHORT(test, b, starts, way->call(b));
+	EXPECT_SHORT(test, b, temperatures, way->call(b));
+	EXPECT_SHORT(test, b, carried, way->call(b));
 	b->starts.lent[2] = 2;
-	EXPECT_REFUSED(test, step(b), GORMULAST_STRAY, 3);
+	EXPECT_REFUSED(test, way->call(b), GORMULAST_STRAY, 3);
 	b->starts.lent[2] = 3;
 	b->temperatures.lent[1] = -1;
-	EXPECT_REFUSED(test, step(b), GORMULAST_OFF_SCALE, 2);
+	EXPECT_REFUSED(test, way->call(b), GORMULAST_OFF_SCALE, 2);
 	b->temperatures.lent[1] = GORMULAST_TOP;
 	b->temperatures.lent[2] = GORMULAST_TOP + 1;
-	EXPECT_REFUSED(test, step(b), GORMULAST_OFF_SCALE, 3);
+	EXPECT_REFUSED(test, way->call(b), GORMULAST_OFF_SCALE, 3);
 }
 
 /* Steps that begin and come to no end. */
 static void gormulast_test_step_undone(struct kunit *test)
 {
+	const struct way *way = test->param_value;
 	struct board *b = built(test, heated);
 	size_t node;
 
@@ -536,31 +691,72 @@ static void gormulast_test_step_undone(struct kunit *test)
 	FIELD(b, 7, 2) = 5000000;
 	for (node = 0; node < 3; node++)
 		b->temperatures.lent[node] = GORMULAST_TOP;
-	EXPECT_REFUSED(test, step(b), GORMULAST_OFF_SCALE, 1);
+	EXPECT_REFUSED(test, way->call(b), GORMULAST_OFF_SCALE, 1);
 	/* Pivots so large that no correction moves enough. */
 	set_out(b);
 	for (node = 0; node < 3; node++)
 		b->factor.lent[GORMULAST_MATRIX(node + 1) - 1] *= 1000;
-	EXPECT_REFUSED(test, step(b), GORMULAST_UNSETTLED, 1);
+	EXPECT_REFUSED(test, way->call(b), GORMULAST_UNSETTLED, 1);
 	/* The least pivots, under a matrix that no factor is of. */
 	b->factor.lent[0] = 16;
 	b->a.lent[0] = 1ll << 33;
 	b->a.lent[1] = 0;
 	b->a.lent[3] = 0;
-	EXPECT_REFUSED(test, step(b), GORMULAST_BOUND, 1);
+	EXPECT_REFUSED(test, way->call(b), GORMULAST_BOUND, 1);
+}
+
+/* Faults one on top of another: each is judged before those that it comes on top of. */
+static void gormulast_test_zones_refused(struct kunit *test)
+{
+	const struct way *way = test->param_value;
+	struct board *b = built(test, heated);
+
+	b->edges.lent[2] = b->edges.lent[1];
+	EXPECT_REFUSED(test, way->call(b), GORMULAST_EDGE, 3);
+	b->edges.lent[1] = b->edges.lent[0] - 1;
+	EXPECT_REFUSED(test, way->call(b), GORMULAST_EDGE, 2);
+	b->members.lent[5] = 0;
+	EXPECT_REFUSED(test, way->call(b), GORMULAST_ZONE, 3);
+	b->members.lent[4] = 4;
+	EXPECT_REFUSED(test, way->call(b), GORMULAST_ZONE, 2);
+	b->counts.lent[0] = 0;
+	EXPECT_REFUSED(test, way->call(b), GORMULAST_ZONE, 1);
+	b->edges.length = GORMULAST_MAX_EDGES + 1;
+	EXPECT_REFUSED(test, way->call(b), GORMULAST_LENGTH, 0);
+	b->edges.length = 3;
+	b->counts.length = GORMULAST_MAX_ZONES + 1;
+	b->summary.length = 3 * (GORMULAST_MAX_ZONES + 1);
+	EXPECT_REFUSED(test, way->call(b), GORMULAST_LENGTH, 0);
+	b->counts.length = 1;
+	b->counts.lent[0] = GORMULAST_MAX_NODES + 1;
+	b->members.length = GORMULAST_MAX_NODES + 1;
+	b->summary.length = 3;
+	EXPECT_REFUSED(test, way->call(b), GORMULAST_LENGTH, 0);
+	b->temperatures.lent[2] = GORMULAST_TOP + 1;
+	EXPECT_REFUSED(test, way->call(b), GORMULAST_OFF_SCALE, 3);
+	b->temperatures.lent[1] = -1;
+	EXPECT_REFUSED(test, way->call(b), GORMULAST_OFF_SCALE, 2);
+	EXPECT_SHORT(test, b, members, way->call(b));
+	EXPECT_SHORT(test, b, summary, way->call(b));
+	EXPECT_SHORT(test, b, temperatures, way->call(b));
+	EXPECT_TABLE_REFUSED(test, b, way->call(b));
 }
 
 static struct kunit_case gormulast_test_cases[] = {
 	KUNIT_CASE_PARAM(gormulast_test_known, known_gen_params),
 	KUNIT_CASE_PARAM(gormulast_test_replaced, change_gen_params),
+	KUNIT_CASE(gormulast_test_zones),
+	KUNIT_CASE(gormulast_test_zones_counts),
 	KUNIT_CASE(gormulast_test_read_refused),
 	KUNIT_CASE(gormulast_test_write_refused),
 	KUNIT_CASE(gormulast_test_build_refused),
 	KUNIT_CASE(gormulast_test_replace_refused),
 	KUNIT_CASE(gormulast_test_replace_unfit),
+	KUNIT_CASE(gormulast_test_source_refused),
 	KUNIT_CASE(gormulast_test_foreign),
-	KUNIT_CASE(gormulast_test_step_refused),
-	KUNIT_CASE(gormulast_test_step_undone),
+	KUNIT_CASE_PARAM(gormulast_test_step_refused, steps_gen_params),
+	KUNIT_CASE_PARAM(gormulast_test_step_undone, steps_gen_params),
+	KUNIT_CASE_PARAM(gormulast_test_zones_refused, zonings_gen_params),
 	{}
 };
 
