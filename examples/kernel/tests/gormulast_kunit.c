@@ -224,7 +224,7 @@ static struct board *as_now(struct kunit *test)
 
 /* ---- boards */
 
-/* Three zones, two nodes of them in several, and band edges at temperatures of the decks. */
+/* Three zones that share nodes, and band edges at temperatures of the decks. */
 static void zone(struct board *b)
 {
 	static const uint32_t counts[] = { 3, 2, 1 }, members[] = { 3, 2, 1, 2, 1, 3 };
