@@ -11,9 +11,9 @@ use Rattle.whole.specs.Sums.{firstFrom}
 use Rattle.paper.specs.Kinds.{about, letterOf}
 use Rattle.paper.specs.Cards.{before, cards, orderOf, countsAt, mostRows, rowAt, field, rows}
 use Rattle.paper.specs.Calls.{joined}
-use Rattle.paper_records.specs.Records.{recordCount, recordRow, earlyFrom, early, lastRow, orAll, fixedPlace, secondRow, secondRows, secondTable, imports, imported, importCall}
-use Rattle.paper.specs.declared.Answer.the-variants.{Done, Refused}
-use Rattle.paper.specs.declared.Refusal.{Refusal}
+use Rattle.paper_records.specs.Records.{recordCount, recordRow, earlyFrom, early, lastRow, orAll, fixedPlace, secondRow, secondRows, secondTable, imports, leftImport, importCall}
+use Rattle.paper_records.specs.declared.Fault.{Fault}
+use Rattle.paper_records.specs.declared.Imported.the-variants.{Done, Refused}
 use Rattle.paper.specs.declared.Counts.{Counts}
 use Rattle.paper.specs.declared.About.{About}
 use Rattle.paper.specs.declared.Kind.the-variants.{H, T, Z}
@@ -159,10 +159,10 @@ placed-told t bs room z s e z-is s-is =
       all = z′ .all;
     }
 
-pub ends-refused : (t bs old : List ℕ) (r : Refusal) → imports t bs (length old) ≡ Refused r → imported (Refused r) old ≡ importCall t bs old
+pub ends-refused : (t bs old : List ℕ) (r : Fault) → imports t bs (length old) ≡ Refused r → leftImport (Refused r) old ≡ importCall t bs old
 ends-refused t bs old r e = rw e
 
 pub ends-done : (t bs old : List ℕ) (z : Counts) → imports t bs (length old) ≡ Done → z ≡ countsAt t
-    → imported Done (joined (secondRow z (rowAt t) bs) (rows t + recordCount bs) 0 ++ drop ((rows t + recordCount bs) * 6) old) ≡ importCall t bs old
+    → leftImport Done (joined (secondRow z (rowAt t) bs) (rows t + recordCount bs) 0 ++ drop ((rows t + recordCount bs) * 6) old) ≡ importCall t bs old
 unfolding secondTable
-ends-done t bs old z e z-is = rw e (ap (λ (y : Counts). imported Done (joined (secondRow y (rowAt t) bs) (secondRows t bs) 0 ++ drop (secondRows t bs * 6) old)) z-is)
+ends-done t bs old z e z-is = rw e (ap (λ (y : Counts). leftImport Done (joined (secondRow y (rowAt t) bs) (secondRows t bs) 0 ++ drop (secondRows t bs * 6) old)) z-is)

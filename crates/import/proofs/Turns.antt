@@ -9,19 +9,25 @@ use lib.Dec.{ltb, leb, eqb}
 use lib.ListN.{length, getD, take, drop}
 use borrow.Author.Tests.{eqb-true, eq-eqb, ne-eqb, lt-ltb, le-ltb, le-leb, lt-leb, leb-true}
 use Rattle.whole.proofs.Tests.{cond-true, cond-false, and-told}
-use Rattle.paper.specs.Refusals.{Outcome, refused, done, when, then, answerOf}
+use Rattle.paper.specs.Refusals.{Result, refused, done, when, then}
 use Rattle.paper.specs.Kinds.{about, kindAt, letterOf}
 use Rattle.paper.specs.Cards.{columnsOf, inRange, countsAt, rowAt, rows}
 use Rattle.paper.specs.Judge.{asks, judged}
+use Rattle.paper_records.specs.Faults.{ofModel, answerOf}
 use Rattle.paper_records.specs.Records.{recordKind, recordNumber, recordCard, recordAt, recordCount, inTwelves, isTail, follows, fitting, recordJudged, recordsFrom, recordsJudged, isMade, firstMade, earlyFrom, secondRows, roomJudged, imports}
-use Rattle.paper.specs.declared.Answer.the-variants.{Done, Refused}
-use Rattle.paper.specs.declared.Refusal.{Refusal}
-use Rattle.paper.specs.declared.Refusal.the-variants.{Length, Range, Short, Replacement, Garbled}
+use Rattle.paper.specs.declared.Answer.{Answer}
+use Rattle.paper.specs.declared.Answer.the-variants as answer
+use Rattle.paper.specs.declared.Refusal.the-variants.{Length, Range, Short, Replacement}
+use Rattle.paper_records.specs.declared.Fault.{Fault}
+use Rattle.paper_records.specs.declared.Fault.the-variants.{Model, Garbled}
+use Rattle.paper_records.specs.declared.Imported.{Imported}
+use Rattle.paper_records.specs.declared.Imported.the-variants.{Done, Refused}
 use Rattle.paper.specs.declared.Counts.{Counts}
 use Rattle.paper.specs.declared.Kind.{Kind}
 use Rattle.paper.specs.declared.Kind.the-variants.{H, F, T, C}
 use Rattle.laws.proofs.Judged.{deck}
 use Rattle.laws.proofs.Recorded.{made-card, loads-of}
+use Rattle.laws.proofs.Faults.{model-done}
 use Rattle.import.specs.Asks.{Sized}
 
 -- ---- what 4 asks
@@ -43,25 +49,25 @@ unfolding about
 no-change place bs card e q = omega (arith, loads-of (recordKind bs) card (made-card place bs card (sym e) .sort) .keys, ap (λ (k : Kind). about k .keys) q)
 
 module _ (z : Counts) (row : ℕ → List ℕ) (kind number place : ℕ) (bs : List ℕ) where
-  abbrev judgedAs : Outcome (List ℕ) → Outcome (List ℕ)
-  judgedAs o = then o (λ card. when (fitting z row card && follows kind number bs) (Range place) (done card))
+  abbrev judgedAs : Result Fault (List ℕ) → Result Fault (List ℕ)
+  judgedAs o = then o (λ card. when (fitting z row card && follows kind number bs) (Model (Range place)) (done card))
 
-  judged-by : (o : Outcome (List ℕ)) → o ≡ recordCard place bs → answerOf (judgedAs o) ≡ recordJudged z row kind number place bs
+  judged-by : (o : Result Fault (List ℕ)) → o ≡ recordCard place bs → answerOf (judgedAs o) ≡ recordJudged z row kind number place bs
   unfolding recordJudged
-  judged-by o e = ap (λ (x : Outcome (List ℕ)). answerOf (judgedAs x)) e
+  judged-by o e = ap (λ (x : Result Fault (List ℕ)). answerOf (judgedAs x)) e
 
-  pub record-refused : (r : Refusal) → refused r ≡ recordCard place bs → Refused r ≡ recordJudged z row kind number place bs
+  pub record-refused : (r : Fault) → refused r ≡ recordCard place bs → Refused r ≡ recordJudged z row kind number place bs
   record-refused r e = judged-by (refused r) e
 
   module _ (card : List ℕ) (d : done card ≡ recordCard place bs) where
-    pub record-outside : fitting z row card ≡ false → Refused (Range place) ≡ recordJudged z row kind number place bs
-    record-outside e = sym (ap (λ (b : Bool). answerOf (when (b && follows kind number bs) (Range place) (done card))) e) ∙ judged-by (done card) d
+    pub record-outside : fitting z row card ≡ false → Refused (Model (Range place)) ≡ recordJudged z row kind number place bs
+    record-outside e = sym (ap (λ (b : Bool). answerOf (when (b && follows kind number bs) (Model (Range place)) (done card))) e) ∙ judged-by (done card) d
 
-    pub record-astray : fitting z row card ≡ true → follows kind number bs ≡ false → Refused (Range place) ≡ recordJudged z row kind number place bs
-    record-astray e g = sym (λ i. answerOf (when (e i && g i) (Range place) (done card))) ∙ judged-by (done card) d
+    pub record-astray : fitting z row card ≡ true → follows kind number bs ≡ false → Refused (Model (Range place)) ≡ recordJudged z row kind number place bs
+    record-astray e g = sym (λ i. answerOf (when (e i && g i) (Model (Range place)) (done card))) ∙ judged-by (done card) d
 
     pub record-done : fitting z row card ≡ true → follows kind number bs ≡ true → Done ≡ recordJudged z row kind number place bs
-    record-done e g = sym (λ i. answerOf (when (e i && g i) (Range place) (done card))) ∙ judged-by (done card) d
+    record-done e g = sym (λ i. answerOf (when (e i && g i) (Model (Range place)) (done card))) ∙ judged-by (done card) d
 
 -- ---- records in turn
 
@@ -73,7 +79,7 @@ module _ (z : Counts) (row : ℕ → List ℕ) (bs : List ℕ) (n i kind number 
       let m : n - i ≡ suc (n - (i + 1)) = omega arith in
       rw (m, add-one i) (simp e)
 
-  pub records-here : (r : Refusal) → i < n → recordJudged z row kind number (suc i) (recordAt bs i) ≡ Refused r → Refused r ≡ recordsFrom z row bs (n - i) i kind number
+  pub records-here : (r : Fault) → i < n → recordJudged z row kind number (suc i) (recordAt bs i) ≡ Refused r → Refused r ≡ recordsFrom z row bs (n - i) i kind number
   unfolding recordsFrom
   records-here r h e =
       let m : n - i ≡ suc (n - (i + 1)) = omega arith in
@@ -97,7 +103,7 @@ pub lent-judged : (z : Counts) (row : ℕ → List ℕ) (kind number : ℕ) (bs 
 lent-judged z row kind number bs i = λ j. recordJudged z row kind number (add-one i j) (lent bs i j)
 
 module _ (z : Counts) (row : ℕ → List ℕ) (bs : List ℕ) (n : ℕ) (n-is : n ≡ recordCount bs) where
-  pub all-here : (r : Refusal) → recordsFrom z row bs n 0 0 0 ≡ Refused r → Refused r ≡ recordsJudged z row bs
+  pub all-here : (r : Fault) → recordsFrom z row bs n 0 0 0 ≡ Refused r → Refused r ≡ recordsJudged z row bs
   unfolding recordsJudged
   all-here r e =
       let g : recordsFrom z row bs (recordCount bs) 0 0 0 ≡ Refused r = ap (λ (m : ℕ). recordsFrom z row bs m 0 0 0) (sym n-is) ∙ e in
@@ -147,7 +153,7 @@ module _ (bs : List ℕ) where
       let (b, d) = and-told (leb 1 (length bs)) (leb (length bs) 65536) a in
       (leb-true 1 (length bs) b, leb-true (length bs) 65536 d, eqb-true (length bs % 12) 0 c)
 
-pub sized-told : (t bs : List ℕ) → judged t ≡ Done → inTwelves bs ≡ true → Sized t bs (rows t - 1) (recordCount bs)
+pub sized-told : (t bs : List ℕ) → judged t ≡ answer.Done → inTwelves bs ≡ true → Sized t bs (rows t - 1) (recordCount bs)
 sized-told t bs e f =
     let d = deck t e in
     let (a, b, c) = twelves-told bs f in
@@ -160,37 +166,42 @@ sized-told t bs e f =
       all = omega arith;
     }
 
-module _ (t bs : List ℕ) (room : ℕ) where
-  pub call-deck : (r : Refusal) → judged t ≡ Refused r → Refused r ≡ imports t bs room
-  unfolding imports
-  call-deck r e = rw e
+-- the deck's own answer, as the import has it
+module _ (t : List ℕ) (a : Answer) (r : Imported) (e : a ≡ judged t) (f : r ≡ ofModel a) where
+  pub deck-fine : r ≡ Done → judged t ≡ answer.Done
+  deck-fine g = model-done (judged t) (sym (f ∙ ap ofModel e) ∙ g)
 
-  pub call-13 : judged t ≡ Done → (f : ℕ) → f ≡ firstMade t → (f ≡ 0 → ⊥) → Refused (Replacement f) ≡ imports t bs room
+  pub call-deck : (bs : List ℕ) (room : ℕ) (q : Fault) → r ≡ Refused q → r ≡ imports t bs room
+  unfolding imports
+  call-deck bs room q g = let d : ofModel (judged t) ≡ Refused q = sym (f ∙ ap ofModel e) ∙ g in g ∙ (rw d)
+
+module _ (t bs : List ℕ) (room : ℕ) where
+  pub call-13 : judged t ≡ answer.Done → (f : ℕ) → f ≡ firstMade t → (f ≡ 0 → ⊥) → Refused (Model (Replacement f)) ≡ imports t bs room
   unfolding imports
   call-13 e f g h = rw (e, ← g, ne-eqb f 0 h)
 
-  pub call-1 : judged t ≡ Done → firstMade t ≡ 0 → inTwelves bs ≡ false → Refused Length ≡ imports t bs room
+  pub call-1 : judged t ≡ answer.Done → firstMade t ≡ 0 → inTwelves bs ≡ false → Refused (Model Length) ≡ imports t bs room
   unfolding imports
   call-1 e g h = rw (e, g, h)
 
-  pub call-rest : judged t ≡ Done → firstMade t ≡ 0 → inTwelves bs ≡ true → roomJudged t bs room ≡ imports t bs room
+  pub call-rest : judged t ≡ answer.Done → firstMade t ≡ 0 → inTwelves bs ≡ true → roomJudged t bs room ≡ imports t bs room
   unfolding imports
   call-rest e g h = rw (e, g, h)
 
   module _ (z : Counts) (z-is : z ≡ countsAt t) where
-    pub room-here : (r : Refusal) → recordsJudged z (rowAt t) bs ≡ Refused r → Refused r ≡ roomJudged t bs room
+    pub room-here : (r : Fault) → recordsJudged z (rowAt t) bs ≡ Refused r → Refused r ≡ roomJudged t bs room
     unfolding roomJudged
     room-here r e = let g : recordsJudged (countsAt t) (rowAt t) bs ≡ Refused r = ap (λ (y : Counts). recordsJudged y (rowAt t) bs) (sym z-is) ∙ e in rw g
 
-    room-last : recordsJudged z (rowAt t) bs ≡ Done → cond (ltb room (secondRows t bs * 6)) (Refused Short) Done ≡ roomJudged t bs room
+    room-last : recordsJudged z (rowAt t) bs ≡ Done → cond (ltb room (secondRows t bs * 6)) (Refused (Model Short)) Done ≡ roomJudged t bs room
     unfolding roomJudged
     room-last e = let f : recordsJudged (countsAt t) (rowAt t) bs ≡ Done = ap (λ (y : Counts). recordsJudged y (rowAt t) bs) (sym z-is) ∙ e in rw f
 
-    pub room-9 : recordsJudged z (rowAt t) bs ≡ Done → room < secondRows t bs * 6 → Refused Short ≡ roomJudged t bs room
-    room-9 e h = sym (cond-true _ (Refused Short) Done (lt-ltb room (secondRows t bs * 6) h)) ∙ room-last e
+    pub room-9 : recordsJudged z (rowAt t) bs ≡ Done → room < secondRows t bs * 6 → Refused (Model Short) ≡ roomJudged t bs room
+    room-9 e h = sym (cond-true _ (Refused (Model Short)) Done (lt-ltb room (secondRows t bs * 6) h)) ∙ room-last e
 
     pub room-done : recordsJudged z (rowAt t) bs ≡ Done → secondRows t bs * 6 ≤ room → Done ≡ roomJudged t bs room
-    room-done e h = sym (cond-false _ (Refused Short) Done (le-ltb room (secondRows t bs * 6) h)) ∙ room-last e
+    room-done e h = sym (cond-false _ (Refused (Model Short)) Done (le-ltb room (secondRows t bs * 6) h)) ∙ room-last e
 
 -- ---- those before the first fixed node: so many were found, and what is left from here on
 

@@ -1,8 +1,9 @@
 // Records of the bench tool become the H, F and T cards of a second table.
-use paper::Answer;
 use paper::Counts;
 use paper::Kind;
 use paper::Refusal;
+use paper_records::Fault;
+use paper_records::Imported;
 use records::Decoded;
 ghost use mathlib.Core.Path.{_≡_};
 ghost use mathlib.Core.List.{List, _++_};
@@ -55,7 +56,7 @@ fn judge_record(
     number: u32,
     place: u32,
     bytes: &[u8],
-) -> Answer
+) -> Imported
     requires { ⌜ length (now bytes) ≡ 12 ⌝ }
     ensures { λ r. ⌜ r ≡ paper.recordJudged counts (rowAt (now (t .entry))) kind number place (now (bytes .entry)) ⌝ }
 {
@@ -63,21 +64,21 @@ fn judge_record(
     match d {
         Decoded::Got(r) => {
             if !card_fits(counts, t, records::card(records::number(bytes), r)) {
-                return Answer::Refused(Refusal::Range(place));
+                return Imported::Refused(Fault::Model(Refusal::Range(place)));
             }
             if !records::may_follow(kind, number, bytes) {
-                return Answer::Refused(Refusal::Range(place));
+                return Imported::Refused(Fault::Model(Refusal::Range(place)));
             }
-            Answer::Done
+            Imported::Done
         }
-        Decoded::Garbled => Answer::Refused(Refusal::Garbled(place)),
-        Decoded::Infinite => Answer::Refused(Refusal::Infinite(place)),
+        Decoded::Garbled => Imported::Refused(Fault::Garbled(place)),
+        Decoded::Infinite => Imported::Refused(Fault::Infinite(place)),
     }
 }
 
 // ---- the records in turn
 
-fn judge_records(counts: Counts, t: &[u32], bytes: &[u8], n: usize) -> Answer
+fn judge_records(counts: Counts, t: &[u32], bytes: &[u8], n: usize) -> Imported
     requires { ⌜ (n * 12 ≤ length (now bytes)) × (n < 6000) ⌝ }
     ensures { λ r. ⌜ r ≡ paper.recordsFrom counts (rowAt (now (t .entry))) (now (bytes .entry)) n 0 0 0 ⌝ }
 {
@@ -88,31 +89,31 @@ fn judge_records(counts: Counts, t: &[u32], bytes: &[u8], n: usize) -> Answer
         let at = i * 12;
         let end = at + 12;
         let a = judge_record(counts, t, kind, number, (i + 1) as u32, &bytes[at..end]);
-        let Answer::Done = a else {
+        let Imported::Done = a else {
             return a;
         };
         kind = records::kind(&bytes[at..end]);
         number = records::number(&bytes[at..end]);
         i += 1;
     }
-    Answer::Done
+    Imported::Done
 }
 
 // The records, then the last of them.
-fn judge_all(counts: Counts, t: &[u32], bytes: &[u8], n: usize) -> Answer
+fn judge_all(counts: Counts, t: &[u32], bytes: &[u8], n: usize) -> Imported
     requires { ⌜ (n * 12 + 12 ≤ length (now bytes)) × (n < 6000) × (n ≡ paper.recordCount (now bytes)) ⌝ }
     ensures { λ r. ⌜ r ≡ paper.recordsJudged counts (rowAt (now (t .entry))) (now (bytes .entry)) ⌝ }
 {
     let a = judge_records(counts, t, bytes, n);
-    let Answer::Done = a else {
+    let Imported::Done = a else {
         return a;
     };
     let at = n * 12;
     let end = at + 12;
     if !records::is_tail(n, &bytes[at..end]) {
-        return Answer::Refused(Refusal::Garbled((n + 1) as u32));
+        return Imported::Refused(Fault::Garbled((n + 1) as u32));
     }
-    Answer::Done
+    Imported::Done
 }
 
 // ---- the deck and the bytes
@@ -158,35 +159,35 @@ fn in_twelves(bytes: &[u8]) -> bool
 }
 
 // The records of a deck of `rows` cards before Z, then 9.
-fn judge_room(t: &[u32], rows: usize, bytes: &[u8], n: usize, room: usize) -> Answer
+fn judge_room(t: &[u32], rows: usize, bytes: &[u8], n: usize, room: usize) -> Imported
     requires { ⌜ Sized (now t) (now bytes) rows n ⌝ }
     ensures { λ r. ⌜ r ≡ paper.roomJudged (now (t .entry)) (now (bytes .entry)) room ⌝ }
 {
     let a = judge_all(cards::counts_at(t), t, bytes, n);
-    let Answer::Done = a else {
+    let Imported::Done = a else {
         return a;
     };
     if room < (rows + 1 + n) * 6 {
-        return Answer::Refused(Refusal::Short);
+        return Imported::Refused(Fault::Model(Refusal::Short));
     }
-    Answer::Done
+    Imported::Done
 }
 
 // The judge of an import into a table of `room` numbers.
-fn judge(t: &[u32], bytes: &[u8], room: usize) -> Answer
+fn judge(t: &[u32], bytes: &[u8], room: usize) -> Imported
     ensures { λ r. ⌜ r ≡ paper.imports (now (t .entry)) (now (bytes .entry)) room ⌝ }
 {
-    let a = cards::judge(t);
-    let Answer::Done = a else {
+    let a = paper_records::of_model(cards::judge(t));
+    let Imported::Done = a else {
         return a;
     };
     let rows = t.len() / 6 - 1;
     let first = first_made(t, rows);
     if first != 0 {
-        return Answer::Refused(Refusal::Replacement(first as u32));
+        return Imported::Refused(Fault::Model(Refusal::Replacement(first as u32)));
     }
     if !in_twelves(bytes) {
-        return Answer::Refused(Refusal::Length);
+        return Imported::Refused(Fault::Model(Refusal::Length));
     }
     judge_room(t, rows, bytes, bytes.len() / 12 - 1, room)
 }
@@ -329,16 +330,16 @@ fn second_to(counts: Counts, s: Split, t: &[u32], bytes: &[u8], rows: usize, out
 }
 
 // The deck's table and the records' bytes into a second table, filled on acceptance.
-pub fn import(table: &[u32], bytes: &[u8], second: &mut [u32]) -> Answer
-    ensures { λ r. ⌜ paper.imported r (now (second .exit)) ≡ paper.importCall (now (table .entry)) (now (bytes .entry)) (now (second .entry)) ⌝ }
+pub fn import(table: &[u32], bytes: &[u8], second: &mut [u32]) -> Imported
+    ensures { λ r. ⌜ paper.leftImport r (now (second .exit)) ≡ paper.importCall (now (table .entry)) (now (bytes .entry)) (now (second .entry)) ⌝ }
 {
     let a = judge(table, bytes, second.len());
-    let Answer::Done = a else {
+    let Imported::Done = a else {
         return a;
     };
     let counts = cards::counts_at(table);
     let n = bytes.len() / 12 - 1;
     let s = split_deck(counts, table, bytes, n);
     second_to(counts, s, table, bytes, table.len() / 6 + n, second);
-    Answer::Done
+    Imported::Done
 }

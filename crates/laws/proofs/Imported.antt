@@ -12,17 +12,21 @@ use borrow.Author.Tests.{eqb-true, eq-eqb, lt-ltb, le-ltb, le-leb, leb-true, ltb
 use Rattle.whole.proofs.Sums.{first-none}
 use Rattle.whole.proofs.First.{first-upto, first-holds, first-most}
 use Rattle.whole.proofs.Tests.{never, and-told, cond-true, cond-false}
-use Rattle.paper.specs.Refusals.{Outcome, refused, done}
+use Rattle.paper.specs.Refusals.{Result, refused, done}
 use Rattle.paper.specs.Kinds.{about, aboutOf, bodies, kindOf, kindAt, letterOf, isA}
 use Rattle.paper.specs.Cards.{before, cards, columns, columnsOf, inRange, orderOf, rank, countsOf, countsAt, rowAt, letter, rows}
 use Rattle.paper.specs.Judge.{stands, clean, rises, ordered, full, nameAt, cardNamed, asks, trailer, judged}
+use Rattle.paper_records.specs.Faults.{ofModel}
 use Rattle.paper_records.specs.Records.{recordKind, recordNumber, recordCard, recordAt, recordCount, inTwelves, recordsFrom, recordsJudged, isMade, firstMade, made, recordRow, early, lastRow, fixedPlace, secondRow, secondRows, secondTable, roomJudged, imports}
 use Rattle.paper.specs.declared.Answer.the-variants.{Done}
 use Rattle.paper.specs.declared.Refusal.the-variants.{Length, Short, Replacement}
+use Rattle.paper_records.specs.declared.Fault.{Fault}
+use Rattle.paper_records.specs.declared.Fault.the-variants.{Model}
+use Rattle.paper_records.specs.declared.Imported.the-variants as importAnswer
 use Rattle.paper.specs.declared.Counts.{Counts}
 use Rattle.paper.specs.declared.Kind.{Kind}
 use Rattle.paper.specs.declared.Kind.the-variants.{E, «V», F, G, R, C}
-use Rattle.laws.proofs.Outcomes.{both-done, cond-done, cond-rest}
+use Rattle.laws.proofs.Faults.{both-done, model-done, cond-done, cond-rest}
 use Rattle.laws.proofs.Letters.{letter-of, kind-of}
 use Rattle.laws.proofs.Tables.{row-field, row-length}
 use Rattle.laws.proofs.Joined.{joined-length, joined-at}
@@ -40,18 +44,18 @@ pub record Accepted (t bs : List ℕ) (room : ℕ) : Type 0 where
   pub fine : judged t ≡ Done
   pub bare : firstMade t ≡ 0
   pub twelves : inTwelves bs ≡ true
-  pub records : recordsJudged (countsAt t) (rowAt t) bs ≡ Done
+  pub records : recordsJudged (countsAt t) (rowAt t) bs ≡ importAnswer.Done
   pub room-is : secondRows t bs * 6 ≤ room
 
-pub accepted : (t bs : List ℕ) (room : ℕ) → imports t bs room ≡ Done → Accepted t bs room
+pub accepted : (t bs : List ℕ) (room : ℕ) → imports t bs room ≡ importAnswer.Done → Accepted t bs room
 unfolding imports roomJudged
 accepted t bs room e =
-    let (a, e₁) = both-done (judged t) _ e in
-    let (b, e₂) = cond-done (eqb (firstMade t) 0) _ (Replacement (firstMade t)) e₁ in
-    let (c, e₃) = cond-done (inTwelves bs) _ Length e₂ in
+    let (a, e₁) = both-done (ofModel (judged t)) _ e in
+    let (b, e₂) = cond-done (eqb (firstMade t) 0) _ (Model (Replacement (firstMade t))) e₁ in
+    let (c, e₃) = cond-done (inTwelves bs) _ (Model Length) e₂ in
     let (d, e₄) = both-done (recordsJudged (countsAt t) (rowAt t) bs) _ e₃ in
-    let (r, _) = cond-rest (ltb room (secondRows t bs * 6)) Done Short e₄ in
-    record { fine = a; bare = eqb-true (firstMade t) 0 b; twelves = c; records = d; room-is = ltb-false room (secondRows t bs * 6) r }
+    let (r, _) = cond-rest (ltb room (secondRows t bs * 6)) importAnswer.Done (Model Short) e₄ in
+    record { fine = model-done (judged t) a; bare = eqb-true (firstMade t) 0 b; twelves = c; records = d; room-is = ltb-false room (secondRows t bs * 6) r }
 
 -- the row of a record's card
 abbrev pub recordPlace : List ℕ → List ℕ → ℕ → ℕ
@@ -59,7 +63,7 @@ recordPlace t bs k = cond (ltb k (early bs)) (before (countsAt t) 4 + k) (fixedP
 
 -- ---- the whole
 
-module _ (t bs : List ℕ) (room : ℕ) (ok : imports t bs room ≡ Done) where
+module _ (t bs : List ℕ) (room : ℕ) (ok : imports t bs room ≡ importAnswer.Done) where
   acc : Accepted t bs room
   acc = accepted t bs room ok
 
@@ -104,7 +108,7 @@ module _ (t bs : List ℕ) (room : ℕ) (ok : imports t bs room ≡ Done) where
 
   -- ---- the records
 
-  turns : recordsFrom z row bs n 0 0 0 ≡ Done
+  turns : recordsFrom z row bs n 0 0 0 ≡ importAnswer.Done
   unfolding recordsJudged
   turns = both-done (recordsFrom z row bs n 0 0 0) _ (acc .records) .0
 
@@ -581,7 +585,7 @@ module _ (t bs : List ℕ) (room : ℕ) (ok : imports t bs room ≡ Done) where
   unfolding recordRow
   recordRow-six k = go (recordCard (suc k) (recordAt bs k)) refl
     where
-      go : (o : Outcome (List ℕ)) → recordCard (suc k) (recordAt bs k) ≡ o → length (made o) ≡ 6
+      go : (o : Result Fault (List ℕ)) → recordCard (suc k) (recordAt bs k) ≡ o → length (made o) ≡ 6
       go (refused r) e = refl
       go (done c) e = made-card (suc k) (recordAt bs k) c e .six
 

@@ -8,14 +8,15 @@ use Rattle.paper.specs.Refusals.{done}
 use Rattle.paper.specs.Cards.{before, cards, countsAt, rowAt}
 use Rattle.paper.specs.Judge.{judged}
 use Rattle.paper_records.specs.Records.{recordCard, recordAt, recordCount, early, fixedPlace, secondRows, secondTable, imports, importCall}
-use Rattle.paper.specs.declared.Answer.{Answer}
-use Rattle.paper.specs.declared.Answer.the-variants.{Done, Refused}
-use Rattle.paper.specs.declared.Refusal.{Refusal}
+use Rattle.paper.specs.declared.Answer.the-variants as answer
+use Rattle.paper_records.specs.declared.Fault.{Fault}
+use Rattle.paper_records.specs.declared.Imported.{Imported}
+use Rattle.paper_records.specs.declared.Imported.the-variants.{Done, Refused}
 use Rattle.laws.proofs.Imported.{recordPlace, second-long, second-judged, body-rows, edge-rows, change-rows, record-rows}
 
 module _ (t bs s : List ℕ) where
-  pub import-refused : (r : Refusal) → importCall t bs s .answer ≡ Refused r → importCall t bs s .second ≡ s
-  import-refused r e = rw e
+  pub import-refused : (f : Fault) → importCall t bs s .answer ≡ Refused f → importCall t bs s .second ≡ s
+  import-refused f e = rw e
 
   -- an accepted import: the new deck, and what stays past it
   pub import-done : importCall t bs s .answer ≡ Done → importCall t bs s .second ≡ secondTable t bs ++ drop (secondRows t bs * 6) s
@@ -29,17 +30,17 @@ module _ (t bs s : List ℕ) where
   pub import-beyond : drop (secondRows t bs * 6) (importCall t bs s .second) ≡ drop (secondRows t bs * 6) s
   import-beyond = go (imports t bs (length s)) refl
     where
-      go : (a : Answer) → imports t bs (length s) ≡ a → drop (secondRows t bs * 6) (importCall t bs s .second) ≡ drop (secondRows t bs * 6) s
+      go : (a : Imported) → imports t bs (length s) ≡ a → drop (secondRows t bs * 6) (importCall t bs s .second) ≡ drop (secondRows t bs * 6) s
       go Done e =
           ap (drop (secondRows t bs * 6)) (import-done e)
           ∙ drop-at (secondTable t bs) (drop (secondRows t bs * 6) s) (secondRows t bs * 6) (second-long t bs (length s) e)
-      go (Refused r) e = ap (drop (secondRows t bs * 6)) (import-refused r e)
+      go (Refused f) e = ap (drop (secondRows t bs * 6)) (import-refused f e)
 
   module _ (ok : importCall t bs s .answer ≡ Done) where
     abbrev new : List ℕ
     new = take (secondRows t bs * 6) (importCall t bs s .second)
 
-    pub import-judged : judged new ≡ Done
+    pub import-judged : judged new ≡ answer.Done
     import-judged = ap judged (import-new ok) ∙ second-judged t bs (length s) ok
 
     pub import-bodies : (k : ℕ) → k < before (countsAt t) 4 → rowAt new k ≡ rowAt t k

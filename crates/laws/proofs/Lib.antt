@@ -1,6 +1,7 @@
 -- Theorems about the definitions.
 pub mod Scale
 pub mod Outcomes
+pub mod Faults
 pub mod Tables
 pub mod Update
 pub mod KeptFactor

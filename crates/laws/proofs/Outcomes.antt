@@ -3,7 +3,7 @@ use mathlib.Core.Path.{_≡_, refl, ap}
 use mathlib.Core.Bool.{Bool, true, false, cond}
 use Prim.Native.Nat.{ℕ}
 use native.Mathlib.Omega.{arith}
-use Rattle.paper.specs.Refusals.{Outcome, refused, done, when, then, andThen, after}
+use Rattle.paper.specs.Refusals.{Result, Outcome, refused, done, when, then, andThen, after}
 use Rattle.paper.specs.declared.Answer.{Answer}
 use Rattle.paper.specs.declared.Answer.the-variants.{Done, Refused}
 use Rattle.paper.specs.declared.Refusal.{Refusal}
@@ -21,32 +21,38 @@ pub andThen-Done : (a : Answer) → andThen a Done ≡ a
 andThen-Done Done = refl
 andThen-Done (Refused r) = refl
 
--- a test that is passed, and what it stands before
+-- a test that is passed, and what it stands before, of any answers: x is refused, d is not
+pub cond-passed : {A : Type 0} (b : Bool) (a x d : A) → (x ≡ d → ⊥) → cond b a x ≡ d → (b ≡ true) × (a ≡ d)
+cond-passed true a x d n e = (refl, e)
+cond-passed false a x d n e = absurd (n e)
+
+pub cond-past : {A : Type 0} (b : Bool) (a x d : A) → (x ≡ d → ⊥) → cond b x a ≡ d → (b ≡ false) × (a ≡ d)
+cond-past false a x d n e = (refl, e)
+cond-past true a x d n e = absurd (n e)
+
 pub cond-done : (b : Bool) (a : Answer) (r : Refusal) → cond b a (Refused r) ≡ Done → (b ≡ true) × (a ≡ Done)
-cond-done true a r e = (refl, e)
-cond-done false a r e = done-refused e
+cond-done b a r = cond-passed b a (Refused r) Done done-refused
 
 pub cond-rest : (b : Bool) (a : Answer) (r : Refusal) → cond b (Refused r) a ≡ Done → (b ≡ false) × (a ≡ Done)
-cond-rest false a r e = (refl, e)
-cond-rest true a r e = done-refused e
+cond-rest b a r = cond-past b a (Refused r) Done done-refused
 
 -- ---- outcomes
 
-pub refused-done : {X Y : Type 0} {r : Refusal} {x : X} → refused r ≡ done x → Y
+pub refused-done : {R X Y : Type 0} {r : R} {x : X} → _≡_ {A = Result R X} (refused r) (done x) → Y
 refused-done e = absurd (let z : _≡_ {A = ℕ} 0 1 = cc in omega arith)
 
 pub after-done : {X : Type 0} (a : Answer) (o : Outcome X) (x : X) → after a o ≡ done x → (a ≡ Done) × (o ≡ done x)
 after-done Done o x e = (refl, e)
 after-done (Refused r) o x e = refused-done e
 
-pub when-done : {X : Type 0} (b : Bool) (r : Refusal) (o : Outcome X) (x : X) → when b r o ≡ done x → (b ≡ true) × (o ≡ done x)
+pub when-done : {R X : Type 0} (b : Bool) (r : R) (o : Result R X) (x : X) → when b r o ≡ done x → (b ≡ true) × (o ≡ done x)
 when-done true r o x e = (refl, e)
 when-done false r o x e = refused-done e
 
-pub done-inj : {X : Type 0} {x y : X} → done x ≡ done y → x ≡ y
+pub done-inj : {R X : Type 0} {x y : X} → _≡_ {A = Result R X} (done x) (done y) → x ≡ y
 done-inj {x} e = ap (λ o. of x o) e
   where
-    of : {X : Type 0} → X → Outcome X → X
+    of : {R X : Type 0} → X → Result R X → X
     of d (refused r) = d
     of d (done y) = y
 

@@ -10,19 +10,22 @@ use lib.Dec.{ltb, eqb}
 use lib.ListN.{length, getD}
 use borrow.Author.Tests.{eqb-true, ltb-true, ltb-false}
 use Rattle.whole.proofs.Tests.{and-told, or-told}
-use Rattle.paper.specs.Refusals.{Outcome, refused, done, when, then, answerOf}
+use Rattle.paper.specs.Refusals.{Result, refused, done, when, then}
 use Rattle.paper.specs.Kinds.{about, kindOf, kindAt}
 use Rattle.paper.specs.Cards.{columns, columnsOf, used, usedBy, zeros, inRange, orderOf}
 use Rattle.paper.specs.Judge.{clean, asks}
+use Rattle.paper_records.specs.Faults.{answerOf}
 use Rattle.paper_records.specs.Singles.{finite}
 use Rattle.paper_records.specs.Records.{recordKind, recordNumber, firstBits, secondBits, heatCard, filmCard, fixedCard, oneUsed, bothUsed, recordCard, recordAt, follows, fitting, recordJudged, recordsFrom, earlyFrom}
-use Rattle.paper.specs.declared.Answer.the-variants.{Done}
-use Rattle.paper.specs.declared.Refusal.{Refusal}
-use Rattle.paper.specs.declared.Refusal.the-variants.{Range, Infinite, Garbled}
+use Rattle.paper_records.specs.declared.Fault.{Fault}
+use Rattle.paper_records.specs.declared.Fault.the-variants.{Model, Infinite, Garbled}
+use Rattle.paper_records.specs.declared.Imported.the-variants.{Done}
+use Rattle.paper.specs.declared.Refusal.the-variants.{Range}
 use Rattle.paper.specs.declared.Counts.{Counts}
 use Rattle.paper.specs.declared.Kind.{Kind}
 use Rattle.paper.specs.declared.Kind.the-variants.{H, F, T}
-use Rattle.laws.proofs.Outcomes.{done-refused, both-done, refused-done, when-done, done-inj}
+use Rattle.laws.proofs.Outcomes.{refused-done, when-done, done-inj}
+use Rattle.laws.proofs.Faults.{done-refused, both-done}
 use Rattle.laws.proofs.Alike.{column-in}
 
 -- ---- a record's card
@@ -120,7 +123,7 @@ pub record Taken (z : Counts) (row : ℕ → List ℕ) (kind number place : ℕ)
   pub asked : asks z row 0 card (kindAt card) ≡ true
   pub after : follows kind number bs ≡ true
 
-test-told : (b : Bool) (r : Refusal) (c : List ℕ) → answerOf (when b r (done c)) ≡ Done → b ≡ true
+test-told : (b : Bool) (r : Fault) (c : List ℕ) → answerOf (when b r (done c)) ≡ Done → b ≡ true
 test-told true r c e = refl
 test-told false r c e = done-refused e
 
@@ -128,10 +131,10 @@ pub taken : (z : Counts) (row : ℕ → List ℕ) (kind number place : ℕ) (bs 
 unfolding recordJudged fitting
 taken z row kind number place bs = go (recordCard place bs) refl
   where
-    go : (o : Outcome (List ℕ)) → recordCard place bs ≡ o → answerOf (then o (λ card. when (fitting z row card && follows kind number bs) (Range place) (done card))) ≡ Done → Taken z row kind number place bs
+    go : (o : Result Fault (List ℕ)) → recordCard place bs ≡ o → answerOf (then o (λ card. when (fitting z row card && follows kind number bs) (Model (Range place)) (done card))) ≡ Done → Taken z row kind number place bs
     go (refused r) q h = done-refused h
     go (done c) q h =
-        let (a, b) = and-told (fitting z row c) (follows kind number bs) (test-told (fitting z row c && follows kind number bs) (Range place) c h) in
+        let (a, b) = and-told (fitting z row c) (follows kind number bs) (test-told (fitting z row c && follows kind number bs) (Model (Range place)) c h) in
         let (r, s) = and-told (inRange (columnsOf z c) c 5 0) (asks z row 0 c (kindAt c)) a in
         record { card = c; got = q; range = r; asked = s; after = b }
 

@@ -5,7 +5,7 @@ use Rattle.paper.specs.declared.Answer.{Answer}
 use Rattle.paper.specs.declared.Answer.the-variants.{Done, Refused}
 use Rattle.paper.specs.declared.Given.{Given}
 use Rattle.paper.specs.declared.Refusal.{Refusal}
-use Rattle.paper.specs.declared.Refusal.the-variants.{Length, Trailer, Form, Range, Flat, Stiff, Pivot, Bound, Short, Foreign, OffScale, Unsettled, Replacement, Thin, Infinite, Garbled, Stray, Zone, Falling}
+use Rattle.paper.specs.declared.Refusal.the-variants.{Length, Trailer, Form, Range, Flat, Stiff, Pivot, Bound, Short, Foreign, OffScale, Unsettled, Replacement, Thin, Stray, Zone, Falling}
 use Rattle.paper.specs.declared.Stepped.{Stepped}
 use Rattle.paper.specs.declared.Stepped.the-variants as stepAnswer
 use Rattle.paper.specs.declared.Ran.{Ran}
@@ -15,6 +15,7 @@ use Rattle.paper.specs.declared.Ran.the-variants as runAnswer
 abbrev pub given : ℕ → ℕ → Given
 given number place = record { number = number; place = place }
 
+-- the table; 15 and 16 are of bench records alone, in paper_records
 abbrev pub givenBy : Refusal → Given
 givenBy Length = given 1 0
 givenBy Trailer = given 2 0
@@ -30,8 +31,6 @@ givenBy (OffScale node) = given 11 node
 givenBy (Unsettled row) = given 12 row
 givenBy (Replacement card) = given 13 card
 givenBy (Thin element) = given 14 element
-givenBy (Infinite entry) = given 15 entry
-givenBy (Garbled entry) = given 16 entry
 givenBy (Stray row) = given 17 row
 givenBy (Zone zone) = given 18 zone
 givenBy (Falling edge) = given 19 edge
@@ -42,17 +41,21 @@ numberOf r = givenBy r .number
 abbrev pub placeOf : Refusal → ℕ
 placeOf r = givenBy r .place
 
--- a refusal, or what was made
-pub data Outcome (X : Type 0) : Type 0 where
-  refused : Refusal → Outcome X
-  done : X → Outcome X
+-- a refusal, of any type, or what was made
+pub data Result (R X : Type 0) : Type 0 where
+  refused : R → Result R X
+  done : X → Result R X
+
+-- where the refusal is of the table
+abbrev pub Outcome : Type 0 → Type 0
+Outcome X = Result Refusal X
 
 -- a test, or else the refusal; then the rest
-abbrev pub when : {X : Type 0} → Bool → Refusal → Outcome X → Outcome X
+abbrev pub when : {R X : Type 0} → Bool → R → Result R X → Result R X
 when true r rest = rest
 when false r rest = refused r
 
-abbrev pub then : {X Y : Type 0} → Outcome X → (X → Outcome Y) → Outcome Y
+abbrev pub then : {R X Y : Type 0} → Result R X → (X → Result R Y) → Result R Y
 then (refused r) f = refused r
 then (done x) f = f x
 
@@ -84,8 +87,12 @@ pub record Told : Type 0 where
 abbrev pub acceptance : ℕ → Told
 acceptance value = record { number = 0; value = value; place = 0 }
 
+-- a refusal by its row
+abbrev pub toldBy : Given → Told
+toldBy g = record { number = g .number; value = 0; place = g .place }
+
 abbrev pub refusal : Refusal → Told
-refusal r = record { number = numberOf r; value = 0; place = placeOf r }
+refusal r = toldBy (givenBy r)
 
 unfoldable pub told : Answer → Told
 told Done = acceptance 0

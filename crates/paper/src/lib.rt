@@ -2,7 +2,7 @@
 ghost use mathlib.Core.Path.{_≡_};
 ghost use Prim.Native.Nat.{_*_, _≤_};
 ghost use Rattle.paper.specs.Ticks.{kelvin, onScale};
-ghost use Rattle.paper.specs.Refusals.{given, givenBy, refusal, told, toldStep, packed};
+ghost use Rattle.paper.specs.Refusals.{given, givenBy, toldBy, refusal, told, toldStep, packed};
 
 // Three kinds of count, as on the cards. None is taken for another.
 pub struct Node(pub u8);
@@ -93,8 +93,6 @@ pub enum Refusal {
     Unsettled(u32),
     Replacement(u32),
     Thin(u32),
-    Infinite(u32),
-    Garbled(u32),
     Stray(u32),
     Zone(u32),
     Falling(u32),
@@ -133,13 +131,13 @@ pub enum Ran {
 // ---- an answer's number, place and value
 
 // A row of the table of refusals.
-fn row(number: u32, place: u32) -> Given
+pub fn row(number: u32, place: u32) -> Given
     ensures { λ g. ⌜ g ≡ given number place ⌝ }
 {
     Given { number, place }
 }
 
-// The table of refusals.
+// The table of refusals; 15 and 16 are of bench records alone, in paper_records.
 pub fn given_by(r: Refusal) -> Given
     ensures { λ g. ⌜ g ≡ givenBy r ⌝ }
 {
@@ -158,8 +156,6 @@ pub fn given_by(r: Refusal) -> Given
         Refusal::Unsettled(line) => row(12, line),
         Refusal::Replacement(card) => row(13, card),
         Refusal::Thin(element) => row(14, element),
-        Refusal::Infinite(record) => row(15, record),
-        Refusal::Garbled(record) => row(16, record),
         Refusal::Stray(line) => row(17, line),
         Refusal::Zone(zone) => row(18, zone),
         Refusal::Falling(edge) => row(19, edge),
@@ -167,11 +163,16 @@ pub fn given_by(r: Refusal) -> Given
 }
 
 // 256 is where a value begins, 65,536 where a place does.
+pub fn packed_given(g: Given) -> u64
+    ensures { λ n. ⌜ n ≡ packed (toldBy g) ⌝ }
+{
+    g.number as u64 + 65_536 * g.place as u64
+}
+
 fn packed_refusal(r: Refusal) -> u64
     ensures { λ n. ⌜ n ≡ packed (refusal r) ⌝ }
 {
-    let g = given_by(r);
-    g.number as u64 + 65_536 * g.place as u64
+    packed_given(given_by(r))
 }
 
 // An answer as one number.

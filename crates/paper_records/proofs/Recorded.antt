@@ -8,11 +8,11 @@ use lib.IntN.{ℤ, pos, negsuc}
 use lib.ListN.{replicate}
 use Rattle.whole.specs.Nearest.{nearestN, nearest}
 use Rattle.whole.specs.Sums.{sumN, firstFrom}
-use Rattle.paper.specs.Refusals.{told}
 use Rattle.paper.specs.Kinds.{about, kindOf, letterOf}
 use Rattle.paper.specs.Cards.{before, columns, used, usedBy, zeros, inRange, ranked, field, outside}
 use Rattle.paper.specs.Judge.{stands, clean, rises, ordered, full, nameAt, cardNamed, formed, ranged, judgeOne, asks, judgeCard, judgeFrom, trailer, judgeRows, judged}
 use Rattle.paper.specs.Calls.{joined}
+use Rattle.paper_records.specs.Faults.{toldImport}
 use Rattle.paper_records.specs.Singles.{finite, mantissa, shift, size, value, toNearest, asField, scaled}
 use Rattle.paper_records.specs.Records.{halfAt, wordAt, oneUsed, bothUsed, recordCard, inTwelves, isTail, follows, fitting, recordJudged, recordsFrom, recordsJudged, firstMade, recordRow, earlyFrom, lastRow, fixedPlace, secondRow, secondTable, roomJudged, imports, importCall}
 use Rattle.paper.specs.declared.Kind.the-variants.{D, N, M, E, «V», H, F, T, C, Z}
@@ -111,10 +111,10 @@ solid = (letterOf D ∷ 1000 ∷ 19660800 ∷ 1 ∷ 0 ∷ 0 ∷ []) ++ high 0 0 
 
 -- into a table of so many numbers, each 77: number and place, then what is left
 abbrev into : ℕ → List ℕ → List ℕ → List ℕ
-into room t bs = let x = importCall t bs (replicate room 77) in let a = told (x .answer) in a .number ∷ a .place ∷ x .second
+into room t bs = let x = importCall t bs (replicate room 77) in let a = toldImport (x .answer) in a .number ∷ a .place ∷ x .second
 
 abbrev says : List ℕ → List ℕ → List ℕ
-says t bs = let a = told (imports t bs 100) in a .number ∷ a .place ∷ []
+says t bs = let a = toldImport (imports t bs 100) in a .number ∷ a .place ∷ []
 
 abbrev refusal : ℕ → ℕ → List ℕ
 refusal number place = number ∷ place ∷ []
@@ -164,7 +164,7 @@ lines =
     ∷ line (says solid (one 2 1 hundred warm ++ end 1)) (refusal 0 0) ∷ line (says solid (one 1 2 few nought ++ one 2 2 hundred warm ++ end 2)) (refusal 4 2) ∷ []
 
 run : same (same eqb) (map (λ (l : Line). l .got) lines) (map (λ (l : Line). l .want) lines) ≡ true
-unfolding lines same nearestN nearest sumN firstFrom told about kindOf before columns used usedBy zeros inRange ranked field stands clean rises ordered full nameAt cardNamed formed ranged judgeOne asks judgeCard judgeFrom trailer judgeRows judged joined finite mantissa shift size value toNearest asField halfAt wordAt oneUsed bothUsed recordCard inTwelves isTail follows fitting recordJudged recordsFrom recordsJudged firstMade recordRow earlyFrom lastRow fixedPlace secondRow secondTable roomJudged imports
+unfolding lines same nearestN nearest sumN firstFrom toldImport about kindOf before columns used usedBy zeros inRange ranked field stands clean rises ordered full nameAt cardNamed formed ranged judgeOne asks judgeCard judgeFrom trailer judgeRows judged joined finite mantissa shift size value toNearest asField halfAt wordAt oneUsed bothUsed recordCard inTwelves isTail follows fitting recordJudged recordsFrom recordsJudged firstMade recordRow earlyFrom lastRow fixedPlace secondRow secondTable roomJudged imports
 run = refl
 
 pub all-imported : map (λ (l : Line). l .got) lines ≡ map (λ (l : Line). l .want) lines

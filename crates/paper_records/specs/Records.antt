@@ -6,18 +6,21 @@ use lib.Dec.{ltb, leb, eqb}
 use lib.ListN.{length, getD, take, drop}
 use Rattle.whole.specs.Sums.{firstFrom}
 use Rattle.paper.specs.Ticks.{kelvin}
-use Rattle.paper.specs.Refusals.{Outcome, refused, done, when, then, andThen, answerOf, told, packed}
+use Rattle.paper.specs.Refusals.{Result, refused, done, when, then, packed}
 use Rattle.paper.specs.Kinds.{about, kindAt, letterOf, isA}
 use Rattle.paper.specs.Cards.{before, cards, columnsOf, inRange, orderOf, countsAt, rowAt, rows}
 use Rattle.paper.specs.Text.{noCard}
 use Rattle.paper.specs.Judge.{asks, judged}
-use Rattle.paper.specs.Calls.{joined, whenDone, ToC, gave}
+use Rattle.paper.specs.Calls.{joined, ToC, gave}
+use Rattle.paper_records.specs.Faults.{ofModel, andThen, answerOf, whenDone, toldImport}
 use Rattle.paper_records.specs.Singles.{finite, scaled}
-use Rattle.paper.specs.declared.Answer.{Answer}
-use Rattle.paper.specs.declared.Answer.the-variants.{Done, Refused}
-use Rattle.paper.specs.declared.Refusal.the-variants.{Length, Range, Short, Replacement, Infinite, Garbled}
+use Rattle.paper.specs.declared.Refusal.the-variants.{Length, Range, Short, Replacement}
 use Rattle.paper.specs.declared.Counts.{Counts}
 use Rattle.paper.specs.declared.Kind.the-variants.{H, F, T, Z}
+use Rattle.paper_records.specs.declared.Fault.{Fault}
+use Rattle.paper_records.specs.declared.Fault.the-variants.{Model, Infinite, Garbled}
+use Rattle.paper_records.specs.declared.Imported.{Imported}
+use Rattle.paper_records.specs.declared.Imported.the-variants.{Done, Refused}
 
 -- ---- a record, little-endian: kind and number of 16 bits each, two single values
 
@@ -52,14 +55,14 @@ abbrev pub fixedCard : ℕ → ℕ → List ℕ
 fixedCard number x = letterOf T ∷ number ∷ scaled kelvin x ∷ 0 ∷ 0 ∷ 0 ∷ []
 
 -- one value is used: the other is positive zero, all its bits 0, or it is 16; then a value that isn't finite is 15
-unfoldable pub oneUsed : ℕ → (ℕ → List ℕ) → ℕ → ℕ → Outcome (List ℕ)
+unfoldable pub oneUsed : ℕ → (ℕ → List ℕ) → ℕ → ℕ → Result Fault (List ℕ)
 oneUsed place card x y = when (eqb y 0) (Garbled place) (when (finite x) (Infinite place) (done (card x)))
 
-unfoldable pub bothUsed : ℕ → (ℕ → ℕ → List ℕ) → ℕ → ℕ → Outcome (List ℕ)
+unfoldable pub bothUsed : ℕ → (ℕ → ℕ → List ℕ) → ℕ → ℕ → Result Fault (List ℕ)
 bothUsed place card x y = when (finite x && finite y) (Infinite place) (done (card x y))
 
 -- the card of a record at a place, or its refusal
-unfoldable pub recordCard : ℕ → List ℕ → Outcome (List ℕ)
+unfoldable pub recordCard : ℕ → List ℕ → Result Fault (List ℕ)
 recordCard place bs =
     let number = recordNumber bs in
     let x = firstBits bs in
@@ -94,19 +97,19 @@ unfoldable pub fitting : Counts → (ℕ → List ℕ) → List ℕ → Bool
 fitting z row card = inRange (columnsOf z card) card 5 0 && asks z row 0 card (kindAt card)
 
 -- a record after one of this kind and number: 16, 15, then 4
-unfoldable pub recordJudged : Counts → (ℕ → List ℕ) → ℕ → ℕ → ℕ → List ℕ → Answer
+unfoldable pub recordJudged : Counts → (ℕ → List ℕ) → ℕ → ℕ → ℕ → List ℕ → Imported
 recordJudged z row kind number place bs =
-    answerOf (then (recordCard place bs) (λ card. when (fitting z row card && follows kind number bs) (Range place) (done card)))
+    answerOf (then (recordCard place bs) (λ card. when (fitting z row card && follows kind number bs) (Model (Range place)) (done card)))
 
 -- n records from the i-th on, counted from 0
-unfoldable pub recordsFrom : Counts → (ℕ → List ℕ) → List ℕ → ℕ → ℕ → ℕ → ℕ → Answer
+unfoldable pub recordsFrom : Counts → (ℕ → List ℕ) → List ℕ → ℕ → ℕ → ℕ → ℕ → Imported
 recordsFrom z row bs zero i kind number = Done
 recordsFrom z row bs (suc n) i kind number =
     andThen (recordJudged z row kind number (suc i) (recordAt bs i))
     (recordsFrom z row bs n (suc i) (recordKind (recordAt bs i)) (recordNumber (recordAt bs i)))
 
 -- and then the last
-unfoldable pub recordsJudged : Counts → (ℕ → List ℕ) → List ℕ → Answer
+unfoldable pub recordsJudged : Counts → (ℕ → List ℕ) → List ℕ → Imported
 recordsJudged z row bs =
     let n = recordCount bs in
     andThen (recordsFrom z row bs n 0 0 0) (cond (isTail n (recordAt bs n)) Done (Refused (Garbled (suc n))))
@@ -120,7 +123,7 @@ isMade card = isA H card || isA F card || isA T card
 unfoldable pub firstMade : List ℕ → ℕ
 firstMade t = firstFrom (rows t - 1) 0 (λ row. isMade (rowAt t row))
 
-abbrev pub made : Outcome (List ℕ) → List ℕ
+abbrev pub made : Result Fault (List ℕ) → List ℕ
 made (refused r) = noCard
 made (done card) = card
 
@@ -167,28 +170,29 @@ secondTable t bs = joined (secondRow (countsAt t) (rowAt t) bs) (secondRows t bs
 
 -- ---- the call: the deck's own refusals, 13, 1, the records in turn, 9
 
-unfoldable pub roomJudged : List ℕ → List ℕ → ℕ → Answer
+unfoldable pub roomJudged : List ℕ → List ℕ → ℕ → Imported
 roomJudged t bs room =
-    andThen (recordsJudged (countsAt t) (rowAt t) bs) (cond (ltb room (secondRows t bs * 6)) (Refused Short) Done)
+    andThen (recordsJudged (countsAt t) (rowAt t) bs) (cond (ltb room (secondRows t bs * 6)) (Refused (Model Short)) Done)
 
-unfoldable pub imports : List ℕ → List ℕ → ℕ → Answer
+unfoldable pub imports : List ℕ → List ℕ → ℕ → Imported
 imports t bs room =
-    andThen (judged t)
+    andThen (ofModel (judged t))
     (cond (eqb (firstMade t) 0)
-    (cond (inTwelves bs) (roomJudged t bs room) (Refused Length))
-    (Refused (Replacement (firstMade t))))
+    (cond (inTwelves bs) (roomJudged t bs room) (Refused (Model Length)))
+    (Refused (Model (Replacement (firstMade t)))))
 
-pub record Imported : Type 0 where
-  pub answer : Answer
+-- what it answers and leaves
+pub record ImportExit : Type 0 where
+  pub answer : Imported
   pub second : List ℕ
 
-abbrev pub imported : Answer → List ℕ → Imported
-imported answer second = record { answer = answer; second = second }
+abbrev pub leftImport : Imported → List ℕ → ImportExit
+leftImport answer second = record { answer = answer; second = second }
 
-abbrev pub importCall : List ℕ → List ℕ → List ℕ → Imported
+abbrev pub importCall : List ℕ → List ℕ → List ℕ → ImportExit
 importCall t bs second =
     let answer = imports t bs (length second) in
-    imported answer (whenDone answer (secondTable t bs ++ drop (secondRows t bs * 6) second) second)
+    leftImport answer (whenDone answer (secondTable t bs ++ drop (secondRows t bs * 6) second) second)
 
 abbrev pub importToC : List ℕ → List ℕ → List ℕ → ToC (List ℕ)
-importToC t bs second = let x = importCall t bs second in gave (packed (told (x .answer))) (x .second)
+importToC t bs second = let x = importCall t bs second in gave (packed (toldImport (x .answer))) (x .second)

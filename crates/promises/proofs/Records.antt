@@ -14,8 +14,9 @@ use Rattle.paper.specs.Cards.{Column, within, before, cards, countsAt, rowAt, o
 use Rattle.paper.specs.Judge.{judged}
 use Rattle.paper_records.specs.Singles.{negative, exponent, size, toNearest, asField}
 use Rattle.paper_records.specs.Records.{recordCard, recordAt, recordCount, early, fixedPlace, secondRows, importCall}
-use Rattle.paper.specs.declared.Answer.the-variants.{Done, Refused}
-use Rattle.paper.specs.declared.Refusal.{Refusal}
+use Rattle.paper.specs.declared.Answer.the-variants as answer
+use Rattle.paper_records.specs.declared.Fault.{Fault}
+use Rattle.paper_records.specs.declared.Imported.the-variants.{Done, Refused}
 use Rattle.paper_records.proofs.Recorded as figures
 use Rattle.laws.proofs.Floats as floats
 use Rattle.laws.proofs.Importing as below
@@ -49,7 +50,7 @@ module _ (table records second : List ℕ) (ok : importCall table records second
   abbrev pub new : List ℕ
   new = take (secondRows table records * 6) (importCall table records second .second)
 
-  pub new-is-a-deck : judged new ≡ Done
+  pub new-is-a-deck : judged new ≡ answer.Done
   new-is-a-deck = below.import-judged table records second ok
 
   -- its cards up to the elements are the old deck's
@@ -72,7 +73,7 @@ module _ (table records second : List ℕ) (ok : importCall table records second
 -- ---- what is left
 
 -- after a refusal the second table is as it was lent
-pub import-refused : (table records second : List ℕ) (r : Refusal) → importCall table records second .answer ≡ Refused r → importCall table records second .second ≡ second
+pub import-refused : (table records second : List ℕ) (f : Fault) → importCall table records second .answer ≡ Refused f → importCall table records second .second ≡ second
 import-refused = below.import-refused
 
 -- no number past the new deck is written

@@ -7,10 +7,11 @@ use lib.Dec.{T, eqb, ltb}
 use lib.Ieee.{Float, isNan}
 use borrow.Author.Tests.{eq-eqb, ne-eqb, lt-ltb, le-ltb}
 use Rattle.whole.proofs.Tests.{cond-true, cond-false, and-told}
-use Rattle.paper.specs.Refusals.{Outcome, refused, done}
+use Rattle.paper.specs.Refusals.{Result, refused, done}
 use Rattle.paper_records.specs.Singles.{finite}
 use Rattle.paper_records.specs.Records.{halfAt, wordAt, recordKind, recordNumber, heatCard, filmCard, fixedCard, oneUsed, bothUsed, recordCard, isTail, follows}
-use Rattle.paper.specs.declared.Refusal.the-variants as refusal
+use Rattle.paper_records.specs.declared.Fault.{Fault}
+use Rattle.paper_records.specs.declared.Fault.the-variants as fault
 use Rattle.laws.proofs.Floats.{single-told, bits-back}
 use Rattle.records.specs.Decoding.{single, bits, told}
 use Rattle.records.specs.declared.Record.{Record}
@@ -19,11 +20,11 @@ use Rattle.records.specs.declared.Record.the-variants.{Heat, Film, Fixed
 -- ---- 16, then 15, then the record
 
 module _ (place : ℕ) (card : ℕ → List ℕ) (x y : ℕ) where
-  pub one-16 : (y ≡ 0 → ⊥) → refused (refusal.Garbled place) ≡ oneUsed place card x y
+  pub one-16 : (y ≡ 0 → ⊥) → refused (fault.Garbled place) ≡ oneUsed place card x y
   unfolding oneUsed
   one-16 n = rw (ne-eqb y 0 n)
 
-  pub one-15 : y ≡ 0 → finite x ≡ false → refused (refusal.Infinite place) ≡ oneUsed place card x y
+  pub one-15 : y ≡ 0 → finite x ≡ false → refused (fault.Infinite place) ≡ oneUsed place card x y
   unfolding oneUsed
   one-15 e f = rw (eq-eqb y 0 e, f)
 
@@ -33,11 +34,11 @@ module _ (place : ℕ) (card : ℕ → List ℕ) (x y : ℕ) where
   one-got v h e f g = rw (eq-eqb y 0 e, f) (ap (λ (b : ℕ). done (card b)) (ap bits g ∙ bits-back x h f))
 
 module _ (place : ℕ) (card : ℕ → ℕ → List ℕ) (x y : ℕ) where
-  pub both-first : finite x ≡ false → refused (refusal.Infinite place) ≡ bothUsed place card x y
+  pub both-first : finite x ≡ false → refused (fault.Infinite place) ≡ bothUsed place card x y
   unfolding bothUsed
   both-first f = rw f
 
-  pub both-second : finite x ≡ true → finite y ≡ false → refused (refusal.Infinite place) ≡ bothUsed place card x y
+  pub both-second : finite x ≡ true → finite y ≡ false → refused (fault.Infinite place) ≡ bothUsed place card x y
   unfolding bothUsed
   both-second f g = rw (f, g)
 
@@ -51,20 +52,20 @@ module _ (bs : List ℕ) (k x y : ℕ) (k-is : k ≡ halfAt bs 0) (x-is : x ≡ 
   abbrev n : ℕ
   n = recordNumber bs
 
-  pub kind-1 : (r : Outcome (List ℕ)) → k ≡ 1 → r ≡ oneUsed place (heatCard n) x y → r ≡ recordCard place bs
+  pub kind-1 : (r : Result Fault (List ℕ)) → k ≡ 1 → r ≡ oneUsed place (heatCard n) x y → r ≡ recordCard place bs
   unfolding recordCard
   kind-1 r e f =
       f ∙ (λ i. oneUsed place (heatCard n) (x-is i) (y-is i))
       ∙ sym (cond-true (eqb (recordKind bs) 1) _ _ (eq-eqb (recordKind bs) 1 (sym k-is ∙ e)))
 
-  pub kind-2 : (r : Outcome (List ℕ)) → (k ≡ 1 → ⊥) → k ≡ 2 → r ≡ bothUsed place (filmCard n) x y → r ≡ recordCard place bs
+  pub kind-2 : (r : Result Fault (List ℕ)) → (k ≡ 1 → ⊥) → k ≡ 2 → r ≡ bothUsed place (filmCard n) x y → r ≡ recordCard place bs
   unfolding recordCard
   kind-2 r m e f =
       f ∙ (λ i. bothUsed place (filmCard n) (x-is i) (y-is i))
       ∙ sym (cond-true (eqb (recordKind bs) 2) _ _ (eq-eqb (recordKind bs) 2 (sym k-is ∙ e)))
       ∙ sym (cond-false (eqb (recordKind bs) 1) _ _ (ne-eqb (recordKind bs) 1 (λ z. m (k-is ∙ z))))
 
-  pub kind-3 : (r : Outcome (List ℕ)) → (k ≡ 1 → ⊥) → (k ≡ 2 → ⊥) → k ≡ 3 → r ≡ oneUsed place (fixedCard n) x y → r ≡ recordCard place bs
+  pub kind-3 : (r : Result Fault (List ℕ)) → (k ≡ 1 → ⊥) → (k ≡ 2 → ⊥) → k ≡ 3 → r ≡ oneUsed place (fixedCard n) x y → r ≡ recordCard place bs
   unfolding recordCard
   kind-3 r l m e f =
       f ∙ (λ i. oneUsed place (fixedCard n) (x-is i) (y-is i))
@@ -72,7 +73,7 @@ module _ (bs : List ℕ) (k x y : ℕ) (k-is : k ≡ halfAt bs 0) (x-is : x ≡ 
       ∙ sym (cond-false (eqb (recordKind bs) 2) _ _ (ne-eqb (recordKind bs) 2 (λ z. m (k-is ∙ z))))
       ∙ sym (cond-false (eqb (recordKind bs) 1) _ _ (ne-eqb (recordKind bs) 1 (λ z. l (k-is ∙ z))))
 
-  pub kind-none : (k ≡ 1 → ⊥) → (k ≡ 2 → ⊥) → (k ≡ 3 → ⊥) → refused (refusal.Garbled place) ≡ recordCard place bs
+  pub kind-none : (k ≡ 1 → ⊥) → (k ≡ 2 → ⊥) → (k ≡ 3 → ⊥) → refused (fault.Garbled place) ≡ recordCard place bs
   unfolding recordCard
   kind-none l m o =
       sym (cond-false (eqb (recordKind bs) 3) _ _ (ne-eqb (recordKind bs) 3 (λ z. o (k-is ∙ z))))

@@ -3,9 +3,10 @@ use mathlib.Core.Bool.{Bool, true, not, _&&_}
 use mathlib.Core.List.{List}
 use Prim.Native.Nat.{ℕ}
 use lib.Ieee.{Float, binary32, ofBits, toBits, isNan}
-use Rattle.paper.specs.Refusals.{Outcome, refused, done}
+use Rattle.paper.specs.Refusals.{Result, refused, done}
 use Rattle.paper_records.specs.Records.{heatCard, filmCard, fixedCard}
-use Rattle.paper.specs.declared.Refusal.the-variants as refusal
+use Rattle.paper_records.specs.declared.Fault.{Fault}
+use Rattle.paper_records.specs.declared.Fault.the-variants as fault
 use Rattle.records.specs.declared.Record.{Record}
 use Rattle.records.specs.declared.Record.the-variants.{Heat, Film, Fixed}
 use Rattle.records.specs.declared.Decoded.{Decoded}
@@ -36,7 +37,7 @@ toldOf Garbled = true
 toldOf Infinite = true
 
 -- the paper's word for it, of a record at a place
-abbrev pub outcome : ℕ → ℕ → Decoded → Outcome (List ℕ)
+abbrev pub outcome : ℕ → ℕ → Decoded → Result Fault (List ℕ)
 outcome place number (Got r) = done (cardOf number r)
-outcome place number Garbled = refused (refusal.Garbled place)
-outcome place number Infinite = refused (refusal.Infinite place)
+outcome place number Garbled = refused (fault.Garbled place)
+outcome place number Infinite = refused (fault.Infinite place)

@@ -3,9 +3,9 @@ use Rattle.import.proofs.import.Statement.{statement}
 use Rattle.import.proofs.import.Tie as tie
 use mathlib.Core.Path.{_≡_, sym, ap, _∙_}
 use native.Mathlib.Omega.{arith}
-use Rattle.paper_records.specs.Records.{imported}
-use Rattle.paper.specs.declared.Answer.{Answer}
-use Rattle.paper.specs.declared.Answer.the-variants.{Done}
+use Rattle.paper_records.specs.Records.{leftImport}
+use Rattle.paper_records.specs.declared.Imported.{Imported}
+use Rattle.paper_records.specs.declared.Imported.the-variants.{Done}
 use Rattle.laws.proofs.Judged.{deck}
 use Rattle.laws.proofs.Imported.{accepted}
 use Rattle.import.proofs.Turns.{sized-told}
@@ -23,7 +23,7 @@ enum-told-2 c = search needs
 returns : tie.Need-returns
 returns c =
     let s = c .before .before .before .before .before .before .args .second .now in
-    ap (λ (a : Answer). imported a s) (c .enum-told2 .given .1) ∙ ends-refused (c .before .before .before .before .before .before .args .table .now) (c .before .before .before .before .before .before .args .bytes .now) s _ (sym (c .before .before .judge .ensures) ∙ c .enum-told2 .given .1)
+    ap (λ (a : Imported). leftImport a s) (c .enum-told2 .given .1) ∙ ends-refused (c .before .before .before .before .before .before .args .table .now) (c .before .before .before .before .before .before .args .bytes .now) s _ (sym (c .before .before .judge .ensures) ∙ c .enum-told2 .given .1)
 
 counts-at-requires : tie.Need-counts-at-requires
 counts-at-requires c κs =
@@ -57,7 +57,7 @@ same-length c = search needs
 returns-2 : tie.Need-returns-2
 returns-2 c =
     let e = sym (c .before .before .before .before .before .before .before .before .judge .ensures) ∙ c .before .before .before .before .before .before .enum-told .given .1 in
-    ap (imported Done) (c .before .before .second-to .ensures) ∙ ends-done (c .before .before .before .before .before .before .before .before .before .before .before .before .args .table .now) (c .before .before .before .before .before .before .before .before .before .before .before .before .args .bytes .now) (c .before .before .before .before .before .before .before .before .before .before .before .before .args .second .now) (c .before .before .before .before .before .counts-at .result) e (c .before .before .before .before .before .counts-at .ensures)
+    ap (leftImport Done) (c .before .before .second-to .ensures) ∙ ends-done (c .before .before .before .before .before .before .before .before .before .before .before .before .args .table .now) (c .before .before .before .before .before .before .before .before .before .before .before .before .args .bytes .now) (c .before .before .before .before .before .before .before .before .before .before .before .before .args .second .now) (c .before .before .before .before .before .counts-at .result) e (c .before .before .before .before .before .counts-at .ensures)
 
 pub import-spec : {M : Type 1} → statement M
 import-spec =

@@ -7,7 +7,7 @@ use borrow.Author.Tests.{not-true, not-false}
 use Rattle.paper.specs.Refusals.{done}
 use Rattle.paper.specs.Cards.{rowAt}
 use Rattle.paper_records.specs.Records.{halfAt}
-use Rattle.paper.specs.declared.Refusal.the-variants.{Garbled, Infinite}
+use Rattle.paper_records.specs.declared.Fault.the-variants.{Garbled, Infinite}
 use Rattle.records.specs.Decoding.{outcome, cardOf, toldOf}
 use Rattle.import.proofs.Turns.{no-change, record-refused, record-outside, record-astray, record-done}
 
