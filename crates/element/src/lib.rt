@@ -246,17 +246,23 @@ pub fn stored(table: &[u32], card: [u32; 6]) -> u64
     triangle::capacity(e, triangle::twice_area(e.shape), ms)
 }
 
-// What it conducts.
-pub fn conductance(table: &[u32], card: [u32; 6]) -> [[i64; 4]; 4]
+// What it conducts, and in `stored` what it stores: S is worked out once for both.
+pub fn terms(table: &[u32], card: [u32; 6], stored: &mut u64) -> [[i64; 4]; 4]
     requires { ⌜ ElementCard (now table) card × (1 ≤ elementOf (now table) card .size) ⌝ }
     ensures { λ r. ⌜ Conducts (now (table .entry)) card r ⌝ }
+    ensures { λ _. ⌜ (now (stored .exit) ≡ elementOf (now (table .entry)) card .stored) × (now (stored .exit) ≤ 2 ^ 37) ⌝ }
 {
+    let ms = field(table, 0, 1);
     if is_solid(card) {
         let e = tetrahedron_of(table, card);
-        return solid::conductance(e, solid::six_volumes(e.space));
+        let s = solid::six_volumes(e.space);
+        *stored = solid::capacity(e, s, ms);
+        return solid::conductance(e, s);
     }
     let e = triangle_of(table, card);
-    square::wide(triangle::conductance(e, triangle::twice_area(e.shape)))
+    let s = triangle::twice_area(e.shape);
+    *stored = triangle::capacity(e, s, ms);
+    square::wide(triangle::conductance(e, s))
 }
 
 // ---- refusals 5 and 6

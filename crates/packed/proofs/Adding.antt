@@ -21,7 +21,7 @@ use Rattle.starts.specs.Lent.{Starts, wide, Turned}
 use Rattle.starts.proofs.Lent.{turned-none}
 use Rattle.triangle.specs.Forms.{numbers}
 use Rattle.part.proofs.Leasts.{nth, nth-is}
-use Rattle.packed.specs.Asks.{Stands, AddsAt, AddsRow, Takes}
+use Rattle.packed.specs.Asks.{Stands, AddsAt, AddsRow, Takes, Added}
 use Rattle.packed.proofs.Spots.{turned-as}
 
 -- ---- sizes
@@ -111,12 +111,7 @@ module _ {st : List ℕ} {ks₀ : List ℤ} {c : List Node} {q : List (List ℤ)
 
 -- ---- a square
 
--- its first a rows are added
-pub record Square (n : ℕ) (st : List ℕ) (ks₀ : List ℤ) (c : List Node) (q : List (List ℤ)) (ks : List ℤ) (a : ℕ) : Type 0 where
-  pub within : a ≤ n
-  pub turned : Turned st ks₀ ks (addSquare a (wide st ks₀) (numbers c) (at q))
-
-pub square-start : (n : ℕ) (st : List ℕ) (ks : List ℤ) (c : List Node) (q : List (List ℤ)) → Square n st ks c q ks 0
+pub square-start : (n : ℕ) (st : List ℕ) (ks : List ℤ) (c : List Node) (q : List (List ℤ)) → Added n st ks c q ks 0
 unfolding addSquare
 square-start n st ks c q = record { within = omega arith; turned = turned-none st ks }
 
@@ -129,24 +124,11 @@ few-places (suc (suc zero)) h = omega arith
 few-places (suc (suc (suc zero))) h = omega arith
 few-places (suc (suc (suc (suc a)))) h = absurd (omega arith)
 
-module _ {n : ℕ} {st : List ℕ} {ks₀ : List ℤ} {c : List Node} {q : List (List ℤ)} (h : Takes n st ks₀ (numbers c) q) {ks : List ℤ} {a : ℕ} (r : Square n st ks₀ c q ks a) where
+module _ {n : ℕ} {st : List ℕ} {ks₀ : List ℤ} {c : List Node} {q : List (List ℤ)} {ks : List ℤ} {a : ℕ} (r : Added n st ks₀ c q ks a) where
   pub square-long : length ks ≡ length ks₀
   square-long = r .turned .long
 
-  square-bound : Bounded (2 ^ 58 + tri a * 2 ^ 58) (wide st ks)
-  square-bound = subst (Bounded (2 ^ 58 + tri a * 2 ^ 58)) (sym (r .turned .is)) (square-size a (2 ^ 58) (wide st ks₀) (numbers c) q (h .small) (h .square))
-
-  pub square-asks : a < n → AddsRow st ks (numbers c) q a
-  square-asks l = record {
-    lent = subst (Starts st) (sym square-long) (h .lent);
-    last = omega (arith, h .most);
-    corners = λ k m. h .corners k (omega arith);
-    keeps = λ b d x y. subst (λ (k : ℕ). firstBy st k (max (cornerRow (numbers c) b) (cornerRow (numbers c) d)) ≤ min (cornerRow (numbers c) b) (cornerRow (numbers c) d)) (sym square-long) (h .keeps b d (omega arith) (omega arith));
-    small = record { each = λ p. omega (arith, square-bound .each p, few-places a (omega (arith, h .most))) };
-    square = h .square;
-  }
-
-  pub square-next : {ls : List ℤ} → a < n → Turned st ks ls (addRow (suc a) (wide st ks) (numbers c) (at q) a) → Square n st ks₀ c q ls (a + 1)
+  pub square-next : {ls : List ℤ} → a < n → Turned st ks ls (addRow (suc a) (wide st ks) (numbers c) (at q) a) → Added n st ks₀ c q ls (a + 1)
   unfolding addSquare
   square-next {ls} l e =
       let step : wide st ls ≡ addSquare (suc a) (wide st ks₀) (numbers c) (at q) = e .is ∙ ap (λ (z : List ℤ). addRow (suc a) z (numbers c) (at q) a) (r .turned .is) in
@@ -154,3 +136,18 @@ module _ {n : ℕ} {st : List ℕ} {ks₀ : List ℤ} {c : List Node} {q : List 
 
   pub square-end : n ≤ a → Turned st ks₀ ks (addSquare n (wide st ks₀) (numbers c) (at q))
   square-end l = let e : a ≡ n = omega (arith, r .within) in turned-as (r .turned) (ap (λ (k : ℕ). addSquare k (wide st ks₀) (numbers c) (at q)) e)
+
+-- what a row more asks
+module _ {n : ℕ} {st : List ℕ} {ks₀ : List ℤ} {c : List Node} {q : List (List ℤ)} (h : Takes n st ks₀ (numbers c) q) {ks : List ℤ} {a : ℕ} (r : Added n st ks₀ c q ks a) where
+  square-bound : Bounded (2 ^ 58 + tri a * 2 ^ 58) (wide st ks)
+  square-bound = subst (Bounded (2 ^ 58 + tri a * 2 ^ 58)) (sym (r .turned .is)) (square-size a (2 ^ 58) (wide st ks₀) (numbers c) q (h .small) (h .square))
+
+  pub square-asks : a < n → AddsRow st ks (numbers c) q a
+  square-asks l = record {
+    lent = subst (Starts st) (sym (square-long r)) (h .lent);
+    last = omega (arith, h .most);
+    corners = λ k m. h .corners k (omega arith);
+    keeps = λ b d x y. subst (λ (k : ℕ). firstBy st k (max (cornerRow (numbers c) b) (cornerRow (numbers c) d)) ≤ min (cornerRow (numbers c) b) (cornerRow (numbers c) d)) (sym (square-long r)) (h .keeps b d (omega arith) (omega arith));
+    small = record { each = λ p. omega (arith, square-bound .each p, few-places a (omega (arith, h .most))) };
+    square = h .square;
+  }

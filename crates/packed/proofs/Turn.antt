@@ -1,6 +1,6 @@
 -- A turn of the walk, as code tells it: whether a card has a square, its six numbers, corners and square.
-use mathlib.Core.Path.{_≡_, sym, ap, subst, _∙_}
-use mathlib.Core.Bool.{Bool, true, false, not}
+use mathlib.Core.Path.{_≡_, refl, sym, ap, subst, _∙_}
+use mathlib.Core.Bool.{Bool, true, false, not, _&&_, _||_}
 use mathlib.Core.List.{List}
 use Prim.Native.Nat.{ℕ, _^_, _≤_}
 use borrow.Author.Tests.{not-true, not-false}
@@ -8,6 +8,7 @@ use lib.IntN.{ℤ, _+ℤ_}
 use lib.ListN.{length}
 use Rattle.whole.specs.Packed.{tri, entry, lower}
 use Rattle.whole.specs.Squares.{at, Holds}
+use Rattle.whole.proofs.Tests.{never}
 use Rattle.paper.specs.Kinds.{kindOf}
 use Rattle.paper.specs.Cards.{rowAt, field, nodes}
 use Rattle.paper.specs.Parts.{Part, partFor, partAt}
@@ -71,3 +72,12 @@ module _ (all : Bool) (t : List ℕ) (row : ℕ) {l : ℕ} (el : l ≡ field t r
       pub turn-p-gives : {b : ℕ} {r : List (List ℤ)} {ls : List ℤ} → all ≡ false → Holds (length (partFor t card .corners)) b (squareP (partFor t card)) r → Turned st ks ls (addSquare (c .count) (wide st ks) (numbers (c .nodes)) (at r))
           → Turned st ks ls (lower (nodes t) (λ i j. entry (wide st ks) i j +ℤ addsTo all (partAt t row) i j))
       turn-p-gives {ls = ls} z s g = subst (λ (a : Bool). Turned st ks ls (lower (nodes t) (λ i j. entry (wide st ks) i j +ℤ addsTo a (partAt t row) i j))) (sym z) (p-gives t row st ks k moves c full at-row (in-row squareP s) g)
+
+-- what adds nothing to A adds nothing to P
+pub stays-too : (t : List ℕ) (row : ℕ) {l : ℕ} → l ≡ field t row 0 → {b : Bool} → b ≡ has true (doesBy (kindOf l)) → not b ≡ true → (st : List ℕ) (ks : List ℤ) → Walked t row st ks
+    → Turned st ks ks (lower (nodes t) (λ i j. entry (wide st ks) i j +ℤ addsTo false (partAt t row) i j))
+stays-too t row {l} el {b} eb q = stays false t row el refl (less (doesBy (kindOf l) .conducts) (doesBy (kindOf l) .films) (sym eb ∙ not-true b q))
+  where
+    less : (c f : Bool) → (c || true && f) ≡ false → not (c || false && f) ≡ true
+    less true f e = never (sym e)
+    less false f e = refl

@@ -9,15 +9,17 @@ use lib.ListN.{length, getD}
 use Rattle.whole.specs.Sums.{any}
 use Rattle.whole.specs.Packed.{place, entry, lower, Bounded}
 use Rattle.whole.specs.Kept.{firstBy}
-use Rattle.whole.specs.Squares.{Small}
+use Rattle.whole.specs.Squares.{at, Small}
 use Rattle.paper.specs.Cards.{rows, nodes, elements}
 use Rattle.paper.specs.Parts.{Part}
 use Rattle.paper.specs.Matrices.{addsP, addsA}
 use Rattle.paper.specs.Building.{elementsFrom}
 use Rattle.paper.specs.declared.Answer.the-variants.{Done}
+use Rattle.paper.specs.declared.Node.{Node}
 use Rattle.laws.proofs.Decks.{Deck, In}
-use Rattle.laws.proofs.Places.{cornerRow}
-use Rattle.starts.specs.Lent.{Starts, wide, Covers}
+use Rattle.laws.proofs.Places.{cornerRow, addSquare}
+use Rattle.starts.specs.Lent.{Starts, wide, Covers, Turned}
+use Rattle.triangle.specs.Forms.{numbers}
 use Rattle.part.specs.declared.Does.{Does}
 
 -- ---- places
@@ -63,6 +65,17 @@ pub record Takes (n : ℕ) (st : List ℕ) (ks : List ℤ) (ns : List ℕ) (q : 
   pub keeps : Keeps st (length ks) ns n
   pub small : Bounded (2 ^ 58) (wide st ks)
   pub square : Small (2 ^ 58) q
+
+-- the first a rows of a square over n corners are added
+pub record Added (n : ℕ) (st : List ℕ) (ks₀ : List ℤ) (c : List Node) (q : List (List ℤ)) (ks : List ℤ) (a : ℕ) : Type 0 where
+  pub within : a ≤ n
+  pub turned : Turned st ks₀ ks (addSquare a (wide st ks₀) (numbers c) (at q))
+
+-- two of them, to rows that take it
+pub record Begun (n : ℕ) (st : List ℕ) (c : List Node) (q : List (List ℤ)) (ks : List ℤ) : Type 0 where
+  pub first : List ℤ
+  pub takes : Takes n st first (numbers c) q
+  pub two : Added n st first c q ks 2
 
 -- ---- P and A
 

@@ -4,6 +4,7 @@ use paper::Kind;
 use paper::Node;
 use part::Corners;
 ghost use mathlib.Core.Path.{_≡_};
+ghost use mathlib.Core.List.{List};
 ghost use Prim.Native.Nat.{suc, _+_, _-_, _*_, _^_, _≤_, _<_};
 ghost use lib.Dec.{eqb};
 ghost use lib.IntN.{ℤ, pos, natAbs, _+ℤ_};
@@ -22,7 +23,7 @@ ghost use Rattle.laws.proofs.Places.{addRow, addSquare};
 ghost use Rattle.starts.specs.Lent.{Starts, wide, Turned};
 ghost use Rattle.triangle.specs.Forms.{numbers};
 ghost use Rattle.part.specs.Forms.{doesBy};
-ghost use Rattle.packed.specs.Asks.{spotBy, Stands, AddsAt, AddsRow, Takes, Sound, Suits, Walked, addsTo, has, swept, Clears, Fixes};
+ghost use Rattle.packed.specs.Asks.{spotBy, Stands, AddsAt, AddsRow, Takes, Added, Begun, Sound, Suits, Walked, has, swept, Clears, Fixes};
 
 // ---- places
 
@@ -65,18 +66,39 @@ fn add_row(xs: &mut [i64], starts: &[u32], c: [Node; 4], q: &[[i64; 4]; 4], a: u
     }
 }
 
-// Over any count of corners.
+// Rows 3 and 4 of a square, as many as it has.
+fn add_lower(xs: &mut [i64], starts: &[u32], c: Corners, q: &[[i64; 4]; 4])
+    requires { ⌜ Begun (c .count) (now starts) (c .nodes) (now q) (now xs) ⌝ }
+    ensures { λ _. ⌜ ((ks : List ℤ) → Added (c .count) (now (starts .entry)) ks (c .nodes) (now (q .entry)) (now (xs .entry)) 2 → Turned (now (starts .entry)) ks (now (xs .exit)) (addSquare (c .count) (wide (now (starts .entry)) ks) (numbers (c .nodes)) (at (now (q .entry))))) ⌝ }
+{
+    let n = c.count;
+    let nodes = c.nodes;
+    if n == 2 {
+        return;
+    }
+    add_row(&mut xs[..], starts, nodes, q, 2);
+    if n == 3 {
+        return;
+    }
+    add_row(&mut xs[..], starts, nodes, q, 3);
+}
+
+// Over any count of corners. The rows are written out, so that a square needs no memory once all is compiled into one function.
 pub fn add_square(xs: &mut [i64], starts: &[u32], c: Corners, q: [[i64; 4]; 4])
     requires { ⌜ Takes (c .count) (now starts) (now xs) (numbers (c .nodes)) q ⌝ }
     ensures { λ _. ⌜ Turned (now (starts .entry)) (now (xs .entry)) (now (xs .exit)) (addSquare (c .count) (wide (now (starts .entry)) (now (xs .entry))) (numbers (c .nodes)) (at q)) ⌝ }
 {
     let n = c.count;
     let nodes = c.nodes;
-    let mut a = 0;
-    while a < n {
-        add_row(&mut xs[..], starts, nodes, &q, a);
-        a += 1;
+    if n == 0 {
+        return;
     }
+    add_row(&mut xs[..], starts, nodes, &q, 0);
+    if n == 1 {
+        return;
+    }
+    add_row(&mut xs[..], starts, nodes, &q, 1);
+    add_lower(&mut xs[..], starts, c, &q);
 }
 
 // ---- P and A
@@ -95,43 +117,41 @@ fn adds(letter: u32, all: bool) -> bool
     false
 }
 
-// What the card in a row adds to A, or to P.
-fn add_card(table: &[u32], row: usize, xs: &mut [i64], starts: &[u32], all: bool)
+// What the card in a row adds to A.
+fn add_to_a(table: &[u32], row: usize, xs: &mut [i64], starts: &[u32])
     requires { ⌜ Walked (now table) row (now starts) (now xs) ⌝ }
-    ensures { λ _. ⌜ Turned (now (starts .entry)) (now (xs .entry)) (now (xs .exit)) (lower (nodes (now (table .entry))) (λ i j. entry (wide (now (starts .entry)) (now (xs .entry))) i j +ℤ addsTo all (partAt (now (table .entry)) row) i j)) ⌝ }
+    ensures { λ _. ⌜ Turned (now (starts .entry)) (now (xs .entry)) (now (xs .exit)) (lower (nodes (now (table .entry))) (λ i j. entry (wide (now (starts .entry)) (now (xs .entry))) i j +ℤ matrices.addsA (partAt (now (table .entry)) row) i j)) ⌝ }
 {
-    if !adds(element::field(table, row, 0), all) {
+    if !adds(element::field(table, row, 0), true) {
         return;
     }
     let c = part::corners_of(table, element::card_at(table, row));
-    if all {
-        add_square(
-            xs,
-            starts,
-            c,
-            part::square_a(table, element::card_at(table, row)),
-        );
-        return;
-    }
     add_square(
         xs,
         starts,
         c,
-        part::square_p(table, element::card_at(table, row)),
+        part::square_a(table, element::card_at(table, row)),
     );
 }
 
-// A, or P: of a square at a time.
-fn assemble_one(table: &[u32], xs: &mut [i64], starts: &[u32], all: bool)
-    requires { ⌜ Sound (now table) × Suits (now table) (now starts) (length (now xs)) ⌝ }
-    ensures { λ _. ⌜ Turned (now (starts .entry)) (now (xs .entry)) (now (xs .exit)) (lower (nodes (now (table .entry))) (λ i j. sum (rows (now (table .entry))) (λ row. addsTo all (partAt (now (table .entry)) row) i j))) ⌝ }
+// What it adds to P and to A, worked out once for both.
+fn add_card(table: &[u32], row: usize, p: &mut [i64], a: &mut [i64], starts: &[u32])
+    requires { ⌜ Walked (now table) row (now starts) (now p) × Walked (now table) row (now starts) (now a) ⌝ }
+    ensures { λ _. ⌜ Turned (now (starts .entry)) (now (p .entry)) (now (p .exit)) (lower (nodes (now (table .entry))) (λ i j. entry (wide (now (starts .entry)) (now (p .entry))) i j +ℤ matrices.addsP (partAt (now (table .entry)) row) i j)) ⌝ }
+    ensures { λ _. ⌜ Turned (now (starts .entry)) (now (a .entry)) (now (a .exit)) (lower (nodes (now (table .entry))) (λ i j. entry (wide (now (starts .entry)) (now (a .entry))) i j +ℤ matrices.addsA (partAt (now (table .entry)) row) i j)) ⌝ }
 {
-    whole::slices::fill(xs, 0);
-    let mut row = 0;
-    while row * 6 < table.len() {
-        add_card(table, row, xs, starts, all);
-        row += 1;
+    let letter = element::field(table, row, 0);
+    if !adds(letter, true) {
+        return;
     }
+    let c = part::corners_of(table, element::card_at(table, row));
+    let mut stored: u64 = 0;
+    let q = part::terms(table, element::card_at(table, row), &mut stored);
+    add_square(a, starts, c, q);
+    if !adds(letter, false) {
+        return;
+    }
+    add_square(p, starts, c, square::mass(stored));
 }
 
 // P and A.
@@ -140,16 +160,26 @@ pub fn assemble(table: &[u32], p: &mut [i64], a: &mut [i64], starts: &[u32])
     ensures { λ _. ⌜ Turned (now (starts .entry)) (now (p .entry)) (now (p .exit)) (lower (nodes (now (table .entry))) (matrices.P (now (table .entry)))) ⌝ }
     ensures { λ _. ⌜ Turned (now (starts .entry)) (now (a .entry)) (now (a .exit)) (lower (nodes (now (table .entry))) (matrices.A (now (table .entry)))) ⌝ }
 {
-    assemble_one(table, p, starts, false);
-    assemble_one(table, a, starts, true);
+    whole::slices::fill(p, 0);
+    whole::slices::fill(a, 0);
+    let mut row = 0;
+    while row * 6 < table.len() {
+        add_card(table, row, p, a, starts);
+        row += 1;
+    }
 }
 
-// A alone.
+// A alone, of a square at a time.
 pub fn assemble_a(table: &[u32], xs: &mut [i64], starts: &[u32])
     requires { ⌜ Sound (now table) × Suits (now table) (now starts) (length (now xs)) ⌝ }
     ensures { λ _. ⌜ Turned (now (starts .entry)) (now (xs .entry)) (now (xs .exit)) (lower (nodes (now (table .entry))) (matrices.A (now (table .entry)))) ⌝ }
 {
-    assemble_one(table, xs, starts, true);
+    whole::slices::fill(xs, 0);
+    let mut row = 0;
+    while row * 6 < table.len() {
+        add_to_a(table, row, xs, starts);
+        row += 1;
+    }
 }
 
 // ---- A'

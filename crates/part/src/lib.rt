@@ -192,16 +192,29 @@ pub fn square_p(table: &[u32], card: [u32; 6]) -> [[i64; 4]; 4]
     square::mass(stored(table, card))
 }
 
-// Its square in A. What conducts has no film, and what has a film stores nothing.
+// Its square in A, and in `stored` what it stores. What conducts has no film, and what has a film stores nothing.
+pub fn terms(table: &[u32], card: [u32; 6], stored: &mut u64) -> [[i64; 4]; 4]
+    requires { ⌜ Card (now table) card × Solid (now table) card ⌝ }
+    ensures { λ r. ⌜ Holds (length (partFor (now (table .entry)) card .corners)) (2 ^ 57) (squareA (partFor (now (table .entry)) card)) r ⌝ }
+    ensures { λ _. ⌜ (now (stored .exit) ≡ partFor (now (table .entry)) card .capacity) × (now (stored .exit) ≤ 2 ^ 37) ⌝ }
+{
+    let it = by_letter(card[0]);
+    if it.conducts {
+        let mut u: u64 = 0;
+        let q = element::terms(table, card, &mut u);
+        *stored = u;
+        return square::with_mass(q, u);
+    }
+    *stored = 0;
+    square::mass(film(table, card))
+}
+
 pub fn square_a(table: &[u32], card: [u32; 6]) -> [[i64; 4]; 4]
     requires { ⌜ Card (now table) card × Solid (now table) card ⌝ }
     ensures { λ r. ⌜ Holds (length (partFor (now (table .entry)) card .corners)) (2 ^ 57) (squareA (partFor (now (table .entry)) card)) r ⌝ }
 {
-    let it = by_letter(card[0]);
-    if it.conducts {
-        return square::with_mass(element::conductance(table, card), stored(table, card));
-    }
-    square::mass(film(table, card))
+    let mut stored: u64 = 0;
+    terms(table, card, &mut stored)
 }
 
 // ---- loads

@@ -1,34 +1,20 @@
 -- Refusal 6, test by test.
-use mathlib.Core.Path.{_≡_, refl, ap, _∙_}
+use mathlib.Core.Path.{_≡_, refl, sym, _∙_}
 use mathlib.Core.Bool.{Bool, true, false, not, _&&_, _||_}
-use mathlib.Core.List.{List}
 use Prim.Native.Nat.{ℕ, _≤_, _<_}
-use borrow.Author.Tests.{le-leb, lt-leb}
+use borrow.Author.Tests.{not-true, not-false, leb-true, leb-false, le-leb, lt-leb}
 use lib.Dec.{leb}
-use lib.IntN.{ℤ, natAbs}
+use lib.IntN.{natAbs}
 use lib.ListN.{length}
-use mir.Syntax.{w64}
-use mir.Val.{SFits}
-use Rattle.whole.specs.Sums.{any, table}
-use Rattle.whole.specs.Packed.{cell, lower}
-use Rattle.whole.specs.Squares.{pairsOf}
-use Rattle.whole.proofs.Signs.{read}
-use Rattle.whole.proofs.Calc.{rd}
+use Rattle.whole.specs.Sums.{any}
 use Rattle.paper.specs.Elements.{Element, soft, fair}
 
--- the sizes of three pairs that were read
-module _ (f : ℕ → ℕ → ℤ) {p : List ℤ} (e : p ≡ pairsOf 3 f) {n : ℕ} where
-  pub size-10 : SFits w64 (cell p 0) → n ≡ natAbs (rd (cell p 0)) → n ≡ natAbs (f 1 0)
-  unfolding pairsOf lower table
-  size-10 h q = q ∙ ap natAbs (read h ∙ ap (λ (l : List ℤ). cell l 0) e)
+-- what a test told
+pub kept : {r : Bool} {n : ℕ} → r ≡ leb n 4000000 → not r ≡ false → n ≤ 4000000
+kept {r} {n} e q = leb-true n 4000000 (sym e ∙ not-false r q)
 
-  pub size-20 : SFits w64 (cell p 1) → n ≡ natAbs (rd (cell p 1)) → n ≡ natAbs (f 2 0)
-  unfolding pairsOf lower table
-  size-20 h q = q ∙ ap natAbs (read h ∙ ap (λ (l : List ℤ). cell l 1) e)
-
-  pub size-21 : SFits w64 (cell p 2) → n ≡ natAbs (rd (cell p 2)) → n ≡ natAbs (f 2 1)
-  unfolding pairsOf lower table
-  size-21 h q = q ∙ ap natAbs (read h ∙ ap (λ (l : List ℤ). cell l 2) e)
+pub past : {r : Bool} {n : ℕ} → r ≡ leb n 4000000 → not r ≡ true → 4000000 < n
+past {r} {n} e q = leb-false n 4000000 (sym e ∙ not-true r q)
 
 module _ (it : Element) (corners : length (it .shape .corners) ≡ 3) where
   -- u and the three pairs

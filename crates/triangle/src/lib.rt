@@ -6,6 +6,7 @@ use paper::Node;
 use paper::Refusal;
 ghost use mathlib.Core.Path.{_≡_};
 ghost use Prim.Native.Nat.{_+_, _*_, _^_, _<_, _≤_};
+ghost use lib.Dec.{leb};
 ghost use lib.IntN.{pos, natAbs, _+ℤ_, _-ℤ_, _*ℤ_};
 ghost use lib.ListN.{getD};
 ghost use Rattle.whole.specs.Sums.{table};
@@ -170,13 +171,20 @@ pub fn conductance(e: Triangle, s: u64) -> [[i64; 3]; 3]
 
 // ---- capacity and film
 
+// u before it is divided, where s is S.
+fn content(e: Triangle, s: u64) -> u64
+    requires { ⌜ Sized (asBody e) × (s ≡ S (asShape (e .shape))) ⌝ }
+    ensures { λ r. ⌜ (r ≡ e .capacity * e .thickness * S (asShape (e .shape))) × (r ≤ 5000 * 4000 * (4095 * 4095)) ⌝ }
+{
+    e.capacity as u64 * e.thickness as u64 * s
+}
+
 // u over a step of so many ms, where s is S.
 pub fn capacity(e: Triangle, s: u64, ms: u32) -> u64
     requires { ⌜ Sized (asBody e) × (s ≡ S (asShape (e .shape))) × Step ms ⌝ }
     ensures { λ r. ⌜ r ≡ u ms (asBody e) ⌝ }
 {
-    let n = e.capacity as u64 * e.thickness as u64 * s;
-    whole::rounded(n, 9_600 * ms as u64)
+    whole::rounded(content(e, s), 9_600 * ms as u64)
 }
 
 // Over its face.
@@ -191,21 +199,30 @@ pub fn film(film: u32, s: Shape) -> u64
 
 const SOFT: u64 = 4_000_000;
 
+// Of a pair, by its flux: no pair is divided to be judged.
+fn soft(t: u32, flux: i64, s: u64) -> bool
+    requires { ⌜ (t ≤ 4000) × (natAbs flux ≤ 1000000 * (4095 * 4095)) × (1 ≤ s) × (s ≤ 4095 * 4095) ⌝ }
+    ensures { λ r. ⌜ r ≡ leb (natAbs (nearest (pos t *ℤ flux) (2000 * s))) 4000000 ⌝ }
+{
+    whole::within(whole::size(t as i64 * flux), 2_000 * s, SOFT)
+}
+
 fn fair(e: Triangle, s: u64, ms: u32) -> bool
     requires { ⌜ Solid (asBody e) s × Step ms ⌝ }
     ensures { λ r. ⌜ r ≡ fair (madeOf ms (asBody e)) ⌝ }
 {
-    if SOFT < capacity(e, s, ms) {
+    if !whole::within(content(e, s), 9_600 * ms as u64, SOFT) {
         return false;
     }
-    let p = pairs(e, s);
-    if SOFT < whole::size(p[0]) {
+    let b = b(e.shape);
+    let c = c(e.shape);
+    if !soft(e.thickness, flux(e.kx, &b, e.ky, &c, 1, 0), s) {
         return false;
     }
-    if SOFT < whole::size(p[1]) {
+    if !soft(e.thickness, flux(e.kx, &b, e.ky, &c, 2, 0), s) {
         return false;
     }
-    whole::size(p[2]) <= SOFT
+    soft(e.thickness, flux(e.kx, &b, e.ky, &c, 2, 1), s)
 }
 
 pub fn judge(e: Triangle, ms: u32, number: Element) -> Answer

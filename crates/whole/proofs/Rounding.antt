@@ -6,9 +6,9 @@ use native.Mathlib.Decide.{decLt, ℕ-discrete}
 use native.Mathlib.Omega.{arith}
 use lib.IntN.{ℤ, pos, negsuc, negℤ, natAbs, _+ℤ_, _-ℤ_, _*ℤ_, negℤ-negℤ, zero-*ℤ, *ℤ-zero}
 use lib.Signed.{_<ℤ_, _≤ℤ_, ltZ, shrZ}
-use lib.Dec.{T, ltb→lt}
-use mathlib.Core.Bool.{true, false}
-use borrow.Author.Tests.{ltb-true}
+use lib.Dec.{T, ltb, leb, ltb→lt}
+use mathlib.Core.Bool.{Bool, true, false}
+use borrow.Author.Tests.{ltb-true, ltb-false, le-leb, lt-leb}
 use mir.Syntax.{w64}
 use mir.Val.{SFits}
 use Rattle.whole.specs.Nearest.{signed, nearestN, nearest}
@@ -22,6 +22,25 @@ nearestN-le a b h =
     let k : 0 < 2 * b = omega arith in
     let small : 2 * a + b < suc a * (2 * b) = omega (arith, suc-mul a (2 * b), mul-left-comm a 2 b, le-mul-of-pos-right a h) in
     le-of-suc-le-suc (div-lt-iff-lt-mul k .1 small)
+
+-- the nearest is at most m where the dividend is below m and a half of the divisor
+pub within-is : (a b m : ℕ) → 1 ≤ b → ltb (2 * a) ((2 * m + 1) * b) ≡ leb (nearestN a b) m
+unfolding nearestN
+within-is a b m h = go (ltb (2 * a) ((2 * m + 1) * b)) refl
+  where
+    some : 0 < 2 * b
+    some = omega arith
+
+    both : (2 * m + 1) * b + b ≡ suc m * (2 * b)
+    both = omega (arith, add-mul (2 * m) 1 b, suc-mul m (2 * b), mul-assoc 2 m b, mul-left-comm m 2 b)
+
+    go : (t : Bool) → ltb (2 * a) ((2 * m + 1) * b) ≡ t → t ≡ leb ((2 * a + b) / (2 * b)) m
+    go true e =
+        let under : 2 * a + b < suc m * (2 * b) = omega (arith, ltb-true (2 * a) ((2 * m + 1) * b) e, both) in
+        sym (le-leb ((2 * a + b) / (2 * b)) m (le-of-suc-le-suc (div-lt-iff-lt-mul some .1 under)))
+    go false e =
+        let over : suc m * (2 * b) ≤ 2 * a + b = omega (arith, ltb-false (2 * a) ((2 * m + 1) * b) e, both) in
+        sym (lt-leb ((2 * a + b) / (2 * b)) m (le-div-iff-mul-le some .1 over))
 
 pub nearest-size : (a : ℤ) (q : ℕ) → natAbs (nearest a q) ≡ nearestN (natAbs a) q
 unfolding nearest

@@ -3,6 +3,7 @@ pub mod slices;
 
 ghost use mathlib.Core.Path.{_≡_};
 ghost use Prim.Native.Nat.{ℕ, _+_, _*_, _^_, _<_, _≤_, max};
+ghost use lib.Dec.{leb};
 ghost use lib.IntN.{ℤ, pos, natAbs, _+ℤ_, _-ℤ_, _*ℤ_};
 ghost use lib.Signed.{_<ℤ_};
 ghost use Rattle.whole.specs.Nearest.{signed, nearestN, nearest};
@@ -65,6 +66,14 @@ pub fn rounded(a: u64, b: u64) -> u64
     ensures { λ r. ⌜ r ≡ nearestN a b ⌝ }
 {
     (2 * a + b) / (2 * b)
+}
+
+// Whether that is at most so much, without a division.
+pub fn within(a: u64, b: u64, most: u64) -> bool
+    requires { ⌜ (a ≤ 2 ^ 62) × (1 ≤ b) × (b ≤ 2 ^ 39) × (most ≤ 2 ^ 22) ⌝ }
+    ensures { λ r. ⌜ r ≡ leb (nearestN a b) most ⌝ }
+{
+    2 * a < (2 * most + 1) * b
 }
 
 // And of numbers with a sign.

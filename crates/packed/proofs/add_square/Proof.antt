@@ -1,46 +1,52 @@
+use borrow.Author.Needs.{needs}
 use Rattle.packed.proofs.add_square.Statement.{statement}
 use Rattle.packed.proofs.add_square.Tie as tie
-use Prim.Native.Nat.{_-_}
 use native.Mathlib.Omega.{arith}
-use Rattle.packed.proofs.Adding.{Square, square-start, square-long, square-asks, square-next, square-end}
+use Rattle.packed.proofs.Adding.{square-start, square-asks, square-next, square-end}
 
-abbrev Inv-loop : tie.InvT-loop
-Inv-loop xs₀ starts q n nodes a₀ xs a = Square n starts xs₀ nodes q xs a
+returns : tie.Need-returns
+returns c = square-end (square-start (c .before .before .before .args .c .count) (c .before .before .before .args .starts .now) (c .before .before .before .args .xs .now) (c .before .before .before .args .c .nodes) (c .before .before .before .args .t4)) (omega (arith, c .if1 .taken))
 
-abbrev μ-loop : tie.MeasureT-loop
-μ-loop xs₀ starts q n nodes a₀ xs a = n - a
+add-row-requires : tie.Need-add-row-requires
+add-row-requires c κs = square-asks (c .before .before .before .before .before .pre) (square-start (c .before .before .before .before .before .args .c .count) (c .before .before .before .before .before .args .starts .now) (c .before .before .before .before .before .args .xs .now) (c .before .before .before .before .before .args .c .nodes) (c .before .before .before .before .before .args .t4)) (omega (arith, c .before .before .if1 .left))
 
-loop-holds : tie.Need-loop-holds Inv-loop μ-loop
-loop-holds c = square-start (c .before .before .args .c .count) (c .before .before .args .starts .now) (c .before .before .args .xs .now) (c .before .before .args .c .nodes) (c .before .before .args .t4)
+same-length : tie.Need-same-length
+same-length c = search needs
 
-add-row-requires : tie.Need-add-row-requires Inv-loop μ-loop
-add-row-requires c κs = square-asks (c .before .before .before .before .before .before .pre) (c .before .before .before .loop .inv) (c .before .before .loop-test .taken)
+returns-2 : tie.Need-returns-2
+returns-2 c =
+    let none = square-start (c .before .before .before .before .before .before .before .before .args .c .count) (c .before .before .before .before .before .before .before .before .args .starts .now) (c .before .before .before .before .before .before .before .before .args .xs .now) (c .before .before .before .before .before .before .before .before .args .c .nodes) (c .before .before .before .before .before .before .before .before .args .t4) in
+    square-end (square-next none (omega (arith, c .before .before .before .before .before .if1 .left)) (c .before .before .add-row .ensures)) (omega (arith, c .if2 .taken))
 
-add-a : tie.Need-add-a Inv-loop μ-loop
-add-a c = omega (arith, c .before .before .before .before .before .before .before .before .pre .most)
+add-row-requires-2 : tie.Need-add-row-requires-2
+add-row-requires-2 c κs =
+    let none = square-start (c .before .before .before .before .before .before .before .before .before .before .args .c .count) (c .before .before .before .before .before .before .before .before .before .before .args .starts .now) (c .before .before .before .before .before .before .before .before .before .before .args .xs .now) (c .before .before .before .before .before .before .before .before .before .before .args .c .nodes) (c .before .before .before .before .before .before .before .before .before .before .args .t4) in
+    square-asks (c .before .before .before .before .before .before .before .before .before .before .pre) (square-next none (omega (arith, c .before .before .before .before .before .before .before .if1 .left)) (c .before .before .before .before .add-row .ensures)) (omega (arith, c .before .before .before .before .before .before .before .if1 .left, c .before .before .if2 .left))
 
-loop-less : tie.Need-loop-less Inv-loop μ-loop
-loop-less c = omega arith
+add-lower-requires : tie.Need-add-lower-requires
+add-lower-requires c κs =
+    let none = square-start (c .before .before .before .before .before .before .before .before .before .before .before .before .before .before .args .c .count) (c .before .before .before .before .before .before .before .before .before .before .before .before .before .before .args .starts .now) (c .before .before .before .before .before .before .before .before .before .before .before .before .before .before .args .xs .now) (c .before .before .before .before .before .before .before .before .before .before .before .before .before .before .args .c .nodes) (c .before .before .before .before .before .before .before .before .before .before .before .before .before .before .args .t4) in
+    let one = square-next none (omega (arith, c .before .before .before .before .before .before .before .before .before .before .before .if1 .left)) (c .before .before .before .before .before .before .before .before .add-row .ensures) in
+    record { first = c .before .before .before .before .before .before .before .before .before .before .before .before .before .before .args .xs .now; takes = c .before .before .before .before .before .before .before .before .before .before .before .before .before .before .pre; two = square-next one (omega (arith, c .before .before .before .before .before .before .before .before .before .before .before .if1 .left, c .before .before .before .before .before .before .if2 .left)) (c .before .before .before .add-row2 .ensures) }
 
-loop-again : tie.Need-loop-again Inv-loop μ-loop
-loop-again c = square-next (c .before .before .before .before .before .before .before .before .pre) (c .before .before .before .before .before .loop .inv) (c .before .before .before .before .loop-test .taken) (c .before .add-row .ensures)
+same-length-2 : tie.Need-same-length-2
+same-length-2 c = search needs
 
-same-length : tie.Need-same-length Inv-loop μ-loop
-same-length c = square-long (c .before .before .before .before .pre) (c .before .loop .inv)
-
-returns : tie.Need-returns Inv-loop μ-loop
-returns c = square-end (c .before .before .before .before .pre) (c .before .loop .inv) (omega arith)
+returns-3 : tie.Need-returns-3
+returns-3 c =
+    let none = square-start (c .before .before .before .before .before .before .before .before .before .before .before .before .before .before .before .before .args .c .count) (c .before .before .before .before .before .before .before .before .before .before .before .before .before .before .before .before .args .starts .now) (c .before .before .before .before .before .before .before .before .before .before .before .before .before .before .before .before .args .xs .now) (c .before .before .before .before .before .before .before .before .before .before .before .before .before .before .before .before .args .c .nodes) (c .before .before .before .before .before .before .before .before .before .before .before .before .before .before .before .before .args .t4) in
+    let one = square-next none (omega (arith, c .before .before .before .before .before .before .before .before .before .before .before .before .before .if1 .left)) (c .before .before .before .before .before .before .before .before .before .before .add-row .ensures) in
+    c .before .add-lower .ensures (c .before .before .before .before .before .before .before .before .before .before .before .before .before .before .before .before .args .xs .now) (square-next one (omega (arith, c .before .before .before .before .before .before .before .before .before .before .before .before .before .if1 .left, c .before .before .before .before .before .before .before .before .if2 .left)) (c .before .before .before .before .before .add-row2 .ensures))
 
 pub add-square-spec : {M : Type 1} → statement M
 add-square-spec =
     tie.close
     (tie.spec
-    Inv-loop
-    μ-loop
-    loop-holds
+    returns
     add-row-requires
-    add-a
-    loop-less
-    loop-again
     same-length
-    returns)
+    returns-2
+    add-row-requires-2
+    add-lower-requires
+    same-length-2
+    returns-3)

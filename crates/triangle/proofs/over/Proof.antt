@@ -3,19 +3,16 @@ use borrow.Author.Needs.{needs}
 use Rattle.triangle.proofs.over.Statement.{statement}
 use Rattle.triangle.proofs.over.Tie as tie
 use mathlib.Core.Path.{_∙_, ap}
-use Prim.Native.Nat.{ℕ, _*_, _≤_}
+use Prim.Native.Nat.{_*_}
 use native.Mathlib.Omega.{arith}
 use lib.Dec.{lit<, lit≤}
-use lib.IntN.{ℤ, pos, natAbs, _*ℤ_}
+use lib.IntN.{natAbs}
 use mir.Syntax.{w64}
-use mir.Val.{toZ}
 use mir.Facts.{toZ-pos}
 use Rattle.whole.specs.Nearest.{nearest}
 use Rattle.whole.proofs.Signs.{got}
-use Rattle.whole.proofs.Calc.{Is, rd, cast, num, times, above, fits, again, wide, size-of}
-
-product : (t : ℕ) (f : ℤ) → t ≤ 4000 → natAbs f ≤ 1000000 * (4095 * 4095) → Is (toZ w64 t *ℤ rd f) (pos t *ℤ f) (4000 * (1000000 * (4095 * 4095)))
-product t f h l = times (cast t h (lit< tt)) (num f l (lit< tt))
+use Rattle.whole.proofs.Calc.{above, fits, again, wide, size-of}
+use Rattle.triangle.proofs.Fluxes.{product}
 
 cast-nearest : tie.Need-cast-nearest
 cast-nearest c = search needs
