@@ -372,7 +372,7 @@ pub fn read<'a>(bytes: &'a [u8], table: &mut [u32], answer: &mut u64) -> &'a [u8
     ensures { λ r. ⌜ paper.handed (now (answer .exit)) (ptr r) (now r) (now (table .exit)) ≡ paper.handBack (ptr (bytes .entry)) (now (bytes .entry)) (now (table .entry)) ⌝ }
 {
     let a = reads_of(bytes, table.len());
-    *answer = paper::packed_answer(a);
+    *answer = packing::packed_answer(a);
     let Answer::Done = a else {
         return &bytes[0..0];
     };

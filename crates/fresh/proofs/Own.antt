@@ -16,7 +16,7 @@ use Rattle.paper.specs.Judge.{judged}
 use Rattle.paper.specs.Coupled.{firstOf}
 use Rattle.paper.specs.Building.{slices}
 use Rattle.paper.specs.Calls.{whenDone, over, lent, Exit, left, buildCall}
-use Rattle.paper.specs.KeptCalls.{Kept, kept, keptLong, keptRoomy, keptEnough, lengthsJudged, leftKept, keptBuild}
+use Rattle.paper_kept.specs.KeptCalls.{Kept, kept, keptLong, keptRoomy, keptEnough, lengthsJudged, leftKept, keptBuild}
 use Rattle.paper.specs.declared.Answer.{Answer}
 use Rattle.paper.specs.declared.Answer.the-variants.{Done, Refused}
 use Rattle.paper.specs.declared.Refusal.{Refusal}
@@ -29,7 +29,7 @@ use Rattle.starts.proofs.Lent.{laid-length, laid-lent, laid-wide, covers-own}
 use Rattle.packed.specs.Asks.{Suits}
 use Rattle.lent.specs.Judged.{roomFor}
 use Rattle.work.proofs.Leaving.{over-cut}
-use Rattle.fresh.specs.Asks.{Rooms}
+use Rattle.building.specs.Asks.{Rooms}
 
 -- `&mut own[0..n]` of an array of 96
 pub array-part : {n m : ℕ} (own : List ℕ) → length own ≡ 96 → n ≡ m → m ≤ 96 → length (take (n - 0) own) ≡ m

@@ -2,7 +2,7 @@
 ghost use mathlib.Core.Path.{_≡_};
 ghost use mathlib.Core.List.{List, [], _∷_};
 ghost use Rattle.paper.specs.Calls.{gave, marked, readToC, writeToC};
-ghost use Rattle.paper.specs.KeptCalls.{kept, keptBuild, keptReplace, keptStep, keptToC, keptStepToC};
+ghost use Rattle.paper_kept.specs.KeptCalls.{kept, keptBuild, keptReplace, keptStep, keptToC, keptStepToC};
 ghost use Rattle.paper_zones.specs.Zones.{summariseCall, zoned, zonesStep, zonesToC, zonesStepToC};
 
 #[no_mangle]
@@ -30,7 +30,7 @@ pub extern "C" fn gormulast_read(
 pub extern "C" fn gormulast_write(table: &[u32], bytes: &mut [u8]) -> u64
     ensures { λ r. ⌜ gave r (now (bytes .exit)) ≡ writeToC (now (table .entry)) (now (bytes .entry)) ⌝ }
 {
-    paper::packed_answer(deck::write(table, &mut bytes[..]))
+    packing::packed_answer(deck::write(table, &mut bytes[..]))
 }
 
 #[no_mangle]
@@ -44,7 +44,7 @@ pub extern "C" fn gormulast_build(
 ) -> u64
     ensures { λ r. ⌜ gave r (kept (now (table .entry)) (now (p .exit)) (now (a .exit)) (now (factor .exit)) (now (work .exit)) (now (starts .exit)) [] []) ≡ keptToC (keptBuild (kept (now (table .entry)) (now (p .entry)) (now (a .entry)) (now (factor .entry)) (now (work .entry)) (now (starts .entry)) [] [])) ⌝ }
 {
-    paper::packed_answer(model::build(
+    packing::packed_answer(model::build(
         table,
         &mut p[..],
         &mut a[..],
@@ -73,7 +73,7 @@ pub extern "C" fn gormulast_replace(
     ensures { λ r. ⌜ gave r (kept (now (table .exit)) (now (p .exit)) (now (a .exit)) (now (factor .exit)) (now (work .exit)) (now (starts .entry)) [] []) ≡ keptToC (keptReplace (kept (now (table .entry)) (now (p .entry)) (now (a .entry)) (now (factor .entry)) (now (work .entry)) (now (starts .entry)) [] []) card (letter ∷ f1 ∷ f2 ∷ f3 ∷ f4 ∷ f5 ∷ [])) ⌝ }
 {
     let new = [letter, f1, f2, f3, f4, f5];
-    paper::packed_answer(model::replace(
+    packing::packed_answer(model::replace(
         &mut table[..],
         &mut p[..],
         &mut a[..],
@@ -97,7 +97,7 @@ pub extern "C" fn gormulast_step(
 ) -> u64
     ensures { λ r. ⌜ gave r (kept (now (table .entry)) (now (p .entry)) (now (a .entry)) (now (factor .entry)) [] (now (starts .entry)) (now (temperatures .exit)) (now (carried .exit))) ≡ keptStepToC (keptStep (kept (now (table .entry)) (now (p .entry)) (now (a .entry)) (now (factor .entry)) [] (now (starts .entry)) (now (temperatures .entry)) (now (carried .entry)))) ⌝ }
 {
-    paper::packed_step(step::step(
+    packing::packed_step(step::step(
         table,
         p,
         a,
@@ -119,7 +119,7 @@ pub extern "C" fn gormulast_zones(
 ) -> u64
     ensures { λ r. ⌜ gave r (now (summary .exit)) ≡ zonesToC (summariseCall (now (table .entry)) (now (temperatures .entry)) (now (counts .entry)) (now (members .entry)) (now (edges .entry)) (now (summary .entry))) ⌝ }
 {
-    paper::packed_answer(zones::summarise(
+    packing::packed_answer(afresh::summarise(
         table,
         temperatures,
         counts,
@@ -145,7 +145,7 @@ pub extern "C" fn gormulast_zones_step(
 ) -> u64
     ensures { λ r. ⌜ gave r (zoned (kept (now (table .entry)) (now (p .entry)) (now (a .entry)) (now (factor .entry)) [] (now (starts .entry)) (now (temperatures .exit)) (now (carried .exit))) (now (summary .exit))) ≡ zonesStepToC (zonesStep (zoned (kept (now (table .entry)) (now (p .entry)) (now (a .entry)) (now (factor .entry)) [] (now (starts .entry)) (now (temperatures .entry)) (now (carried .entry))) (now (summary .entry))) (now (counts .entry)) (now (members .entry)) (now (edges .entry))) ⌝ }
 {
-    paper::packed_step(zones::step(
+    packing::packed_step(zones::step(
         table,
         p,
         a,

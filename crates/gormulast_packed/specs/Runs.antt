@@ -2,7 +2,7 @@
 use Prim.Native.Nat.{ℕ, _*_}
 use Rattle.paper.specs.Refusals.{told, packed}
 use Rattle.paper.specs.Calls.{ToC, gave}
-use Rattle.paper.specs.KeptCalls.{Kept, KeptRunExit}
+use Rattle.paper_kept.specs.KeptCalls.{Kept, KeptRunExit}
 use Rattle.paper.specs.declared.Answer.the-variants as answer
 use Rattle.paper.specs.declared.Ran.{Ran}
 use Rattle.paper.specs.declared.Ran.the-variants.{Finished, Refused}

@@ -7,5 +7,5 @@ ghost use Rattle.paper_records.specs.Records.{importToC};
 pub extern "C" fn gormulast_import(table: &[u32], records: &[u8], second: &mut [u32]) -> u64
     ensures { λ r. ⌜ gave r (now (second .exit)) ≡ importToC (now (table .entry)) (now (records .entry)) (now (second .entry)) ⌝ }
 {
-    paper_records::packed_import(import::import(table, records, &mut second[..]))
+    faults::packed_import(import::import(table, records, &mut second[..]))
 }

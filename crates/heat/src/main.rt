@@ -25,7 +25,7 @@ fn line(letter: &[u8], a: u64, b: u64) {
 }
 
 fn refused(why: Refusal) {
-    let g = paper::given_by(why);
+    let g = packing::given_by(why);
     line(b"R", g.number as u64, g.place as u64);
 }
 

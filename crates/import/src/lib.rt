@@ -177,7 +177,7 @@ fn judge_room(t: &[u32], rows: usize, bytes: &[u8], n: usize, room: usize) -> Im
 fn judge(t: &[u32], bytes: &[u8], room: usize) -> Imported
     ensures { λ r. ⌜ r ≡ paper.imports (now (t .entry)) (now (bytes .entry)) room ⌝ }
 {
-    let a = paper_records::of_model(cards::judge(t));
+    let a = faults::of_model(cards::judge(t));
     let Imported::Done = a else {
         return a;
     };

@@ -29,7 +29,7 @@ use Rattle.paper.specs.Building.{Slices}
 use Rattle.paper.specs.Lent.{opened}
 use Rattle.paper.specs.Step.{boardOf, isFixed, A′, rightSide, residual}
 use Rattle.paper.specs.Calls.{Lent, Exit, boardAt, stepCall}
-use Rattle.paper.specs.Replacements.{present, Holds}
+use Rattle.paper_replacements.specs.Replacements.{present, Holds}
 use Rattle.paper.specs.Running.{runFrom, runCall}
 use Rattle.paper.specs.Radiation.{loadNow}
 use Rattle.paper.specs.Book.{stored, carriedIn, power, powerNow, book, Closed, Dark, OwnMatrices, lentTo, Account, opening, counted, fellBy, stepOn, stepsOn, fellIn, AllOwn}

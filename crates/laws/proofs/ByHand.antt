@@ -12,8 +12,8 @@ use Rattle.paper.specs.Cards.{rowAt, rows, nodes, stepsOf}
 use Rattle.paper.specs.Judge.{judged, cardNamed}
 use Rattle.paper.specs.Building.{Slices}
 use Rattle.paper.specs.Calls.{Lent, Exit, leaves, stepCall}
-use Rattle.paper.specs.KeptCalls.{Kept, widened, narrowed, keptRoomy, keptEnough, KeptExit, leftKept, KeptRunExit, leftKeptRun, keptReplace, keptStep}
-use Rattle.paper.specs.KeptReplacements.{KeptHolds}
+use Rattle.paper_kept.specs.KeptCalls.{Kept, widened, narrowed, keptRoomy, keptEnough, KeptExit, leftKept, KeptRunExit, leftKeptRun, keptReplace, keptStep}
+use Rattle.paper_replacements.specs.KeptReplacements.{KeptHolds}
 use Rattle.paper_changes.specs.Changes.{target, renewed, falls, onwards, changed, changesFrom, changesAt, answered, stepDone, changingFrom, ranTo, changingRun, Hand, handOf, HandExit, leftHand, byHandThen, handChanged, handChanges, handStep, handRun}
 use Rattle.paper.specs.declared.Answer.{Answer}
 use Rattle.paper.specs.declared.Answer.the-variants.{Done, Refused}

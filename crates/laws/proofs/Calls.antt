@@ -18,7 +18,7 @@ use Rattle.paper.specs.Building.{Slices, build}
 use Rattle.paper.specs.Lent.{roomy, enough, opened, lentJudged}
 use Rattle.paper.specs.Replacing.{stirs, replaced}
 use Rattle.paper.specs.Calls.{whenDone, Lent, Exit, over, long, closed, worked, inFactor, leaves, buildCall, replaceCall}
-use Rattle.paper.specs.Replacements.{ready, on, present, Holds, Asked, afterAll, withCard, asBuilt, deckAfter}
+use Rattle.paper_replacements.specs.Replacements.{ready, on, present, Holds, Asked, afterAll, withCard, asBuilt, deckAfter}
 use Rattle.paper.specs.declared.Answer.{Answer}
 use Rattle.paper.specs.declared.Answer.the-variants.{Done, Refused}
 use Rattle.paper.specs.declared.Refusal.{Refusal}

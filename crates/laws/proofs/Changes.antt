@@ -14,7 +14,7 @@ use Rattle.paper.specs.Judge.{judged, newJudged}
 use Rattle.paper.specs.Building.{Slices}
 use Rattle.paper.specs.Step.{Settling, carriedOn}
 use Rattle.paper.specs.Calls.{over, Lent, Exit, left, closed, leaves, boardAt, endsStep, replaceCall, stepCall}
-use Rattle.paper.specs.KeptCalls.{Kept, widened, narrowed, keptEnough, lengthsJudged, startsJudged, again, KeptExit, leftKept, nodesJudged, keptReplace}
+use Rattle.paper_kept.specs.KeptCalls.{Kept, widened, narrowed, keptEnough, lengthsJudged, startsJudged, again, KeptExit, leftKept, nodesJudged, keptReplace}
 use Rattle.paper_changes.specs.Changes.{target, renewed, falls, onwards, changed, changesFrom}
 use Rattle.paper.specs.declared.Answer.{Answer}
 use Rattle.paper.specs.declared.Answer.the-variants.{Done, Refused}

@@ -25,7 +25,7 @@ use Rattle.paper.specs.Elements.{elementAt}
 use Rattle.paper.specs.Parts.{namedShape, partOf, partAt}
 use Rattle.paper.specs.Matrices.{addsP, addsA, P, A, fixed, cleared}
 use Rattle.paper.specs.Coupled.{joinsAt, corner, coupled, firstOf}
-use Rattle.paper.specs.KeptCalls.{keptLong}
+use Rattle.paper_kept.specs.KeptCalls.{keptLong}
 use Rattle.paper.specs.declared.Kind.{Kind}
 use Rattle.paper.specs.declared.Kind.the-variants.{D, N, M, E, «V», H, F, G, R, T, C, Z, Other}
 use Rattle.laws.proofs.Letters.{Body, flat, solid}

@@ -11,7 +11,7 @@ use lib.ListN.{getD}
 use Rattle.whole.specs.Sums.{sumN}
 use Rattle.paper.specs.Kinds.{about, letterOf, kindOf}
 use Rattle.paper.specs.Cards.{before, columns, ranked, rank, triple, field, letter, rowAt, rows}
-use Rattle.paper.specs.KeptCalls.{Kept, leftKept}
+use Rattle.paper_kept.specs.KeptCalls.{Kept, leftKept}
 use Rattle.paper_changes.specs.Changes.{falls, changesFrom, changesAt}
 use Rattle.paper.specs.declared.Answer.the-variants.{Done}
 use Rattle.paper.specs.declared.Kind.{Kind}

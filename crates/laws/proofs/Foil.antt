@@ -26,14 +26,14 @@ use Rattle.paper.specs.Building.{elementsFrom, build}
 use Rattle.paper.specs.Replacing.{formOf, moved, redone, replaced}
 use Rattle.paper.specs.Lent.{rowSize, heavy, badRow, noFactor, foreign, enough, opened, lentJudged}
 use Rattle.paper.specs.Calls.{closed, leaves, buildCall, replaceCall}
-use Rattle.paper.specs.Replacements.{Asked}
+use Rattle.paper_replacements.specs.Replacements.{Asked}
 use Rattle.paper.specs.Coupled.{corner, coupled, firstOf, strayRow}
-use Rattle.paper.specs.KeptCalls.{Kept, widened, narrowed, keptEnough, lengthsJudged, startsJudged, keptBuild, keptReplace}
-use Rattle.paper.specs.Posted.{posted, inTurn}
+use Rattle.paper_kept.specs.KeptCalls.{Kept, widened, narrowed, keptEnough, lengthsJudged, startsJudged, keptBuild, keptReplace}
+use Rattle.paper_replacements.specs.Posted.{posted, inTurn}
 use Rattle.paper.specs.declared.Kind.the-variants.{E, F}
-use Rattle.paper.proofs.Cases.{same, eqZ}
+use Rattle.paper.proofs.Cases.{same, eqZ, Figure, Wants, wants-told}
 use Rattle.paper.proofs.Checked.{element, right, material, counted}
-use Rattle.paper.proofs.Posted.{film, plate, built, becomes, hotter, said, Figure, undone, Wants, wants-told}
+use Rattle.paper_replacements.proofs.Posted.{film, plate, built, becomes, hotter, said, undone}
 
 -- a triangle with a film over it, in steps of a minute: E card 6, F card 7
 

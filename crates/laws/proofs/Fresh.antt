@@ -18,7 +18,7 @@ use Rattle.paper.specs.Cards.{nodes}
 use Rattle.paper.specs.Judge.{judged}
 use Rattle.paper.specs.Step.{offScale}
 use Rattle.paper.specs.Calls.{joined, whenDone}
-use Rattle.paper.specs.KeptCalls.{Kept, orElse, KeptStepExit, keptStep}
+use Rattle.paper_kept.specs.KeptCalls.{Kept, orElse, KeptStepExit, keptStep}
 use Rattle.paper_zones.specs.Zones.{zones, zoneAt, ticksOf, three, laid, summaryOf, Fresh, rowOf, differ, changed, refreshed, refusedAt, roomFor, zonesJudged, summarises, summariseCall, Zoned, zoned, ZonesStepExit, leftZoned, settles, zonesStep}
 use Rattle.paper.specs.declared.Answer.{Answer}
 use Rattle.paper.specs.declared.Answer.the-variants.{Done, Refused}

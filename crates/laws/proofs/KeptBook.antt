@@ -9,9 +9,9 @@ use Rattle.paper.specs.Building.{Slices}
 use Rattle.paper.specs.Calls.{Lent, StepExit, stepCall}
 use Rattle.paper.specs.Running.{runCall}
 use Rattle.paper.specs.Book.{stored, carriedIn, power, powerNow, book, Closed, Dark, OwnMatrices, lentTo, Account, opening, counted, fellBy, stepOn, stepsOn, fellIn, AllOwn}
-use Rattle.paper.specs.KeptCalls.{Kept, widened, KeptStepExit, KeptRunExit, nodesJudged, keptStep, keptRun}
-use Rattle.paper.specs.KeptReplacements.{KeptHolds}
-use Rattle.paper.specs.KeptBook.{KeptOwn, keptLentTo, KeptAccount, keptOpening, keptStepOn, keptStepsOn, keptFellIn, AllKeptOwn}
+use Rattle.paper_kept.specs.KeptCalls.{Kept, widened, KeptStepExit, KeptRunExit, nodesJudged, keptStep, keptRun}
+use Rattle.paper_replacements.specs.KeptReplacements.{KeptHolds}
+use Rattle.paper_kept.specs.KeptBook.{KeptOwn, keptLentTo, KeptAccount, keptOpening, keptStepOn, keptStepsOn, keptFellIn, AllKeptOwn}
 use Rattle.paper.specs.declared.Answer.{Answer}
 use Rattle.paper.specs.declared.Answer.the-variants.{Done, Refused}
 use Rattle.paper.specs.declared.Refusal.{Refusal}

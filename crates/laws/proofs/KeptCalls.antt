@@ -20,7 +20,7 @@ use Rattle.paper.specs.Coupled.{firstOf, strayRow}
 use Rattle.paper.specs.Step.{Settling}
 use Rattle.paper.specs.Calls.{whenDone, over, Lent, lent, Exit, left, StepExit, leftStep, endsStep, buildCall, replaceCall, stepCall}
 use Rattle.paper.specs.Running.{RunExit, leftRun, onward, stepExit, runFrom, runCall}
-use Rattle.paper.specs.KeptCalls.{Kept, kept, widened, onto, narrowed, keptLong, keptRoomy, keptEnough, lengthsJudged, startsJudged, leftKept, leftKeptStep, leftKeptRun, keptBuild, keptReplace, nodesJudged, keptStep, keptRun}
+use Rattle.paper_kept.specs.KeptCalls.{Kept, kept, widened, onto, narrowed, keptLong, keptRoomy, keptEnough, lengthsJudged, startsJudged, leftKept, leftKeptStep, leftKeptRun, keptBuild, keptReplace, nodesJudged, keptStep, keptRun}
 use Rattle.paper.specs.declared.Answer.{Answer}
 use Rattle.paper.specs.declared.Answer.the-variants.{Done, Refused}
 use Rattle.paper.specs.declared.Refusal.{Refusal}

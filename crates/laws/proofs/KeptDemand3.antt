@@ -21,9 +21,9 @@ use Rattle.paper.specs.Building.{Slices, slices, build}
 use Rattle.paper.specs.Lent.{roomy, enough}
 use Rattle.paper.specs.Coupled.{firstOf, strayRow}
 use Rattle.paper.specs.Calls.{whenDone, over, Lent, Exit, buildCall, replaceCall}
-use Rattle.paper.specs.Replacements.{ready, Holds, Asked, asBuilt, deckAfter}
-use Rattle.paper.specs.KeptCalls.{Kept, widened, onto, narrowed, keptLong, keptRoomy, keptEnough, lengthsJudged, startsJudged, KeptExit, leftKept, keptBuild, keptReplace}
-use Rattle.paper.specs.KeptReplacements.{keptReady, keptOn, keptPresent, KeptHolds, keptAfterAll}
+use Rattle.paper_replacements.specs.Replacements.{ready, Holds, Asked, asBuilt, deckAfter}
+use Rattle.paper_kept.specs.KeptCalls.{Kept, widened, onto, narrowed, keptLong, keptRoomy, keptEnough, lengthsJudged, startsJudged, KeptExit, leftKept, keptBuild, keptReplace}
+use Rattle.paper_replacements.specs.KeptReplacements.{keptReady, keptOn, keptPresent, KeptHolds, keptAfterAll}
 use Rattle.paper.specs.declared.Answer.{Answer}
 use Rattle.paper.specs.declared.Answer.the-variants.{Done, Refused}
 use Rattle.paper.specs.declared.Refusal.{Refusal}

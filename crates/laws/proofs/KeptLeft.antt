@@ -19,10 +19,10 @@ use Rattle.paper.specs.Judge.{judged, newJudged}
 use Rattle.paper.specs.Replacing.{stirs, firstRow}
 use Rattle.paper.specs.Coupled.{firstOf, strayRow}
 use Rattle.paper.specs.Calls.{whenDone, over, Lent, lent, worked, inFactor, asLent, buildCall, replaceCall, stepCall}
-use Rattle.paper.specs.Replacements.{on}
+use Rattle.paper_replacements.specs.Replacements.{on}
 use Rattle.paper.specs.Running.{Untouched}
-use Rattle.paper.specs.KeptCalls.{Kept, widened, onto, narrowed, keptLong, keptRoomy, keptEnough, lengthsJudged, startsJudged, KeptExit, KeptStepExit, KeptRunExit, keptBuild, keptReplace, nodesJudged, keptStep, keptRun}
-use Rattle.paper.specs.KeptReplacements.{keptOn, keptAsLent, KeptBeyond}
+use Rattle.paper_kept.specs.KeptCalls.{Kept, widened, onto, narrowed, keptLong, keptRoomy, keptEnough, lengthsJudged, startsJudged, KeptExit, KeptStepExit, KeptRunExit, keptBuild, keptReplace, nodesJudged, keptStep, keptRun}
+use Rattle.paper_replacements.specs.KeptReplacements.{keptOn, keptAsLent, KeptBeyond}
 use Rattle.paper.specs.declared.Answer.{Answer}
 use Rattle.paper.specs.declared.Answer.the-variants.{Done, Refused}
 use Rattle.paper.specs.declared.Refusal.{Refusal}

@@ -26,9 +26,9 @@ use Rattle.paper.specs.Lent.{foreign, roomy, enough, opened, lentJudged}
 use Rattle.paper.specs.Replacing.{stirs, replaced}
 use Rattle.paper.specs.Coupled.{firstOf, strayRow}
 use Rattle.paper.specs.Calls.{over, Lent, Exit, long, closed, worked, inFactor, leaves, buildCall, replaceCall}
-use Rattle.paper.specs.Replacements.{ready, present, Asked, afterAll}
-use Rattle.paper.specs.KeptCalls.{Kept, widened, narrowed, keptRoomy, lengthsJudged, startsJudged, KeptExit, keptBuild, keptReplace}
-use Rattle.paper.specs.KeptReplacements.{keptReady, keptAfterAll, SameNumbers, Alike}
+use Rattle.paper_replacements.specs.Replacements.{ready, present, Asked, afterAll}
+use Rattle.paper_kept.specs.KeptCalls.{Kept, widened, narrowed, keptRoomy, lengthsJudged, startsJudged, KeptExit, keptBuild, keptReplace}
+use Rattle.paper_replacements.specs.KeptReplacements.{keptReady, keptAfterAll, SameNumbers, Alike}
 use Rattle.paper.specs.declared.Answer.{Answer}
 use Rattle.paper.specs.declared.Answer.the-variants.{Done, Refused}
 use Rattle.paper.specs.declared.Refusal.{Refusal}

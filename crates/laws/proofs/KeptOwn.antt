@@ -22,8 +22,8 @@ use Rattle.paper.specs.Judge.{judged, newJudged}
 use Rattle.paper.specs.Matrices.{P, A}
 use Rattle.paper.specs.Building.{Slices, build}
 use Rattle.paper.specs.Coupled.{firstOf, strayRow}
-use Rattle.paper.specs.KeptCalls.{Kept, startsJudged}
-use Rattle.paper.specs.KeptReplacements.{KeptHolds, FirstStray}
+use Rattle.paper_kept.specs.KeptCalls.{Kept, startsJudged}
+use Rattle.paper_replacements.specs.KeptReplacements.{KeptHolds, FirstStray}
 use Rattle.paper.specs.declared.Answer.the-variants.{Done, Refused}
 use Rattle.paper.specs.declared.Refusal.the-variants.{Stray}
 use Rattle.laws.proofs.Judged.{deck}

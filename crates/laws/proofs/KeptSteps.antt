@@ -14,8 +14,8 @@ use Rattle.paper.specs.Building.{Slices}
 use Rattle.paper.specs.Lent.{laden, roomy, enough, opened, lentJudged}
 use Rattle.paper.specs.Step.{Settling, boardOf, stepped, carriedOn, offScale}
 use Rattle.paper.specs.Calls.{over, Lent, Exit, boardAt, endsStep, stepCall, left}
-use Rattle.paper.specs.KeptCalls.{Kept, widened, keptRoomy, keptEnough, lengthsJudged, startsJudged, KeptStepExit, nodesJudged, keptStep, keptRun}
-use Rattle.paper.specs.KeptReplacements.{Alike}
+use Rattle.paper_kept.specs.KeptCalls.{Kept, widened, keptRoomy, keptEnough, lengthsJudged, startsJudged, KeptStepExit, nodesJudged, keptStep, keptRun}
+use Rattle.paper_replacements.specs.KeptReplacements.{Alike}
 use Rattle.paper.specs.declared.Answer.{Answer}
 use Rattle.paper.specs.declared.Answer.the-variants.{Done, Refused}
 use Rattle.paper.specs.declared.Refusal.{Refusal}

@@ -19,7 +19,7 @@ use Rattle.paper.specs.Replacing.{stirs, firstRow, redone, replaced}
 use Rattle.paper.specs.Step.{Settling, carriedOn}
 use Rattle.paper.specs.Calls.{whenDone, joined, textAt, writes, written, writeCall, lastCard, startOf, countsIn, cardAt, reads, readTable, readCall}
 use Rattle.paper.specs.Calls.{Lent, Exit, StepExit, over, long, closed, worked, inFactor, asLent, leaves, boardAt, endsStep, buildCall, replaceCall, stepCall}
-use Rattle.paper.specs.Replacements.{ready, on, present, Beyond}
+use Rattle.paper_replacements.specs.Replacements.{ready, on, present, Beyond}
 use Rattle.paper.specs.declared.Answer.{Answer}
 use Rattle.paper.specs.declared.Answer.the-variants.{Done, Refused}
 use Rattle.paper.specs.declared.Refusal.{Refusal}

@@ -11,7 +11,7 @@ use Rattle.whole.specs.Packed.{tri, cell}
 use Rattle.whole.specs.Kept.{starts, expand, shrink}
 use Rattle.whole.proofs.Kept.{Low, Vanishes, length-shrink, expand-front, expand-shrink, shrink-cell, shrink-expand}
 use Rattle.paper.specs.Calls.{over}
-use Rattle.paper.specs.KeptCalls.{onto}
+use Rattle.paper_kept.specs.KeptCalls.{onto}
 
 -- ---- what is written over the front of a slice
 

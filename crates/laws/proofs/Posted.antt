@@ -17,11 +17,11 @@ use Rattle.paper.specs.Building.{Slices, build}
 use Rattle.paper.specs.Parts.{partOf}
 use Rattle.paper.specs.Replacing.{stirs}
 use Rattle.paper.specs.Calls.{over, Lent, Exit, worked, leaves, replaceCall}
-use Rattle.paper.specs.Replacements.{Asked}
+use Rattle.paper_replacements.specs.Replacements.{Asked}
 use Rattle.paper.specs.Coupled.{firstOf}
-use Rattle.paper.specs.KeptCalls.{Kept, widened, onto, narrowed, keptLong, keptRoomy, lengthsJudged, KeptExit, leftKept, keptReplace}
-use Rattle.paper.specs.KeptReplacements.{KeptHolds, KeptBeyond}
-use Rattle.paper.specs.Posted.{posted, inTurn, Apart, BothAccepted, workZeroed}
+use Rattle.paper_kept.specs.KeptCalls.{Kept, widened, onto, narrowed, keptLong, keptRoomy, lengthsJudged, KeptExit, leftKept, keptReplace}
+use Rattle.paper_replacements.specs.KeptReplacements.{KeptHolds, KeptBeyond}
+use Rattle.paper_replacements.specs.Posted.{posted, inTurn, Apart, BothAccepted, workZeroed}
 use Rattle.whole.specs.Kept.{shrink}
 use Rattle.paper.specs.declared.Answer.{Answer}
 use Rattle.paper.specs.declared.Answer.the-variants.{Done, Refused}

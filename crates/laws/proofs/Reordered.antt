@@ -29,9 +29,9 @@ use Rattle.paper.specs.Matrices.{addsP, addsA, P, A, fixes, fixed, cleared}
 use Rattle.paper.specs.Factor.{rowsFrom}
 use Rattle.paper.specs.Building.{Slices, slices, elementsFrom, build}
 use Rattle.paper.specs.Coupled.{joinsAt, corner, coupled, firstOf}
-use Rattle.paper.specs.KeptCalls.{Kept, widened, keptLong, keptBuild}
-use Rattle.paper.specs.KeptReplacements.{keptReady, keptOn, keptPresent, KeptHolds}
-use Rattle.paper.specs.Posted.{namesElement, byElement, renumbered, Order, Reordered}
+use Rattle.paper_kept.specs.KeptCalls.{Kept, widened, keptLong, keptBuild}
+use Rattle.paper_replacements.specs.KeptReplacements.{keptReady, keptOn, keptPresent, KeptHolds}
+use Rattle.paper_replacements.specs.Posted.{namesElement, byElement, renumbered, Order, Reordered}
 use Rattle.paper.specs.declared.Answer.{Answer}
 use Rattle.paper.specs.declared.Answer.the-variants.{Done, Refused}
 use Rattle.paper.specs.declared.Area.the-variants as area

@@ -7,10 +7,10 @@ use lib.IntN.{ℤ}
 use lib.ListN.{length}
 use Rattle.paper.specs.Cards.{field, put}
 use Rattle.paper.specs.Replacing.{stirs}
-use Rattle.paper.specs.Replacements.{Asked}
-use Rattle.paper.specs.KeptCalls.{Kept, keptLong}
-use Rattle.paper.specs.KeptReplacements.{KeptHolds, keptAfterAll, KeptBeyond}
-use Rattle.paper.specs.Posted.{posted, Apart, Each, AllApart, AllAccepted, Shuffled}
+use Rattle.paper_replacements.specs.Replacements.{Asked}
+use Rattle.paper_kept.specs.KeptCalls.{Kept, keptLong}
+use Rattle.paper_replacements.specs.KeptReplacements.{KeptHolds, keptAfterAll, KeptBeyond}
+use Rattle.paper_replacements.specs.Posted.{posted, Apart, Each, AllApart, AllAccepted, Shuffled}
 use Rattle.paper.specs.declared.Answer.the-variants.{Done}
 use Rattle.laws.proofs.Tables.{length-put}
 use Rattle.laws.proofs.Puts.{put-commutes}

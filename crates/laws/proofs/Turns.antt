@@ -9,7 +9,7 @@ use lib.IntN.{ℤ}
 use Rattle.paper.specs.Kinds.{letterOf}
 use Rattle.paper.specs.Cards.{letter, rowAt, rows, stepsOf}
 use Rattle.paper.specs.Judge.{judged}
-use Rattle.paper.specs.KeptCalls.{Kept, KeptExit, leftKept, KeptStepExit, leftKeptStep, leftKeptRun, nodesJudged, keptStep}
+use Rattle.paper_kept.specs.KeptCalls.{Kept, KeptExit, leftKept, KeptStepExit, leftKeptStep, leftKeptRun, nodesJudged, keptStep}
 use Rattle.paper_changes.specs.Changes.{onwards, changed, changesFrom, answered, stepDone, changingFrom, ranTo, changingRun}
 use Rattle.paper.specs.declared.Answer.{Answer}
 use Rattle.paper.specs.declared.Answer.the-variants.{Done, Refused}

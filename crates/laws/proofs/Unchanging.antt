@@ -12,7 +12,7 @@ use Rattle.paper.specs.Cards.{columns, rowAt, rows, stepsOf}
 use Rattle.paper.specs.Judge.{judged}
 use Rattle.paper.specs.Calls.{Lent, Exit, stepCall}
 use Rattle.paper.specs.Running.{runFrom, runCall}
-use Rattle.paper.specs.KeptCalls.{Kept, widened, KeptExit, leftKept, KeptStepExit, leftKeptRun, nodesJudged, keptStep, keptRun}
+use Rattle.paper_kept.specs.KeptCalls.{Kept, widened, KeptExit, leftKept, KeptStepExit, leftKeptRun, nodesJudged, keptStep, keptRun}
 use Rattle.paper_changes.specs.Changes.{falls, changing, onwards, changesAt, answered, stepDone, changingFrom, ranTo, changingRun}
 use Rattle.paper.specs.declared.Answer.{Answer}
 use Rattle.paper.specs.declared.Answer.the-variants.{Done, Refused}

@@ -27,9 +27,9 @@ use Rattle.paper.specs.Lent.{roomy, opened, lentJudged}
 use Rattle.paper.specs.Replacing.{formOf, moved, firstRow, redone, stirs, replaced}
 use Rattle.paper.specs.Coupled.{firstOf}
 use Rattle.paper.specs.Calls.{whenDone, over, Lent, lent, long, closed, worked, inFactor, leaves, buildCall, replaceCall, stepCall}
-use Rattle.paper.specs.Replacements.{ready, present}
+use Rattle.paper_replacements.specs.Replacements.{ready, present}
 use Rattle.paper.specs.Running.{runCall}
-use Rattle.paper.specs.KeptCalls.{Kept, widened, onto, narrowed, keptLong, keptRoomy, lengthsJudged, again, keptBuild, keptReplace, nodesJudged, keptStep, keptRun}
+use Rattle.paper_kept.specs.KeptCalls.{Kept, widened, onto, narrowed, keptLong, keptRoomy, lengthsJudged, again, keptBuild, keptReplace, nodesJudged, keptStep, keptRun}
 use Rattle.paper.specs.declared.Answer.the-variants.{Done}
 use Rattle.paper.specs.declared.Refusal.the-variants.{Short}
 use Rattle.laws.proofs.Outcomes.{after-done, when-done, then-done, done-inj, both-done, Ends, ends-done}

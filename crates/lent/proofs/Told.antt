@@ -23,7 +23,7 @@ use Rattle.paper.specs.Building.{Slices}
 use Rattle.paper.specs.Lent.{rowSize, heavy, pivot, badRow, noFactor, foreign, laden}
 use Rattle.paper.specs.Step.{offScale}
 use Rattle.paper.specs.Coupled.{strayRow}
-use Rattle.paper.specs.KeptCalls.{Kept, keptRoomy, keptEnough, lengthsJudged, startsJudged}
+use Rattle.paper_kept.specs.KeptCalls.{Kept, keptRoomy, keptEnough, lengthsJudged, startsJudged}
 use Rattle.paper.specs.declared.Answer.{Answer}
 use Rattle.paper.specs.declared.Answer.the-variants.{Done, Refused}
 use Rattle.paper.specs.declared.Refusal.the-variants.{Short}

@@ -25,7 +25,7 @@ fn written(table: &[u32]) {
 // The table's deck with the records as cards: a row more for each but the last.
 fn imported(table: &[u32], records: &[u8]) {
     let mut second = [0u32; deck::NUMBERS];
-    let answer = paper_records::packed_import(import::import(table, records, &mut second));
+    let answer = faults::packed_import(import::import(table, records, &mut second));
     if answer != 0 {
         refused(answer);
         return;

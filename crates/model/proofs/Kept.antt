@@ -13,7 +13,7 @@ use Rattle.paper.specs.Judge.{judged, newJudged}
 use Rattle.paper.specs.Coupled.{firstOf}
 use Rattle.paper.specs.Building.{slices}
 use Rattle.paper.specs.Calls.{lent, left, replaceCall}
-use Rattle.paper.specs.KeptCalls.{Kept, kept, keptLong, keptRoomy, lengthsJudged, startsJudged, leftKept, keptReplace}
+use Rattle.paper_kept.specs.KeptCalls.{Kept, kept, keptLong, keptRoomy, lengthsJudged, startsJudged, leftKept, keptReplace}
 use Rattle.paper.specs.declared.Answer.{Answer}
 use Rattle.paper.specs.declared.Answer.the-variants.{Done, Refused}
 use Rattle.paper.specs.declared.Refusal.{Refusal}

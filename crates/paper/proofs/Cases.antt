@@ -1,7 +1,7 @@
 -- Lists compared by a test: the checker runs a test of figures far sooner than it compares two terms that compute them.
 use mathlib.Core.Path.{_≡_, refl, ap}
 use mathlib.Core.Bool.{Bool, true, false, _&&_}
-use mathlib.Core.List.{List, [], _∷_}
+use mathlib.Core.List.{List, [], _∷_, map}
 use Prim.Native.Nat.{ℕ}
 use borrow.Author.Tests.{eqb-true}
 use lib.Dec.{eqb}
@@ -39,6 +39,18 @@ eqZ-told (negsuc a) (negsuc b) e = ap negsuc (eqb-true a b e)
 -- lists of lists, as the figures of several cases are
 pub figures-told : (xs ys : List (List ℤ)) → same (same eqZ) xs ys ≡ true → xs ≡ ys
 figures-told = same-told (same eqZ) (same-told eqZ eqZ-told)
+
+-- ---- figures: what is got of each case, and what is wanted
+
+pub record Figure : Type 0 where
+  pub got : List ℤ
+  pub want : List ℤ
+
+abbrev pub Wants : List Figure → Type 0
+Wants xs = same (same eqZ) (map (λ (x : Figure). x .got) xs) (map (λ (x : Figure). x .want) xs) ≡ true
+
+pub wants-told : (xs : List Figure) → Wants xs → map (λ (x : Figure). x .got) xs ≡ map (λ (x : Figure). x .want) xs
+wants-told xs = figures-told (map (λ (x : Figure). x .got) xs) (map (λ (x : Figure). x .want) xs)
 
 pub numbers-told : (xs ys : List (List ℕ)) → same (same eqb) xs ys ≡ true → xs ≡ ys
 numbers-told = same-told (same eqb) (same-told eqb eqb-true)

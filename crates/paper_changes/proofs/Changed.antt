@@ -29,7 +29,7 @@ use Rattle.paper.specs.Lent.{rowSize, heavy, badRow, noFactor, foreign, laden, 
 use Rattle.paper.specs.Step.{boardOf, rightSide, residual, residuals, rowBound, yAt, forwardFrom, xAt, backFrom, warmed, addFrom, correct, unsettled, attempts, stepped, carriedOn, offScale}
 use Rattle.paper.specs.Calls.{closed, leaves, buildCall, replaceCall, stepCall}
 use Rattle.paper.specs.Coupled.{corner, coupled, firstOf, strayRow}
-use Rattle.paper.specs.KeptCalls.{Kept, kept, widened, narrowed, keptEnough, lengthsJudged, startsJudged, keptBuild, keptReplace, keptStep}
+use Rattle.paper_kept.specs.KeptCalls.{Kept, kept, widened, narrowed, keptEnough, lengthsJudged, startsJudged, keptBuild, keptReplace, keptStep}
 use Rattle.paper_changes.specs.Changes.{target, renewed, falls, changed, changesFrom, changingFrom, changingRun, Hand, handOf, handChanged, handChanges, handStep, handRun}
 use Rattle.paper.specs.declared.Kind.the-variants.{D, E, H, F, T, C, Z}
 use Rattle.paper.proofs.Cases.{same, eqZ, figures-told}

@@ -14,7 +14,7 @@ use Rattle.paper.specs.Judge.{judged, cardNamed, newJudged}
 use Rattle.paper.specs.Building.{Slices, build}
 use Rattle.paper.specs.Calls.{whenDone, Lent, lent, StepExit, stepCall}
 use Rattle.paper.specs.Running.{runFrom}
-use Rattle.paper.specs.KeptCalls.{Kept, KeptExit, leftKept, KeptStepExit, KeptRunExit, leftKeptRun, orElse, keptReplace, keptStep}
+use Rattle.paper_kept.specs.KeptCalls.{Kept, KeptExit, leftKept, KeptStepExit, KeptRunExit, leftKeptRun, orElse, keptReplace, keptStep}
 use Rattle.paper.specs.declared.Kind.the-variants.{C}
 use Rattle.paper.specs.declared.Answer.{Answer}
 use Rattle.paper.specs.declared.Answer.the-variants.{Done, Refused}

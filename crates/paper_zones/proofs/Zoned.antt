@@ -26,7 +26,7 @@ use Rattle.paper.specs.Lent.{rowSize, heavy, badRow, noFactor, foreign, laden, 
 use Rattle.paper.specs.Step.{boardOf, rightSide, residual, residuals, rowBound, yAt, forwardFrom, xAt, backFrom, warmed, addFrom, correct, unsettled, attempts, stepped, carriedOn, offScale}
 use Rattle.paper.specs.Calls.{closed, leaves, joined, buildCall, stepCall}
 use Rattle.paper.specs.Coupled.{corner, coupled, firstOf, strayRow}
-use Rattle.paper.specs.KeptCalls.{Kept, kept, widened, narrowed, keptEnough, lengthsJudged, startsJudged, keptBuild, keptStep}
+use Rattle.paper_kept.specs.KeptCalls.{Kept, kept, widened, narrowed, keptEnough, lengthsJudged, startsJudged, keptBuild, keptStep}
 use Rattle.paper_zones.specs.Zones.{zoneStart, leads, best, extreme, band, three, summaryOf, changed, refreshed, roomFor, crowded, wrong, wrongZone, sunkEdge, zonesJudged, summarises, summariseCall, zoned, ZonesStepExit, zonesStep}
 use Rattle.paper.specs.declared.Kind.the-variants.{H, T}
 use Rattle.paper.proofs.Cases.{same, numbers-told}

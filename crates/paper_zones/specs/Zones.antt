@@ -15,7 +15,7 @@ use Rattle.paper.specs.Cards.{nodes}
 use Rattle.paper.specs.Judge.{judged}
 use Rattle.paper.specs.Step.{offScale}
 use Rattle.paper.specs.Calls.{whenDone, joined, ToC, gave}
-use Rattle.paper.specs.KeptCalls.{Kept, orElse, keptStep}
+use Rattle.paper_kept.specs.KeptCalls.{Kept, orElse, keptStep}
 use Rattle.paper.specs.declared.Answer.{Answer}
 use Rattle.paper.specs.declared.Answer.the-variants.{Done, Refused}
 use Rattle.paper.specs.declared.Refusal.{Refusal}

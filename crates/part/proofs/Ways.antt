@@ -23,7 +23,7 @@ use Rattle.paper.specs.declared.Kind.{Kind}
 use Rattle.paper.specs.declared.Node.{Node}
 use Rattle.laws.proofs.Decks.{In}
 use Rattle.laws.proofs.Edge.{Ranges}
-use Rattle.laws.proofs.Places.{squareP, squareA}
+use Rattle.laws.proofs.Places.{squareA}
 use Rattle.triangle.specs.Asks.{Placed}
 use Rattle.square.proofs.Held.{mass-size, holds-mass}
 use Rattle.element.specs.Asks.{FlatCard, ElementCard, conducted, Conducts, EdgeCard}
@@ -209,9 +209,3 @@ module _ (t card : List ℕ) (h : Card t card) {x : List ℕ} {n : ℕ} (b : x �
       let is = same-first n e f g k in
       let few : n ≤ 4 = omega (arith, c, few-by (kindAt x)) in
       (record { few = few; full = ap length is ∙ length-first n x few }, is ∙ (λ i. firstNodes (base-count i) (b i)) ∙ sym (first t card h .is))
-
--- ---- its square in P
-
-module _ (t card : List ℕ) where
-  pub in-P : {c : ℕ} {m : List (List ℤ)} → c ≡ partFor t card .capacity → m ≡ squareOf 4 (mass c) → m ≡ squareOf 4 (squareP (partFor t card))
-  in-P ec e = e ∙ ap (λ (v : ℕ). squareOf 4 (mass v)) ec

@@ -12,7 +12,7 @@ ghost use lib.ListN.{length, getD};
 ghost use Rattle.whole.specs.Squares.{squareOf, Holds};
 ghost use Rattle.paper.specs.Kinds.{kindOf};
 ghost use Rattle.paper.specs.Parts.{heatShare, partOf, partFor, least, leastRow};
-ghost use Rattle.laws.proofs.Places.{squareP, squareA};
+ghost use Rattle.laws.proofs.Places.{squareA};
 ghost use Rattle.part.specs.Forms.{cornersOf, line, doesBy, does, baseOf};
 ghost use Rattle.part.specs.Asks.{Card, Solid, Full};
 
@@ -182,14 +182,6 @@ fn film(table: &[u32], card: [u32; 6]) -> u64
         return edge::film(card[at], card[at + 2], element::edge_of(table, card));
     }
     triangle::film(card[at], element::shape_of(table, base(table, card)))
-}
-
-// Its square in P: what it stores.
-pub fn square_p(table: &[u32], card: [u32; 6]) -> [[i64; 4]; 4]
-    requires { ⌜ Card (now table) card ⌝ }
-    ensures { λ r. ⌜ r ≡ squareOf 4 (squareP (partFor (now (table .entry)) card)) ⌝ }
-{
-    square::mass(stored(table, card))
 }
 
 // Its square in A, and in `stored` what it stores. What conducts has no film, and what has a film stores nothing.

@@ -8,7 +8,7 @@ use Rattle.paper.specs.Judge.{judged}
 use Rattle.paper.specs.Matrices.{powers}
 use Rattle.paper.specs.Building.{Slices}
 use Rattle.paper.specs.Calls.{Lent}
-use Rattle.paper.specs.Replacements.{Holds}
+use Rattle.paper_replacements.specs.Replacements.{Holds}
 use Rattle.paper.specs.Running.{runCall}
 use Rattle.paper.specs.Book.{power, book, Closed, Dark, OwnMatrices, opening, stepsOn, fellIn, AllOwn}
 use Rattle.paper.specs.declared.Answer.the-variants.{Done}

@@ -4,8 +4,8 @@ use mathlib.Core.Bool.{true, false}
 use Prim.Native.Nat.{ℕ, _+_, _≤_}
 use lib.ListN.{take}
 use Rattle.paper.specs.Cards.{nodes, stepsOf}
-use Rattle.paper.specs.KeptCalls.{Kept, keptBuild, keptRun}
-use Rattle.paper.specs.KeptReplacements.{keptReady, keptOn, keptPresent, KeptHolds}
+use Rattle.paper_kept.specs.KeptCalls.{Kept, keptBuild, keptRun}
+use Rattle.paper_replacements.specs.KeptReplacements.{keptReady, keptOn, keptPresent, KeptHolds}
 use Rattle.paper_changes.specs.Changes.{changing, ranTo, changingFrom, changingRun, Hand, handOf, byHandThen, handRun, Quiet, handSteps}
 use Rattle.paper.specs.declared.Answer.the-variants.{Done}
 use Rattle.laws.proofs.ByHand as by-hand

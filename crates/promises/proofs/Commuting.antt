@@ -10,10 +10,10 @@ use Rattle.paper.specs.Cards.{rowAt, nodes}
 use Rattle.paper.specs.Matrices.{P, A}
 use Rattle.paper.specs.Building.{Slices, build}
 use Rattle.paper.specs.Replacing.{stirs}
-use Rattle.paper.specs.Replacements.{Asked}
-use Rattle.paper.specs.KeptCalls.{Kept, leftKept, keptBuild, keptReplace}
-use Rattle.paper.specs.KeptReplacements.{keptReady, keptOn, keptPresent, KeptHolds, keptAfterAll, KeptBeyond}
-use Rattle.paper.specs.Posted.{posted, inTurn, Apart, BothAccepted, workZeroed, AllApart, AllAccepted, Shuffled, Reordered}
+use Rattle.paper_replacements.specs.Replacements.{Asked}
+use Rattle.paper_kept.specs.KeptCalls.{Kept, leftKept, keptBuild, keptReplace}
+use Rattle.paper_replacements.specs.KeptReplacements.{keptReady, keptOn, keptPresent, KeptHolds, keptAfterAll, KeptBeyond}
+use Rattle.paper_replacements.specs.Posted.{posted, inTurn, Apart, BothAccepted, workZeroed, AllApart, AllAccepted, Shuffled, Reordered}
 use Rattle.paper.specs.declared.Answer.the-variants.{Done}
 use Rattle.laws.proofs.Posted as changes
 use Rattle.laws.proofs.Shuffled as shuffled

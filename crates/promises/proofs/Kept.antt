@@ -14,13 +14,13 @@ use Rattle.paper.specs.Matrices.{P, A}
 use Rattle.paper.specs.Building.{Slices, build}
 use Rattle.paper.specs.Replacing.{stirs}
 use Rattle.paper.specs.Calls.{Lent, buildCall, replaceCall, stepCall}
-use Rattle.paper.specs.Replacements.{ready, Asked, afterAll}
+use Rattle.paper_replacements.specs.Replacements.{ready, Asked, afterAll}
 use Rattle.paper.specs.Running.{runCall, Untouched}
 use Rattle.paper.specs.Book.{power, book, Closed, Dark}
 use Rattle.paper.specs.Coupled.{firstOf}
-use Rattle.paper.specs.KeptCalls.{Kept, widened, startsJudged, keptBuild, keptReplace, nodesJudged, keptStep, keptRun}
-use Rattle.paper.specs.KeptReplacements.{keptReady, KeptHolds, keptAfterAll, FirstStray, keptAsLent, KeptBeyond, Alike}
-use Rattle.paper.specs.KeptBook.{KeptOwn, keptOpening, keptStepsOn, keptFellIn, AllKeptOwn}
+use Rattle.paper_kept.specs.KeptCalls.{Kept, widened, startsJudged, keptBuild, keptReplace, nodesJudged, keptStep, keptRun}
+use Rattle.paper_replacements.specs.KeptReplacements.{keptReady, KeptHolds, keptAfterAll, FirstStray, keptAsLent, KeptBeyond, Alike}
+use Rattle.paper_kept.specs.KeptBook.{KeptOwn, keptOpening, keptStepsOn, keptFellIn, AllKeptOwn}
 use Rattle.paper.specs.declared.Answer.the-variants.{Done, Refused}
 use Rattle.paper.specs.declared.Refusal.{Refusal}
 use Rattle.paper.specs.declared.Refusal.the-variants.{Stray}

@@ -9,10 +9,10 @@ use Rattle.paper.specs.Refusals.{andThen}
 use Rattle.paper.specs.Cards.{nodes, put}
 use Rattle.paper.specs.Judge.{newJudged}
 use Rattle.paper.specs.Replacing.{firstRow, stirs}
-use Rattle.paper.specs.Replacements.{Asked, asBuilt, deckAfter}
+use Rattle.paper_replacements.specs.Replacements.{Asked, asBuilt, deckAfter}
 use Rattle.paper.specs.Coupled.{firstOf}
-use Rattle.paper.specs.KeptCalls.{Kept, keptBuild, keptReplace}
-use Rattle.paper.specs.KeptReplacements.{keptReady, keptOn, keptPresent, KeptHolds, keptAfterAll, keptAsLent}
+use Rattle.paper_kept.specs.KeptCalls.{Kept, keptBuild, keptReplace}
+use Rattle.paper_replacements.specs.KeptReplacements.{keptReady, keptOn, keptPresent, KeptHolds, keptAfterAll, keptAsLent}
 use Rattle.paper.specs.declared.Answer.the-variants.{Done, Refused}
 use Rattle.paper.specs.declared.Refusal.{Refusal}
 use Rattle.laws.proofs.KeptDemand3 as calls

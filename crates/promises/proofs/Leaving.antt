@@ -8,7 +8,7 @@ use lib.ListN.{length, take, drop, replicate}
 use Rattle.paper.specs.Cards.{cards, rows, stepsOf}
 use Rattle.paper.specs.Replacing.{stirs}
 use Rattle.paper.specs.Calls.{countsIn, readCall, writeCall, Lent, long, worked, asLent, buildCall, replaceCall, stepCall}
-use Rattle.paper.specs.Replacements.{Beyond}
+use Rattle.paper_replacements.specs.Replacements.{Beyond}
 use Rattle.paper.specs.Running.{runCall, Untouched, Stopped}
 use Rattle.paper.specs.declared.Answer.the-variants.{Refused}
 use Rattle.paper.specs.declared.Refusal.{Refusal}

@@ -10,7 +10,7 @@ use borrow.Author.Tests.{ne-eqb}
 use Rattle.paper.specs.Refusals.{numberOf, placeOf}
 use Rattle.paper.specs.Calls.{readCall, writeCall, Lent, buildCall, replaceCall, stepCall}
 use Rattle.paper.specs.Running.{runCall}
-use Rattle.paper.specs.KeptCalls.{Kept, keptBuild, keptReplace, keptStep, keptRun}
+use Rattle.paper_kept.specs.KeptCalls.{Kept, keptBuild, keptReplace, keptStep, keptRun}
 use Rattle.paper_records.specs.Faults.{givenByFault}
 use Rattle.paper_records.specs.Records.{importCall}
 use Rattle.paper_zones.specs.Zones.{summariseCall, Zoned, zonesStep}

@@ -6,7 +6,7 @@ use Prim.Native.Nat.{ℕ, _/_, _%_, _≤_, _<_}
 use native.Mathlib.Omega.{arith}
 use Rattle.paper.specs.Refusals.{givenBy, numberOf, placeOf, Told, toldBy, refusal, told, toldStep, toldRun, packed}
 use Rattle.paper.specs.Calls.{Lent, stepCall}
-use Rattle.paper.specs.KeptCalls.{Kept, widened, keptStep}
+use Rattle.paper_kept.specs.KeptCalls.{Kept, widened, keptStep}
 use Rattle.paper_records.specs.Faults.{givenByFault, toldImport}
 use Rattle.paper_zones.specs.Zones.{Zoned, zonesStep}
 use Rattle.paper.specs.declared.Answer.{Answer}

@@ -10,7 +10,7 @@ use Rattle.paper.specs.Cards.{put}
 use Rattle.paper.specs.Judge.{newJudged}
 use Rattle.paper.specs.Replacing.{firstRow, stirs}
 use Rattle.paper.specs.Calls.{Lent, asLent, buildCall, replaceCall}
-use Rattle.paper.specs.Replacements.{ready, on, present, Holds, Asked, afterAll, asBuilt, deckAfter}
+use Rattle.paper_replacements.specs.Replacements.{ready, on, present, Holds, Asked, afterAll, asBuilt, deckAfter}
 use Rattle.paper.specs.declared.Answer.the-variants.{Done, Refused}
 use Rattle.paper.specs.declared.Refusal.{Refusal}
 use Rattle.laws.proofs.Calls as calls

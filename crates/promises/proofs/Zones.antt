@@ -6,7 +6,7 @@ use Prim.Native.Nat.{ℕ, _*_, _≤_, _<_}
 use lib.IntN.{ℤ}
 use lib.Signed.{_≤ℤ_}
 use lib.ListN.{length, getD, drop}
-use Rattle.paper.specs.KeptCalls.{keptStep}
+use Rattle.paper_kept.specs.KeptCalls.{keptStep}
 use Rattle.paper_zones.specs.Zones.{zones, zoneAt, ticksOf, coldest, hottest, extreme, Fresh, rowOf, changed, roomFor, summariseCall, Zoned, ZonesStepExit, zonesStep}
 use Rattle.paper.specs.declared.Answer.the-variants.{Done, Refused}
 use Rattle.paper.specs.declared.Refusal.{Refusal}

@@ -7,7 +7,7 @@ use lib.ListN.{length, getD}
 use Rattle.whole.specs.Kept.{starts, rowStarts, firstBy, expand}
 use Rattle.paper.specs.Cards.{nodes}
 use Rattle.paper.specs.Coupled.{firstOf, strayRow}
-use Rattle.paper.specs.KeptCalls.{keptLong}
+use Rattle.paper_kept.specs.KeptCalls.{keptLong}
 use Rattle.starts.specs.declared.Found.{Found}
 
 -- row starts: each row stands where the rows above it end, and `long` numbers are kept in all

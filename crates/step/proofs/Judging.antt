@@ -12,7 +12,7 @@ use Rattle.paper.specs.Refusals.{Outcome, refused, done, andThen, after, answer
 use Rattle.paper.specs.Cards.{nodes}
 use Rattle.paper.specs.Judge.{judged}
 use Rattle.paper.specs.Building.{slices}
-use Rattle.paper.specs.KeptCalls.{Kept, kept, keptLong, lengthsJudged, startsJudged, nodesJudged}
+use Rattle.paper_kept.specs.KeptCalls.{Kept, kept, keptLong, lengthsJudged, startsJudged, nodesJudged}
 use Rattle.paper.specs.declared.Answer.{Answer}
 use Rattle.paper.specs.declared.Answer.the-variants.{Done, Refused}
 use Rattle.paper.specs.declared.Refusal.{Refusal}

@@ -23,7 +23,7 @@ use Rattle.paper.specs.Lent.{foreign, laden, enough, opened, lentJudged}
 use Rattle.paper.specs.Step.{Board, Settling, boardOf, stepped, carriedOn, offScale}
 use Rattle.paper.specs.Calls.{Lent, StepExit, lent, leftStep, endsStep, stepCall}
 use Rattle.paper.specs.Coupled.{firstOf}
-use Rattle.paper.specs.KeptCalls.{keptLong}
+use Rattle.paper_kept.specs.KeptCalls.{keptLong}
 use Rattle.paper.specs.declared.Answer.{Answer}
 use Rattle.paper.specs.declared.Answer.the-variants as answer
 use Rattle.paper.specs.declared.Refusal.the-variants.{Short, Foreign, OffScale}

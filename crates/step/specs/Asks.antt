@@ -14,7 +14,7 @@ use Rattle.paper.specs.Lent.{foreign, laden}
 use Rattle.paper.specs.Step.{Settling, boardOf, stepped, offScale}
 use Rattle.paper.specs.Calls.{Lent, StepExit, leftStep, stepCall}
 use Rattle.paper.specs.Coupled.{firstOf}
-use Rattle.paper.specs.KeptCalls.{keptLong}
+use Rattle.paper_kept.specs.KeptCalls.{keptLong}
 use Rattle.paper.specs.declared.Answer.the-variants.{Done}
 use Rattle.paper.specs.declared.Refusal.the-variants.{Foreign, OffScale}
 use Rattle.laws.proofs.Decks.{Deck}

@@ -11,7 +11,7 @@ ghost use Rattle.paper.specs.Refusals.{done, after};
 ghost use Rattle.paper.specs.Building.{slices};
 ghost use Rattle.paper.specs.Step.{boardOf};
 ghost use Rattle.paper.specs.Calls.{lent, leftStep};
-ghost use Rattle.paper.specs.KeptCalls.{kept, keptLong, nodesJudged, leftKeptStep, keptStep};
+ghost use Rattle.paper_kept.specs.KeptCalls.{kept, keptLong, nodesJudged, leftKeptStep, keptStep};
 ghost use Rattle.laws.proofs.KeptCalls.{wideOf};
 ghost use Rattle.starts.specs.Lent.{wide};
 ghost use Rattle.correction.specs.Asks.{Sound};

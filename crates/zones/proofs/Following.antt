@@ -19,7 +19,7 @@ use Rattle.paper.specs.Judge.{judged}
 use Rattle.paper.specs.Lent.{laden, lentJudged}
 use Rattle.paper.specs.Step.{Settling, offScale}
 use Rattle.paper.specs.Calls.{Lent, lent, StepExit, leftStep, endsStep, stepCall}
-use Rattle.paper.specs.KeptCalls.{orElse}
+use Rattle.paper_kept.specs.KeptCalls.{orElse}
 use Rattle.paper_zones.specs.Zones.{refreshed, zonesJudged, settles}
 use Rattle.paper.specs.declared.Answer.{Answer}
 use Rattle.paper.specs.declared.Answer.the-variants.{Done, Refused}
@@ -34,7 +34,7 @@ use Rattle.laws.proofs.KeptCalls.{wideOf}
 use Rattle.laws.proofs.Zones.{right, AgreeTo, refreshed-ext}
 use Rattle.step.specs.Asks.{keepingStep}
 use Rattle.zones.specs.Asks.{ZonesEnding, zonesEnding, zonesEnd, exitEnding, rightOf, held, copied}
-use Rattle.zones.proofs.Afresh.{agree-take}
+use Rattle.afresh.proofs.Afresh.{agree-take}
 
 -- ---- an accepted step had its temperatures on the scale, so the copy has them as they were
 

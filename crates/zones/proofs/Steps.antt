@@ -11,7 +11,7 @@ use Rattle.paper.specs.Cards.{nodes}
 use Rattle.paper.specs.Judge.{judged}
 use Rattle.paper.specs.Step.{Settling}
 use Rattle.paper.specs.Calls.{Lent, lent, StepExit, leftStep, endsStep, stepCall}
-use Rattle.paper.specs.KeptCalls.{Kept, kept, orElse, lengthsJudged, startsJudged, KeptStepExit, leftKeptStep, nodesJudged, keptStep}
+use Rattle.paper_kept.specs.KeptCalls.{Kept, kept, orElse, lengthsJudged, startsJudged, KeptStepExit, leftKeptStep, nodesJudged, keptStep}
 use Rattle.paper_zones.specs.Zones.{refreshed, roomFor, zonesJudged, zoned, ZonesStepExit, leftZoned, settles, zonesStep}
 use Rattle.paper.specs.declared.Answer.{Answer}
 use Rattle.paper.specs.declared.Answer.the-variants.{Done, Refused}

@@ -1,39 +1,22 @@
--- What the stages of the zones' calls ask of each other, and what they come to.
-use mathlib.Core.Bool.{Bool, true, false, cond, _&&_}
+-- What the stages of the zones' step ask of each other, and what they come to.
+use mathlib.Core.Bool.{Bool, true, false, cond}
 use mathlib.Core.List.{List}
 use Prim.Native.Nat.{ℕ}
-use lib.Dec.{leb}
 use lib.IntN.{ℤ, pos}
 use lib.ListN.{length}
 use Rattle.whole.specs.Sums.{table}
 use Rattle.whole.specs.Packed.{cell}
 use Rattle.paper.specs.Ticks.{onScale}
-use Rattle.paper.specs.Refusals.{andThen}
-use Rattle.paper.specs.Step.{offScale}
-use Rattle.paper.specs.Calls.{whenDone, StepExit}
-use Rattle.paper.specs.KeptCalls.{orElse}
-use Rattle.paper_zones.specs.Zones.{laid, summaryOf, refreshed, refusedAt, roomFor, zonesJudged, ZonesExit, leftZones, settles}
+use Rattle.paper.specs.Calls.{StepExit}
+use Rattle.paper_kept.specs.KeptCalls.{orElse}
+use Rattle.paper_zones.specs.Zones.{refreshed, zonesJudged, settles}
 use Rattle.paper.specs.declared.Answer.{Answer}
 use Rattle.paper.specs.declared.Answer.the-variants.{Done, Refused}
 use Rattle.paper.specs.declared.Refusal.{Refusal}
-use Rattle.paper.specs.declared.Refusal.the-variants.{Short, OffScale}
+use Rattle.paper.specs.declared.Refusal.the-variants.{Short}
 use Rattle.paper.specs.declared.Stepped.{Stepped}
 use Rattle.paper.specs.declared.Stepped.the-variants as stepAnswer
 use Rattle.settle.specs.Asks.{Ending, ending}
-
--- ---- a summary made afresh
-
--- past the deck's refusals: 9, 11, and those of the zones
-unfoldable pub summarisesOf : ℕ → List ℤ → List ℕ → List ℕ → List ℕ → List ℕ → Answer
-summarisesOf n temperatures counts members edges summary =
-    andThen (cond (leb n (length temperatures) && roomFor counts members summary) Done (Refused Short))
-    (andThen (refusedAt (offScale n temperatures) OffScale)
-    (zonesJudged n counts members edges))
-
-abbrev pub exitOf : Answer → List ℤ → List ℕ → List ℕ → List ℕ → List ℕ → ZonesExit
-exitOf a t counts members edges summary = leftZones a (whenDone a (laid counts (summaryOf t counts members edges) summary) summary)
-
--- ---- a step
 
 -- an answer, and what is left in place of the old temperatures, of what was carried and of the summary
 pub record ZonesEnding : Type 0 where

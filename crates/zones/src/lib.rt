@@ -1,4 +1,4 @@
-// Waveform zones: a summary made afresh, and a step that keeps one.
+// Waveform zones: a step that keeps their summary.
 use paper::Answer;
 use paper::Refusal;
 use paper::Stepped;
@@ -12,95 +12,12 @@ ghost use lib.ListN.{length, take};
 ghost use Rattle.paper.specs.Cards.{nodes};
 ghost use Rattle.paper.specs.Judge.{judged};
 ghost use Rattle.paper.specs.Calls.{lent, stepCall};
-ghost use Rattle.paper.specs.KeptCalls.{kept};
-ghost use Rattle.paper_zones.specs.Zones.{refreshed, roomFor, zonesJudged, leftZones, summariseCall, zoned, leftZoned, zonesStep};
+ghost use Rattle.paper_kept.specs.KeptCalls.{kept};
+ghost use Rattle.paper_zones.specs.Zones.{refreshed, roomFor, zonesJudged, zoned, leftZoned, zonesStep};
 ghost use Rattle.paper.specs.declared.Answer.the-variants.{Done};
 ghost use Rattle.laws.proofs.KeptCalls.{wideOf};
 ghost use Rattle.step.specs.Asks.{Past};
-ghost use Rattle.zones.specs.Asks.{exitOf, summarisesOf, zonesEnding, zonesEnd, exitEnding, shortOf, rightOf, held, copied};
-
-// ---- a summary made afresh
-
-// Past the deck's refusals, 9 and 11, of the deck's temperatures.
-fn past_11(
-    temperatures: &[i64],
-    counts: &[u32],
-    members: &[u32],
-    edges: &[u32],
-    summary: &mut [u32],
-) -> Answer
-    requires { ⌜ roomFor (now counts) (now members) (now summary) ≡ true ⌝ }
-    ensures { λ a. ⌜ leftZones a (now (summary .exit)) ≡ exitOf (zonesJudged (length (now (temperatures .entry))) (now (counts .entry)) (now (members .entry)) (now (edges .entry))) (now (temperatures .entry)) (now (counts .entry)) (now (members .entry)) (now (edges .entry)) (now (summary .entry)) ⌝ }
-{
-    let n = temperatures.len();
-    let verdict = bands::judge(counts, members, edges, n);
-    if let Answer::Refused(why) = verdict {
-        return Answer::Refused(why);
-    }
-    let before = [0i32; 1];
-    bands::refresh(
-        true,
-        &before[..],
-        temperatures,
-        counts,
-        members,
-        edges,
-        &mut summary[..],
-    );
-    Answer::Done
-}
-
-// Past the deck's refusals.
-fn past_deck(
-    temperatures: &[i64],
-    counts: &[u32],
-    members: &[u32],
-    edges: &[u32],
-    summary: &mut [u32],
-    n: usize,
-) -> Answer
-    requires { ⌜ n ≤ 96 ⌝ }
-    ensures { λ a. ⌜ leftZones a (now (summary .exit)) ≡ exitOf (summarisesOf n (now (temperatures .entry)) (now (counts .entry)) (now (members .entry)) (now (edges .entry)) (now (summary .entry))) (now (temperatures .entry)) (now (counts .entry)) (now (members .entry)) (now (edges .entry)) (now (summary .entry)) ⌝ }
-{
-    if temperatures.len() < n {
-        return Answer::Refused(Refusal::Short);
-    }
-    if !bands::room_for(counts, members, &summary[..]) {
-        return Answer::Refused(Refusal::Short);
-    }
-    let node = lent::off_scale(temperatures, n);
-    if node != 0 {
-        return Answer::Refused(Refusal::OffScale(node));
-    }
-    past_11(
-        &temperatures[0..n],
-        counts,
-        members,
-        edges,
-        &mut summary[..],
-    )
-}
-
-// The summary of the temperatures lent. It is written only where nothing is refused.
-pub fn summarise(
-    table: &[u32],
-    temperatures: &[i64],
-    counts: &[u32],
-    members: &[u32],
-    edges: &[u32],
-    summary: &mut [u32],
-) -> Answer
-    ensures { λ a. ⌜ leftZones a (now (summary .exit)) ≡ summariseCall (now (table .entry)) (now (temperatures .entry)) (now (counts .entry)) (now (members .entry)) (now (edges .entry)) (now (summary .entry)) ⌝ }
-{
-    let verdict = cards::judge(table);
-    if let Answer::Refused(why) = verdict {
-        return Answer::Refused(why);
-    }
-    let n = element::nodes(table);
-    past_deck(temperatures, counts, members, edges, &mut summary[..], n)
-}
-
-// ---- a step, and the zones with a changed node
+ghost use Rattle.zones.specs.Asks.{zonesEnding, zonesEnd, exitEnding, shortOf, rightOf, held, copied};
 
 // A temperature in 32 bits. One that is off the scale is refused by the step, so any number does for it.
 fn held(x: i64) -> i32

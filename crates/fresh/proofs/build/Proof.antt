@@ -5,7 +5,7 @@ use mathlib.Core.Path.{refl, sym, ap, _∙_}
 use mathlib.Core.List.{[]}
 use native.Mathlib.Omega.{arith}
 use Rattle.paper.specs.Refusals.{andThen}
-use Rattle.paper.specs.KeptCalls.{kept, keptRoomy, lengthsJudged}
+use Rattle.paper_kept.specs.KeptCalls.{kept, keptRoomy, lengthsJudged}
 use Rattle.paper.specs.declared.Answer.{Answer}
 use Rattle.laws.proofs.Judged.{deck}
 use Rattle.laws.proofs.KeptCalls.{build-refused}

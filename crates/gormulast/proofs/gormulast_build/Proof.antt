@@ -4,7 +4,7 @@ use Rattle.gormulast.proofs.gormulast_build.Tie as tie
 use mathlib.Core.Path.{ap, _∙_}
 use Rattle.paper.specs.Refusals.{told, packed}
 use Rattle.paper.specs.Calls.{gave}
-use Rattle.paper.specs.KeptCalls.{KeptExit}
+use Rattle.paper_kept.specs.KeptCalls.{KeptExit}
 
 build-requires : tie.Need-build-requires
 build-requires c κs = search needs

@@ -4,7 +4,7 @@ use Rattle.gormulast.proofs.gormulast_step.Tie as tie
 use mathlib.Core.Path.{ap, _∙_}
 use Rattle.paper.specs.Refusals.{toldStep, packed}
 use Rattle.paper.specs.Calls.{gave}
-use Rattle.paper.specs.KeptCalls.{KeptStepExit}
+use Rattle.paper_kept.specs.KeptCalls.{KeptStepExit}
 
 step-requires : tie.Need-step-requires
 step-requires c κs = search needs

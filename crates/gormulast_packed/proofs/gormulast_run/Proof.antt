@@ -3,7 +3,7 @@ use Rattle.gormulast_packed.proofs.gormulast_run.Statement.{statement}
 use Rattle.gormulast_packed.proofs.gormulast_run.Tie as tie
 use mathlib.Core.Path.{ap, _∙_}
 use Rattle.paper.specs.Calls.{gave}
-use Rattle.paper.specs.KeptCalls.{KeptRunExit}
+use Rattle.paper_kept.specs.KeptCalls.{KeptRunExit}
 use Rattle.gormulast_packed.specs.Runs.{ranPacked}
 
 run-requires : tie.Need-run-requires

@@ -3,11 +3,11 @@ use Rattle.run.proofs.judged_run.Statement.{statement}
 use Rattle.run.proofs.judged_run.Tie as tie
 use mathlib.Core.Path.{ap, _∙_}
 use mathlib.Core.List.{[]}
-use Rattle.paper.specs.KeptCalls.{kept}
+use Rattle.paper_kept.specs.KeptCalls.{kept}
 use Rattle.laws.proofs.Cursor.{cursor-next}
 use Rattle.laws.proofs.Turns.{run-first-refused, run-opened}
-use Rattle.run.specs.Asks.{said}
-use Rattle.run.proofs.Turning.{leaves-at}
+use Rattle.changes.specs.Asks.{said}
+use Rattle.turns.proofs.Turning.{leaves-at}
 
 first-change-requires : tie.Need-first-change-requires
 first-change-requires c κs = search needs

@@ -3,7 +3,7 @@ use Rattle.run.proofs.run.Statement.{statement}
 use Rattle.run.proofs.run.Tie as tie
 use mathlib.Core.Path.{_≡_, sym, _∙_}
 use native.Mathlib.Omega.{arith}
-use Rattle.paper.specs.KeptCalls.{kept}
+use Rattle.paper_kept.specs.KeptCalls.{kept}
 use Rattle.laws.proofs.Judged.{deck}
 use Rattle.laws.proofs.Spans.{steps-in}
 use Rattle.laws.proofs.Turns.{run-none, run-stopped, run-finished}

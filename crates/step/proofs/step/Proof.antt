@@ -3,7 +3,7 @@ use Rattle.step.proofs.step.Statement.{statement}
 use Rattle.step.proofs.step.Tie as tie
 use mathlib.Core.Path.{sym, ap, _∙_}
 use mathlib.Core.List.{[]}
-use Rattle.paper.specs.KeptCalls.{kept}
+use Rattle.paper_kept.specs.KeptCalls.{kept}
 use Rattle.laws.proofs.KeptCalls.{step-refused, step-ends}
 use Rattle.step.specs.Asks.{opens}
 use Rattle.step.proofs.Judging.{told-refused, told-done, past}

@@ -7,7 +7,7 @@ use lib.IntN.{pos}
 use lib.ListN.{replicate}
 use Rattle.laws.proofs.Judged.{deck}
 use Rattle.step.proofs.Arrays.{part-long}
-use Rattle.zones.proofs.Afresh.{few-of}
+use Rattle.afresh.proofs.Afresh.{few-of}
 
 nodes-requires : tie.Need-nodes-requires
 nodes-requires c κs = deck (c .before .before .before .before .before .before .args .table .now) (c .before .before .before .before .before .before .pre .0 .judge)

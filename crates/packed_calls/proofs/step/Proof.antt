@@ -1,0 +1,61 @@
+use borrow.Author.Needs.{needs}
+use Rattle.packed_calls.proofs.step.Statement.{statement}
+use Rattle.packed_calls.proofs.step.Tie as tie
+use mathlib.Core.Path.{refl, sym, _∙_}
+use native.Mathlib.Omega.{arith}
+use Rattle.laws.proofs.Judged.{deck}
+use Rattle.fresh.proofs.Own.{array-part}
+use Rattle.packed_calls.proofs.Faces.{step-first}
+
+judge-requires : tie.Need-judge-requires
+judge-requires c κs = search needs
+
+enum-known-r : tie.Need-enum-known-r
+enum-known-r c = search needs
+
+returns : tie.Need-returns
+returns c = step-first (c .before .before .before .before .before .args .table .now) (c .before .before .before .before .before .args .p .now) (c .before .before .before .before .before .args .a .now) (c .before .before .before .before .before .args .factor .now) (c .before .before .before .before .before .args .temperatures .now) (c .before .before .before .before .before .args .carried .now) (c .before .r .given .0 .0) (c .before .r .given .1) (c .before .before .before .judge .ensures)
+
+enum-told : tie.Need-enum-told
+enum-told c = search needs
+
+nodes-requires : tie.Need-nodes-requires
+nodes-requires c κs = deck (c .before .before .before .before .args .table .now) (sym (c .before .before .judge .ensures) ∙ c .enum-told .given .1)
+
+sub-step-by : tie.Need-sub-step-by
+sub-step-by c = search needs
+
+part-starts-start : tie.Need-part-starts-start
+part-starts-start c = search needs
+
+part-starts-end : tie.Need-part-starts-end
+part-starts-end c = omega (arith, c .before .before .nodes .ensures, deck (c .before .before .before .before .before .before .before .args .table .now) (sym (c .before .before .before .before .before .judge .ensures) ∙ c .before .before .before .enum-told .given .1) .someN)
+
+step-by-requires : tie.Need-step-by-requires
+step-by-requires c κs = (sym (c .before .before .before .before .before .before .judge .ensures) ∙ c .before .before .before .before .enum-told .given .1, array-part _ refl (c .before .before .before .nodes .ensures) (deck (c .before .before .before .before .before .before .before .before .args .table .now) (sym (c .before .before .before .before .before .before .judge .ensures) ∙ c .before .before .before .before .enum-told .given .1) .someN .1))
+
+same-length : tie.Need-same-length
+same-length c = search needs
+
+same-length-2 : tie.Need-same-length-2
+same-length-2 c = search needs
+
+returns-2 : tie.Need-returns-2
+returns-2 c = c .before .before .before .step-by .ensures
+
+pub step-spec : {M : Type 1} → statement M
+step-spec =
+    tie.close
+    (tie.spec
+    judge-requires
+    enum-known-r
+    returns
+    enum-told
+    nodes-requires
+    sub-step-by
+    part-starts-start
+    part-starts-end
+    step-by-requires
+    same-length
+    same-length-2
+    returns-2)
