@@ -119,7 +119,7 @@ static void measure_replaces(void)
 		if (card-- == 0)
 			continue;
 		name[8] = *letter;
-		measure(name, call_replace, 1152);
+		measure(name, call_replace, 1024);
 	}
 }
 
@@ -137,11 +137,11 @@ int main(int count, char **words)
 	fclose(deck);
 	measure("read", call_read, 512);
 	measure("write", call_write, 512);
-	measure("build", call_build, 1152);
+	measure("build", call_build, 1128);
 	measure_replaces();
 	for (i = 0; i < GORMULAST_MAX_NODES; i++)
 		temperatures[i] = table[2];
-	measure("step", call_step, 2048 + 256); /* a frame, and what the functions below it take */
+	measure("step", call_step, 2048 + 176); /* a frame, and what the functions below it take */
 	for (i = 0; i < GORMULAST_MAX_ZONES; i++) {
 		counts[i] = 1;
 		members[i] = (uint32_t)(i % 3 + 1);
@@ -150,6 +150,6 @@ int main(int count, char **words)
 		edges[i] = (uint32_t)i;
 	measure("zones", call_zones, 640);
 	/* a step's; the temperatures before it in 32 bits; the zones' slices, which are kept over the step */
-	measure("zones step", call_zones_step, 2048 + 256 + 384 + 192);
+	measure("zones step", call_zones_step, 2048 + 176 + 384 + 192);
 	return failed;
 }
