@@ -1,12 +1,12 @@
 use borrow.Author.Needs.{needs}
-use Rattle.turns.proofs.turn.Statement.{statement}
-use Rattle.turns.proofs.turn.Tie as tie
+use Rattle.turn.proofs.turn.Statement.{statement}
+use Rattle.turn.proofs.turn.Tie as tie
 use mathlib.Core.Path.{_≡_, sym, subst}
 use Prim.Native.Nat.{ℕ, _+_}
 use native.Mathlib.Numerals.{add-one}
 use native.Mathlib.Omega.{arith}
 use Rattle.changes.specs.Asks.{Making}
-use Rattle.turns.proofs.Turning.{not-made, past-made, step-stopped, step-made}
+use Rattle.turn.proofs.Turning.{not-made, past-made, step-stopped, step-made}
 
 add-changes : tie.Need-add-changes
 add-changes c = search needs

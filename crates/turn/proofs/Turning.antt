@@ -22,7 +22,7 @@ use Rattle.step.specs.Asks.{Past}
 use Rattle.changes.specs.Asks.{said, Leaves}
 use Rattle.changes.specs.declared.Next.{Next}
 use Rattle.changes.specs.declared.Next.the-variants as next
-use Rattle.turns.proofs.Past.{past-judged, past-still}
+use Rattle.turn.proofs.Past.{past-judged, past-still}
 
 -- what is left where none is refused
 pub leaves-at : (t t′ : List ℕ) (k : ℕ) (n : Next) (row : ℕ) → Leaves t t′ k n → n ≡ next.At row → Still t t′ × Cursor t′ k (suc k) row

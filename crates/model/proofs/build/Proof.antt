@@ -1,6 +1,6 @@
 use borrow.Author.Needs.{needs}
-use Rattle.fresh.proofs.build.Statement.{statement}
-use Rattle.fresh.proofs.build.Tie as tie
+use Rattle.model.proofs.build.Statement.{statement}
+use Rattle.model.proofs.build.Tie as tie
 use mathlib.Core.Path.{refl, sym, ap, _∙_}
 use mathlib.Core.List.{[]}
 use native.Mathlib.Omega.{arith}
