@@ -20,7 +20,7 @@ fn past_11(
     ensures { λ a. ⌜ leftZones a (now (summary .exit)) ≡ exitOf (zonesJudged (length (now (temperatures .entry))) (now (counts .entry)) (now (members .entry)) (now (edges .entry))) (now (temperatures .entry)) (now (counts .entry)) (now (members .entry)) (now (edges .entry)) (now (summary .entry)) ⌝ }
 {
     let n = temperatures.len();
-    let verdict = bands::judge(counts, members, edges, n);
+    let verdict = zones_judged::judge(counts, members, edges, n);
     if let Answer::Refused(why) = verdict {
         return Answer::Refused(why);
     }
@@ -52,7 +52,7 @@ fn past_deck(
     if temperatures.len() < n {
         return Answer::Refused(Refusal::Short);
     }
-    if !bands::room_for(counts, members, &summary[..]) {
+    if !zones_judged::room_for(counts, members, &summary[..]) {
         return Answer::Refused(Refusal::Short);
     }
     let node = lent::off_scale(temperatures, n);

@@ -15,8 +15,8 @@ use Rattle.paper.specs.Calls.{joined}
 use Rattle.paper_zones.specs.Zones.{zones, zoneStart, zoneAt, rowOf, wrong}
 use Rattle.laws.proofs.Zones.{start-more}
 use Rattle.bands.specs.Asks.{Moved, Laid, rowThen, rowsThen}
-use Rattle.bands.proofs.InRows.{rows-more, rows-end}
-use Rattle.bands.proofs.Turns.{zone-is}
+use Rattle.laws.proofs.InRows.{rows-more, rows-end}
+use Rattle.laws.proofs.Zones.{zone-is}
 
 abbrev piece : Bool → List ℤ → List ℤ → List ℕ → List ℕ → List ℕ → List ℕ → ℕ → List ℕ
 piece all old new counts members edges summary z = rowThen all old new edges (zoneAt counts members z) (rowOf summary z)

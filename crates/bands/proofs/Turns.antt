@@ -1,24 +1,21 @@
--- One turn of each loop over a zone, the edges or the counts.
+-- One turn of each loop over a zone or the edges.
 use mathlib.Core.Path.{_≡_, refl, sym, ap, subst, _∙_}
-use mathlib.Core.Bool.{Bool, true, false, cond, _||_, _&&_}
+use mathlib.Core.Bool.{Bool, true, false, cond, _||_}
 use mathlib.Core.List.{List, [], _∷_}
-use Prim.Native.Nat.{ℕ, zero, suc, _+_, _-_, _*_, _/_, _^_, _≤_, _<_}
+use Prim.Native.Nat.{ℕ, _+_, _^_, _≤_, _<_}
 use native.Mathlib.Numerals.{add-one}
 use native.Mathlib.Omega.{arith}
-use lib.Dec.{leb, ltb, eqb}
+use lib.Dec.{ltb}
 use lib.IntN.{ℤ, pos}
 use lib.Signed.{ltZ, leZ}
-use lib.ListN.{length, getD, take, drop, set, drop-of-length-le}
+use lib.ListN.{length, getD, drop, set, drop-of-length-le}
 use lib.Seq.{drop-cons}
 use mir.Syntax.{w32, w64}
 use mir.Val.{SFits, toZ}
 use mir.Facts.{toZ-ofZ, toZ-pos}
-use borrow.Author.Tests.{le-leb, lt-leb, leb-true, leb-false, lt-ltb, le-ltb, eq-eqb, ne-eqb}
-use Rattle.whole.specs.Sums.{any}
-use Rattle.whole.specs.Packed.{cell}
 use Rattle.whole.proofs.Calc.{rd}
-use Rattle.paper_zones.specs.Zones.{zones, zoneStart, zoneAt, ticksOf, ahead, leads, better, best, extreme, reached, band, three, differ, changed, roomFor, crowded, outside, wrong, sunk}
-use Rattle.laws.proofs.Zones.{start-more, start-upto, right-some, right-in}
+use Rattle.paper_zones.specs.Zones.{ticksOf, ahead, leads, better, best, extreme, reached, band, three, differ, changed, wrong}
+use Rattle.laws.proofs.Zones.{right-some, right-in}
 use Rattle.lent.proofs.Narrow.{rd32, wide-is}
 use Rattle.bands.specs.Asks.{Node, Zoned, Moved, rowThen}
 
@@ -145,62 +142,3 @@ module _ (all : Bool) (old new : List ℤ) (edges zone row left : List ℕ) wher
 
   pub row-kept : (r : Bool) → r ≡ changed old new zone → all ≡ false → r ≡ false → row ≡ rowThen all old new edges zone row
   row-kept r q h p = sym (λ i. cond (h i || (sym q ∙ p) i) (three new edges zone) row)
-
--- ---- a wrong zone
-
-module _ (n : ℕ) (zone : List ℕ) where
-  pub wrong-empty : length zone ≡ 0 → true ≡ wrong n zone
-  unfolding wrong
-  wrong-empty e = sym (ap (λ (b : Bool). b || any (length zone) (λ k. outside n (getD zone k 0))) (eq-eqb (length zone) 0 e))
-
-  pub wrong-rest : (length zone ≡ 0 → ⊥) → (r : Bool) → r ≡ any (length zone) (λ k. outside n (getD zone k 0)) → r ≡ wrong n zone
-  unfolding wrong
-  wrong-rest h r e = e ∙ sym (ap (λ (b : Bool). b || any (length zone) (λ k. outside n (getD zone k 0))) (ne-eqb (length zone) 0 h))
-
--- ---- the counts
-
--- zone z ends within the members
-pub zone-in : (counts members : List ℕ) (z at : ℕ) → at ≡ zoneStart counts z → z < zones counts → zoneStart counts (zones counts) ≤ length members → at + getD counts z 0 ≤ length members
-zone-in counts members z at e h l = omega (arith, e, start-more counts z, start-upto counts (z + 1) (zones counts) (omega arith))
-
-pub zone-is : (counts members : List ℕ) (z at : ℕ) → at ≡ zoneStart counts z → take (at + getD counts z 0 - at) (drop at members) ≡ zoneAt counts members z
-zone-is counts members z at e =
-    let s : at + getD counts z 0 - at ≡ getD counts z 0 = omega arith in
-    λ i. take (s i) (drop (e i) members)
-
-module _ (counts members summary : List ℕ) (left z : ℕ) (e : zoneStart counts z + left ≡ length members) where
-  pub room-short : z < zones counts → left < getD counts z 0 → false ≡ roomFor counts members summary
-  unfolding roomFor
-  room-short h l =
-      sym (ap (λ (b : Bool). b && leb (zones counts * 3) (length summary))
-      (lt-leb (zoneStart counts (zones counts)) (length members) (omega (arith, e, start-more counts z, start-upto counts (z + 1) (zones counts) (omega arith)))))
-
-  pub room-end : z ≡ zones counts → leb (zones counts) (length summary / 3) ≡ roomFor counts members summary
-  unfolding roomFor
-  room-end q = go (leb (zones counts) (length summary / 3)) refl
-    where
-      all : leb (zoneStart counts (zones counts)) (length members) ≡ true
-      all = le-leb (zoneStart counts (zones counts)) (length members) (omega (arith, e, ap (zoneStart counts) q))
-
-      go : (b : Bool) → leb (zones counts) (length summary / 3) ≡ b → b ≡ leb (zoneStart counts (zones counts)) (length members) && leb (zones counts * 3) (length summary)
-      go true p = sym (λ i. all i && le-leb (zones counts * 3) (length summary) (omega (arith, leb-true (zones counts) (length summary / 3) p)) i)
-      go false p = sym (λ i. all i && lt-leb (zones counts * 3) (length summary) (omega (arith, leb-false (zones counts) (length summary / 3) p)) i)
-
--- ---- the edges, and too many
-
-pub sunk-is : (edges : List ℕ) (k : ℕ) → (k ≡ 0 → ⊥) → leb (getD edges k 0) (getD edges (k - 1) 0) ≡ sunk edges k
-sunk-is edges zero h = absurd (h refl)
-sunk-is edges (suc k) h = ap (λ (j : ℕ). leb (getD edges (suc k) 0) (getD edges j 0)) (let z : suc k - 1 ≡ k = omega arith in z)
-
-module _ (counts edges : List ℕ) where
-  pub crowded-zones : 16 < zones counts → true ≡ crowded counts edges
-  unfolding crowded
-  crowded-zones h = sym (ap (λ (b : Bool). b || (ltb 14 (length edges) || any (zones counts) (λ z. ltb 96 (getD counts z 0)))) (lt-ltb 16 (zones counts) h))
-
-  pub crowded-edges : zones counts ≤ 16 → 14 < length edges → true ≡ crowded counts edges
-  unfolding crowded
-  crowded-edges h l = sym (λ i. le-ltb 16 (zones counts) h i || (lt-ltb 14 (length edges) l i || any (zones counts) (λ z. ltb 96 (getD counts z 0))))
-
-  pub crowded-rest : zones counts ≤ 16 → length edges ≤ 14 → (r : Bool) → r ≡ any (zones counts) (λ z. ltb 96 (getD counts z 0)) → r ≡ crowded counts edges
-  unfolding crowded
-  crowded-rest h l r e = e ∙ sym (λ i. le-ltb 16 (zones counts) h i || (le-ltb 14 (length edges) l i || any (zones counts) (λ z. ltb 96 (getD counts z 0))))

@@ -30,7 +30,7 @@ use Rattle.laws.proofs.Narrowed.{over-all}
 use Rattle.laws.proofs.Calls.{buildOutcome, build-is}
 use Rattle.starts.specs.Lent.{Starts, wide, Turned}
 use Rattle.packed.specs.Asks.{Sound, Suits}
-use Rattle.packed.proofs.Spots.{wide-zeros}
+use Rattle.adding.proofs.Spots.{wide-zeros}
 use Rattle.factor.specs.Asks.{Ready}
 use Rattle.work.specs.Asks.{made, Factored}
 use Rattle.work.proofs.Stages.{cleared-size}

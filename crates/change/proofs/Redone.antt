@@ -40,8 +40,9 @@ use Rattle.triangle.specs.Forms.{numbers}
 use Rattle.part.specs.Forms.{cornersOf, doesBy}
 use Rattle.part.specs.Asks.{Full}
 use Rattle.part.specs.declared.Corners.{Corners}
-use Rattle.packed.specs.Asks.{Keeps, Takes, Suits}
-use Rattle.packed.proofs.Adding.{square-size}
+use Rattle.adding.specs.Asks.{Keeps, Takes}
+use Rattle.packed.specs.Asks.{Suits}
+use Rattle.adding.proofs.Adding.{square-size}
 use Rattle.packed.proofs.Squares.{takes, gives}
 use Rattle.packed.proofs.Assembling.{part-row, part-keeps}
 use Rattle.change.specs.Asks.{Renews}

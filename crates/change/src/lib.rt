@@ -19,7 +19,7 @@ ghost use Rattle.starts.specs.Lent.{wide, Turned};
 ghost use Rattle.triangle.specs.Forms.{numbers};
 ghost use Rattle.element.specs.Asks.{ElementCard};
 ghost use Rattle.part.specs.Asks.{Card, Solid};
-ghost use Rattle.packed.specs.Asks.{Takes};
+ghost use Rattle.adding.specs.Asks.{Takes};
 ghost use Rattle.change.specs.Asks.{InBodies, Changes, Renews, Added, Taken};
 
 // The element whose card stands in a row.
@@ -110,8 +110,8 @@ pub fn matrices(
     ensures { λ _. ⌜ Turned (now (starts .entry)) (now (p .entry)) (now (p .exit)) (addSquare (c .count) (wide (now (starts .entry)) (now (p .entry))) (numbers (c .nodes)) (at u)) ⌝ }
     ensures { λ _. ⌜ Turned (now (starts .entry)) (now (a .entry)) (now (a .exit)) (addSquare (c .count) (wide (now (starts .entry)) (now (a .entry))) (numbers (c .nodes)) (at q)) ⌝ }
 {
-    packed::add_square(p, starts, c, u);
-    packed::add_square(a, starts, c, q);
+    adding::add_square(p, starts, c, u);
+    adding::add_square(a, starts, c, q);
 }
 
 // The card in its row.

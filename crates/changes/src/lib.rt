@@ -53,7 +53,7 @@ fn card_of(table: &[u32], at: usize) -> usize
 {
     let letter = element::field(table, at, 2);
     let key = element::field(table, at, 3);
-    cards::card_named(cards::counts_at(table), table, at, letter, key)
+    naming::card_named(cards::counts_at(table), table, at, letter, key)
 }
 
 // That card with its new values.

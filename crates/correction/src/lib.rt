@@ -1,7 +1,7 @@
 // One correction of the temperatures: forward and back through the factor, then the adding.
 use paper::Answer;
 use paper::Refusal;
-use paper::Ticks;
+use ticks::Ticks;
 ghost use mathlib.Core.Path.{_≡_};
 ghost use Prim.Native.Nat.{_-_, _^_, _≤_};
 ghost use lib.IntN.{ℤ, pos, natAbs, _+ℤ_, _*ℤ_};

@@ -1,4 +1,4 @@
-// A fresh build: its refusals, document 01's build, and then the row starts.
+// A fresh build of a judged deck: refusal 9, document 01's build, and then the row starts.
 use paper::Answer;
 use paper::Refusal;
 ghost use mathlib.Core.Path.{_≡_};
@@ -22,7 +22,7 @@ fn keep(own: &[u32], starts: &mut [u32])
 }
 
 // By row starts of its own: the lent ones are written last, on acceptance alone.
-fn by_own(
+pub fn by_own(
     table: &[u32],
     p: &mut [i64],
     a: &mut [i64],
@@ -52,30 +52,4 @@ fn by_own(
     }
     keep(&own[..], &mut starts[0..n]);
     Answer::Done
-}
-
-pub fn build(
-    table: &[u32],
-    p: &mut [i64],
-    a: &mut [i64],
-    factor: &mut [i64],
-    work: &mut [i64],
-    starts: &mut [u32],
-) -> Answer
-    ensures { λ r. ⌜ leftKept r (kept (now (table .entry)) (now (p .exit)) (now (a .exit)) (now (factor .exit)) (now (work .exit)) (now (starts .exit)) [] []) ≡ keptBuild (kept (now (table .entry)) (now (p .entry)) (now (a .entry)) (now (factor .entry)) (now (work .entry)) (now (starts .entry)) [] []) ⌝ }
-{
-    if let Answer::Refused(r) = cards::judge(table) {
-        return Answer::Refused(r);
-    }
-    let n = element::nodes(table);
-    let mut own = [0u32; 96];
-    by_own(
-        table,
-        &mut p[..],
-        &mut a[..],
-        &mut factor[..],
-        &mut work[..],
-        &mut starts[..],
-        &mut own[0..n],
-    )
 }

@@ -15,7 +15,7 @@ pub extern "C" fn gormulast_read(
     ensures { λ r. ⌜ gave r (marked (now (start .exit)) (now (end .exit)) (now (table .exit))) ≡ readToC (now (bytes .entry)) (now (table .entry)) ⌝ }
 {
     let mut answer: u64 = 0;
-    let part = deck::read(bytes, &mut table[..], &mut answer);
+    let part = reading::read(bytes, &mut table[..], &mut answer);
     if answer == 0 {
         *start = (bytes.len() - part.len()) as u64;
         *end = bytes.len() as u64;
@@ -30,7 +30,7 @@ pub extern "C" fn gormulast_read(
 pub extern "C" fn gormulast_write(table: &[u32], bytes: &mut [u8]) -> u64
     ensures { λ r. ⌜ gave r (now (bytes .exit)) ≡ writeToC (now (table .entry)) (now (bytes .entry)) ⌝ }
 {
-    packing::packed_answer(deck::write(table, &mut bytes[..]))
+    packing::packed_answer(writing::write(table, &mut bytes[..]))
 }
 
 #[no_mangle]

@@ -5,7 +5,7 @@ use libc::STDOUT_FILENO;
 use paper::Answer;
 use paper::Ran;
 use paper::Refusal;
-use paper::Ticks;
+use ticks::Ticks;
 
 // The matrix length of 96 nodes, the most that a deck has.
 const LONGEST: usize = 4_656;
@@ -123,17 +123,17 @@ fn ran(table: &mut [u32]) {
 }
 
 fn main() {
-    let mut bytes = [0u8; deck::BYTES + 1];
-    let mut table = [0u32; deck::NUMBERS];
+    let mut bytes = [0u8; reading::BYTES + 1];
+    let mut table = [0u32; reading::NUMBERS];
     let mut answer: u64 = 0;
     let n = io::read_full(STDIN_FILENO, &mut bytes);
-    let part = deck::read(&bytes[..n], &mut table, &mut answer);
+    let part = reading::read(&bytes[..n], &mut table, &mut answer);
     if answer != 0 {
         line(b"R", answer % 256, answer / 65_536);
         return;
     }
     let k = part.len() / 42 * 6;
-    if k <= deck::NUMBERS {
+    if k <= reading::NUMBERS {
         ran(&mut table[0..k]);
     }
 }

@@ -4,7 +4,7 @@ use Prim.Native.Nat.{ℕ, zero, suc, _+_, _-_, _≤_}
 use native.Mathlib.Nat.{add-zero}
 use native.Mathlib.Omega.{arith}
 use Rattle.whole.specs.Sums.{sumN}
-use Rattle.paper.specs.Kinds.{about, ends}
+use Rattle.paper.specs.Kinds.{about, bodies, ends}
 use Rattle.paper.specs.Cards.{before}
 use Rattle.paper.specs.declared.About.{About}
 use Rattle.paper.specs.declared.Counts.{Counts}
@@ -16,6 +16,11 @@ module _ (z : Counts) where
   unfolding before sumN
   cards-are = refl
 
+  -- those before the elements, as the code counts them
+  pub some-before : before z bodies ≡ 1 + z .nodes + z .materials
+  unfolding before sumN
+  some-before = refl
+
   -- no card stands past the sections
   more : (s : ℕ) → before z (suc (suc (suc (suc (suc (suc s)))))) ≡ before z 6
   unfolding before sumN
@@ -26,6 +31,11 @@ module _ (z : Counts) where
   before-past s h =
       let e : s ≡ suc (suc (suc (suc (suc (suc (s - 6)))))) = omega arith in
       sym (ap (before z) e ∙ more (s - 6))
+
+-- an element's section
+pub body-section : about E .section ≡ 3
+unfolding about
+body-section = refl
 
 -- how large the numbers about a kind are
 pub record Small (a : About) : Type 0 where

@@ -2,7 +2,7 @@
 use paper::About;
 use paper::Counts;
 use paper::Kind;
-use paper::Ticks;
+use ticks::Ticks;
 ghost use mathlib.Core.Path.{_≡_};
 ghost use mathlib.Core.Bool.{cond};
 ghost use Prim.Native.Nat.{ℕ, _+_, _-_, _^_, _≤_, _<_};

@@ -7,7 +7,7 @@ use native.Mathlib.Omega.{arith}
 use borrow.Author.Tests.{leb-true, ltb-false, eqb-false}
 use lib.Dec.{leb, ltb, eqb}
 use lib.IntN.{ℤ}
-use lib.ListN.{length, getD, drop}
+use lib.ListN.{length, getD, take, drop}
 use Rattle.whole.specs.Sums.{any}
 use Rattle.whole.proofs.Sums.{any-ext, any-each, first-none, sumN-more, sumN-upto}
 use Rattle.whole.proofs.Tests.{nor-told, and-told}
@@ -148,3 +148,14 @@ module _ (n : ℕ) (old old′ new new′ : List ℤ) (eo : AgreeTo n old old′
   refreshed-ext counts members edges summary each =
       ap (λ (l : List ℕ). l ++ drop (zones counts * 3) summary)
       (joined-same (λ z. cond (changed old new (zoneAt counts members z)) (three new edges (zoneAt counts members z)) (rowOf summary z)) (λ z. cond (changed old′ new′ (zoneAt counts members z)) (three new′ edges (zoneAt counts members z)) (rowOf summary z)) (zones counts) 0 (λ z l h. row-ext edges (zoneAt counts members z) (rowOf summary z) (each z (omega arith))))
+
+-- ---- a zone as the code cuts it out
+
+-- zone z ends within the members
+pub zone-in : (counts members : List ℕ) (z at : ℕ) → at ≡ zoneStart counts z → z < zones counts → zoneStart counts (zones counts) ≤ length members → at + getD counts z 0 ≤ length members
+zone-in counts members z at e h l = omega (arith, e, start-more counts z, start-upto counts (z + 1) (zones counts) (omega arith))
+
+pub zone-is : (counts members : List ℕ) (z at : ℕ) → at ≡ zoneStart counts z → take (at + getD counts z 0 - at) (drop at members) ≡ zoneAt counts members z
+zone-is counts members z at e =
+    let s : at + getD counts z 0 - at ≡ getD counts z 0 = omega arith in
+    λ i. take (s i) (drop (e i) members)

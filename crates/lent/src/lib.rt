@@ -2,8 +2,8 @@
 // scale. The numbers may be of any size, the least i64 too. Rows are kept from their first columns on, by the row starts.
 use paper::Answer;
 use paper::Refusal;
-use paper::Ticks;
 use starts::Found;
+use ticks::Ticks;
 ghost use mathlib.Core.Path.{_≡_};
 ghost use mathlib.Core.Bool.{not, _&&_};
 ghost use Prim.Native.Nat.{_+_, _^_, _≤_, _<_};

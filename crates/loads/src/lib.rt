@@ -1,8 +1,8 @@
 // What the cards of a judged deck say of each node: its loads, put on top of what it carries, and the temperature that it is held at.
 use paper::Kind;
 use paper::Node;
-use paper::Ticks;
 use part::Corners;
+use ticks::Ticks;
 ghost use mathlib.Core.Path.{_≡_};
 ghost use mathlib.Core.Bool.{cond};
 ghost use Prim.Native.Nat.{_+_};
@@ -62,7 +62,7 @@ fn add_card(table: &[u32], r: &mut [i64], row: usize)
 {
     let card = element::card_at(table, row);
     let corners = part::corners_of(table, card);
-    let shares = part::shares(table, card);
+    let shares = shares::shares(table, card);
     spread(&mut r[..], corners, shares);
 }
 

@@ -14,17 +14,17 @@ fn refused(answer: u64) {
 
 // The table's deck as bytes.
 fn written(table: &[u32]) {
-    let mut bytes = [0u8; deck::BYTES];
+    let mut bytes = [0u8; reading::BYTES];
     let k = table.len() / 6 * 42;
-    let answer = deck::write(table, &mut bytes);
-    if k <= deck::BYTES {
+    let answer = writing::write(table, &mut bytes);
+    if k <= reading::BYTES {
         io::write_all(STDOUT_FILENO, &bytes[0..k]);
     }
 }
 
 // The table's deck with the records as cards: a row more for each but the last.
 fn imported(table: &[u32], records: &[u8]) {
-    let mut second = [0u32; deck::NUMBERS];
+    let mut second = [0u32; reading::NUMBERS];
     let answer = faults::packed_import(import::import(table, records, &mut second));
     if answer != 0 {
         refused(answer);
@@ -34,17 +34,17 @@ fn imported(table: &[u32], records: &[u8]) {
     if k < 6 {
         return;
     }
-    if k - 6 <= deck::NUMBERS {
+    if k - 6 <= reading::NUMBERS {
         written(&second[0..k - 6]);
     }
 }
 
 fn main() {
-    let mut bytes = [0u8; deck::BYTES + 1];
-    let mut table = [0u32; deck::NUMBERS];
+    let mut bytes = [0u8; reading::BYTES + 1];
+    let mut table = [0u32; reading::NUMBERS];
     let mut answer: u64 = 0;
     let n = io::read_full(STDIN_FILENO, &mut bytes);
-    let part = deck::read(&bytes[..n], &mut table, &mut answer);
+    let part = reading::read(&bytes[..n], &mut table, &mut answer);
     if answer != 0 {
         refused(answer);
         return;
@@ -54,7 +54,7 @@ fn main() {
     if n < m {
         return;
     }
-    if k <= deck::NUMBERS {
+    if k <= reading::NUMBERS {
         imported(&table[0..k], &bytes[0..n - m]);
     }
 }

@@ -14,13 +14,19 @@ pub fn build(
 ) -> Answer
     ensures { λ r. ⌜ leftKept r (kept (now (table .entry)) (now (p .exit)) (now (a .exit)) (now (factor .exit)) (now (work .exit)) (now (starts .exit)) [] []) ≡ keptBuild (kept (now (table .entry)) (now (p .entry)) (now (a .entry)) (now (factor .entry)) (now (work .entry)) (now (starts .entry)) [] []) ⌝ }
 {
-    fresh::build(
+    if let Answer::Refused(r) = cards::judge(table) {
+        return Answer::Refused(r);
+    }
+    let n = element::nodes(table);
+    let mut own = [0u32; 96];
+    fresh::by_own(
         table,
         &mut p[..],
         &mut a[..],
         &mut factor[..],
         &mut work[..],
         &mut starts[..],
+        &mut own[0..n],
     )
 }
 

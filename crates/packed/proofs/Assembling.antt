@@ -37,8 +37,9 @@ use Rattle.part.specs.Asks.{Card, Solid, Full}
 use Rattle.part.specs.declared.Corners.{Corners}
 use Rattle.part.specs.declared.Does.{Does}
 use Rattle.part.proofs.Parts.{As, as-kind, card-at}
-use Rattle.packed.specs.Asks.{Keeps, Takes, Sound, Suits, Walked, addsTo, has}
-use Rattle.packed.proofs.Spots.{wide-zeros, turned-as}
+use Rattle.adding.specs.Asks.{Keeps, Takes}
+use Rattle.packed.specs.Asks.{Sound, Suits, Walked, addsTo, has}
+use Rattle.adding.proofs.Spots.{wide-zeros, turned-as}
 use Rattle.packed.proofs.Squares.{takes, gives}
 
 -- ---- the card in a row, as its six numbers

@@ -17,7 +17,7 @@ use Rattle.triangle.specs.Forms.{numbers}
 use Rattle.part.specs.Forms.{cornersOf}
 use Rattle.part.specs.Asks.{Full}
 use Rattle.part.specs.declared.Corners.{Corners}
-use Rattle.packed.specs.Asks.{Keeps, Takes}
+use Rattle.adding.specs.Asks.{Keeps, Takes}
 
 -- ---- only the first n corners count, and the first n rows of the square
 

@@ -20,8 +20,9 @@ use Rattle.triangle.specs.Forms.{numbers}
 use Rattle.part.specs.Forms.{cornersOf, doesBy}
 use Rattle.part.specs.Asks.{Card, Solid, Full}
 use Rattle.part.specs.declared.Corners.{Corners}
-use Rattle.packed.specs.Asks.{Takes, Walked, addsTo, has}
-use Rattle.packed.proofs.Spots.{turned-as}
+use Rattle.adding.specs.Asks.{Takes}
+use Rattle.packed.specs.Asks.{Walked, addsTo, has}
+use Rattle.adding.proofs.Spots.{turned-as}
 use Rattle.packed.proofs.Squares.{unchanged}
 use Rattle.packed.proofs.Assembling.{idle-row, has-stirs, stirring, solid-row, walk-takes, a-gives, p-gives}
 

@@ -1,17 +1,13 @@
 // What a card adds to the model, of its six numbers. A new kind of card is a line in `by_kind`, and the code of its own part.
 use paper::Kind;
 use paper::Node;
-use paper::Ticks;
 ghost use mathlib.Core.Path.{_≡_};
-ghost use mathlib.Core.Bool.{cond};
 ghost use mathlib.Core.List.{List};
 ghost use Prim.Native.Nat.{ℕ, _+_, _*_, _-_, _^_, _≤_, _<_, min};
-ghost use lib.Dec.{ltb};
-ghost use lib.IntN.{pos};
 ghost use lib.ListN.{length, getD};
-ghost use Rattle.whole.specs.Squares.{squareOf, Holds};
+ghost use Rattle.whole.specs.Squares.{Holds};
 ghost use Rattle.paper.specs.Kinds.{kindOf};
-ghost use Rattle.paper.specs.Parts.{heatShare, partOf, partFor, least, leastRow};
+ghost use Rattle.paper.specs.Parts.{partOf, partFor, least};
 ghost use Rattle.laws.proofs.Places.{squareA};
 ghost use Rattle.part.specs.Forms.{cornersOf, line, doesBy, does, baseOf};
 ghost use Rattle.part.specs.Asks.{Card, Solid, Full};
@@ -87,7 +83,7 @@ pub fn stirs(letter: u32) -> bool
 // ---- corners
 
 // The card that has a card's corners in its first fields: itself, or that of the element that it names.
-fn base(table: &[u32], card: [u32; 6]) -> [u32; 6]
+pub fn base(table: &[u32], card: [u32; 6]) -> [u32; 6]
     requires { ⌜ Card (now table) card ⌝ }
     ensures { λ r. ⌜ r ≡ baseOf (now (table .entry)) card ⌝ }
 {
@@ -99,7 +95,7 @@ fn base(table: &[u32], card: [u32; 6]) -> [u32; 6]
 }
 
 // How many.
-fn count(base: [u32; 6]) -> usize
+pub fn count(base: [u32; 6]) -> usize
     ensures { λ r. ⌜ r ≡ does base .corners ⌝ }
 {
     let it = by_letter(base[0]);
@@ -169,7 +165,7 @@ pub fn stored(table: &[u32], card: [u32; 6]) -> u64
     element::stored(table, card)
 }
 
-fn film(table: &[u32], card: [u32; 6]) -> u64
+pub fn film(table: &[u32], card: [u32; 6]) -> u64
     requires { ⌜ Card (now table) card ⌝ }
     ensures { λ r. ⌜ (r ≡ partFor (now (table .entry)) card .film) × (r ≤ 349500) ⌝ }
 {
@@ -207,57 +203,4 @@ pub fn square_a(table: &[u32], card: [u32; 6]) -> [[i64; 4]; 4]
 {
     let mut stored: u64 = 0;
     terms(table, card, &mut stored)
-}
-
-// ---- loads
-
-// A part of what is dealt out, and one more of what is left over.
-fn dealt(part: u64, rest: u64, corner: u64) -> u64
-    requires { ⌜ part < 2 ^ 63 ⌝ }
-    ensures { λ r. ⌜ r ≡ part + cond (ltb corner rest) 1 0 ⌝ }
-{
-    if corner < rest {
-        return part + 1;
-    }
-    part
-}
-
-// A heat's shares: equal parts, and what is left over to the first corners.
-fn heat_shares(corners: usize, heat: u32) -> [u64; 4]
-    requires { ⌜ (1 ≤ corners) × (corners ≤ 4) ⌝ }
-    ensures { λ r. ⌜ ((a : ℕ) → a < 4 → pos (getD r a 0) ≡ heatShare corners heat a) ⌝ }
-{
-    let all = Ticks::KELVIN as u64 * heat as u64;
-    let n = corners as u64;
-    let part = all / n;
-    let rest = all % n;
-    [
-        dealt(part, rest, 0),
-        dealt(part, rest, 1),
-        dealt(part, rest, 2),
-        dealt(part, rest, 3),
-    ]
-}
-
-// A corner's row of the film, which sums to 4 of it over a face and to 3 along an edge, times the ambient.
-fn film_load(corners: usize, film: u64, ambient: Ticks) -> u64
-    requires { ⌜ (corners ≤ 4) × (film ≤ 349500) ⌝ }
-    ensures { λ r. ⌜ r ≡ (1 + corners) * film * ambient .0 ⌝ }
-{
-    (1 + corners as u64) * film * ambient.0 as u64
-}
-
-// The share of each corner.
-pub fn shares(table: &[u32], card: [u32; 6]) -> [u64; 4]
-    requires { ⌜ Card (now table) card ⌝ }
-    ensures { λ r. ⌜ ((a : ℕ) → a < 4 → pos (getD r a 0) ≡ partFor (now (table .entry)) card .load a) ⌝ }
-{
-    let it = by_letter(card[0]);
-    let at = it.value;
-    let n = count(base(table, card));
-    if it.heats {
-        return heat_shares(n, card[at]);
-    }
-    let v = film_load(n, film(table, card), Ticks(card[at + 1]));
-    [v, v, v, v]
 }

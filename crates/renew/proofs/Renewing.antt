@@ -30,7 +30,7 @@ use Rattle.part.specs.Forms.{cornersOf}
 use Rattle.part.specs.Asks.{Full}
 use Rattle.part.specs.declared.Corners.{Corners}
 use Rattle.packed.specs.Asks.{Suits}
-use Rattle.packed.proofs.Spots.{wide-zeros}
+use Rattle.adding.proofs.Spots.{wide-zeros}
 use Rattle.lent.specs.Rows.{Light}
 use Rattle.lent.proofs.Told.{light-entry}
 use Rattle.work.specs.Asks.{made, laid, added, addedFixed, Factored, Refactors}

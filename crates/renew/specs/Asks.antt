@@ -18,7 +18,8 @@ use Rattle.whole.specs.Squares.{squareOf}
 use Rattle.starts.specs.Lent.{wide}
 use Rattle.triangle.specs.Forms.{numbers}
 use Rattle.part.specs.declared.Corners.{Corners}
-use Rattle.packed.specs.Asks.{Takes, Suits}
+use Rattle.adding.specs.Asks.{Takes}
+use Rattle.packed.specs.Asks.{Suits}
 use Rattle.lent.specs.Rows.{Light}
 use Rattle.work.specs.Asks.{made}
 use Rattle.change.specs.Asks.{Changes, Renews}

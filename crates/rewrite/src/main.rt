@@ -15,26 +15,26 @@ fn refused(answer: u64) {
 
 // The table's deck as bytes.
 fn written(table: &[u32]) {
-    let mut bytes = [0u8; deck::BYTES];
+    let mut bytes = [0u8; reading::BYTES];
     let k = table.len() / 6 * 42;
-    let answer = deck::write(table, &mut bytes);
-    if k <= deck::BYTES {
+    let answer = writing::write(table, &mut bytes);
+    if k <= reading::BYTES {
         io::write_all(STDOUT_FILENO, &bytes[0..k]);
     }
 }
 
 fn main() {
-    let mut bytes = [0u8; deck::BYTES + 1];
-    let mut table = [0u32; deck::NUMBERS];
+    let mut bytes = [0u8; reading::BYTES + 1];
+    let mut table = [0u32; reading::NUMBERS];
     let mut answer: u64 = 0;
     let n = io::read_full(STDIN_FILENO, &mut bytes);
-    let part = deck::read(&bytes[..n], &mut table, &mut answer);
+    let part = reading::read(&bytes[..n], &mut table, &mut answer);
     if answer != 0 {
         refused(answer);
         return;
     }
     let k = part.len() / 42 * 6;
-    if k <= deck::NUMBERS {
+    if k <= reading::NUMBERS {
         written(&table[0..k]);
     }
 }

@@ -12,15 +12,14 @@ use Rattle.whole.proofs.Sums.{table-at, table-ext, table-length, table-cells}
 use Rattle.paper.specs.Cards.{nodes}
 use Rattle.paper.specs.Matrices.{held}
 use Rattle.paper.specs.Radiation.{loadNow}
-use Rattle.paper.specs.Step.{Board, boardOf, residual, residuals}
+use Rattle.paper.specs.Step.{boardOf}
 use Rattle.lent.specs.Rows.{Light, Mild, Borne}
-use Rattle.correction.specs.Asks.{Forth}
 use Rattle.residual.specs.Asks.{board, Fair}
-use Rattle.residual.proofs.Paper.{residual-size}
 use Rattle.loads.specs.Asks.{Each, Unloads}
 use Rattle.loads.proofs.Walk.{now-size, carrying-size}
 use Rattle.loads.proofs.Held.{held-size}
-use Rattle.settle.specs.Asks.{Ready, Trying, Begins}
+use Rattle.attempts.specs.Asks.{Trying}
+use Rattle.settle.specs.Asks.{Ready, Begins}
 
 warm : {t : List ℕ} {p a old carried : List ℤ} {n : ℕ} → Ready t p a old carried n → Mild old (nodes t)
 warm {old = old} q = subst (Mild old) (q .count) (q .old-mild)
@@ -42,22 +41,8 @@ fair {t} {p} {a} {old} {carried} {n} q = record {
   old-mild = warm q;
 }
 
--- residuals are what a correction takes
-pub forth : {b : Board} {t : List ℤ} → Fair b → Mild t (b .n) → Forth (residuals b t) 0 (b .n)
-unfolding residuals
-forth {b} {t} q s = record {
-  long = table-length (b .n) (residual b t);
-  upto = omega arith;
-  below = λ j h. absurd (omega arith);
-  above = λ j _ h. subst (λ (z : ℤ). natAbs z ≤ 2 ^ 60) (sym (table-at (b .n) j (residual b t) h)) (residual-size q s h);
-}
-
 off-again : (x y : ℤ) → x +ℤ y -ℤ x ≡ y
 off-again x y = omega (zarith, plusL x y, minusL (x +ℤ y) x)
-
--- other temperatures, and what the pass left
-pub again : {b : Board} {u r u′ r′ : List ℤ} → Trying b u r → Mild u′ (b .n) → length r′ ≡ b .n → Trying b u′ r′
-again q s h = record { fair = q .fair; u-mild = s; r-long = h }
 
 -- ---- the loads, on top of what is carried
 

@@ -15,7 +15,8 @@ use Rattle.paper.specs.declared.Refusal.{Refusal}
 use Rattle.paper.specs.declared.Stepped.{Stepped}
 use Rattle.paper.specs.declared.Stepped.the-variants.{Settled, Refused}
 use Rattle.residual.specs.Asks.{board}
-use Rattle.settle.specs.Asks.{Begins, ended, Ending, ending, endsAs, stepsTo, writes, keeping}
+use Rattle.attempts.specs.Asks.{ended}
+use Rattle.settle.specs.Asks.{Begins, Ending, ending, endsAs, stepsTo, writes, keeping}
 use Rattle.settle.proofs.Boards.{board-is, unloaded}
 
 -- an end that leaves all as it was, kept or not

@@ -1,4 +1,4 @@
--- What the corrections ask, and what they leave. Matrices and factors are packed triangles here.
+-- What a step asks past its refusals, and what it leaves. Matrices and factors are packed triangles here.
 use mathlib.Core.Path.{_≡_}
 use mathlib.Core.Bool.{Bool, true, false}
 use mathlib.Core.List.{List}
@@ -9,12 +9,11 @@ use Rattle.whole.specs.Sums.{table}
 use Rattle.paper.specs.Refusals.{Outcome, refused, done}
 use Rattle.paper.specs.Cards.{nodes}
 use Rattle.paper.specs.Matrices.{held}
-use Rattle.paper.specs.Step.{Board, boardOf, Settling, settled, stepped, carriedOn}
+use Rattle.paper.specs.Step.{Board, boardOf, Settling, stepped, carriedOn}
 use Rattle.paper.specs.declared.Stepped.{Stepped}
 use Rattle.paper.specs.declared.Stepped.the-variants.{Settled, Refused}
 use Rattle.laws.proofs.Decks.{Deck}
 use Rattle.lent.specs.Rows.{Light, Mild, Borne}
-use Rattle.residual.specs.Asks.{Fair}
 
 -- past refusal 11: what the residuals are of
 pub record Ready (t : List ℕ) (p a old carried : List ℤ) (n : ℕ) : Type 0 where
@@ -25,23 +24,12 @@ pub record Ready (t : List ℕ) (p a old carried : List ℤ) (n : ℕ) : Type 0 
   pub old-mild : Mild old n
   pub borne : Borne carried n
 
--- the temperatures u so far, and room for their residuals
-pub record Trying (b : Board) (u r : List ℤ) : Type 0 where
-  pub fair : Fair b
-  pub u-mild : Mild u (b .n)
-  pub r-long : length r ≡ b .n
-
 -- with the T cards' temperatures looked up, and room for new temperatures and for residuals
 pub record Begins (t : List ℕ) (p a fixed old carried u r : List ℤ) (n : ℕ) : Type 0 where
   pub ready : Ready t p a old carried n
   pub fixed-is : fixed ≡ table (nodes t) (held t)
   pub u-long : length u ≡ n
   pub r-long : length r ≡ n
-
--- an answer with the temperatures and their residuals that are left where it is no refusal
-abbrev pub ended : Stepped → List ℤ → List ℤ → Outcome Settling
-ended (Settled c) t r = settled c t r
-ended (Refused q) t r = refused q
 
 -- an answer, and what is left in place of the old temperatures and of what was carried
 pub record Ending : Type 0 where

@@ -1,64 +1,15 @@
 // Steps in turn, each with the changes of its increment before it.
 use changes::Next;
 use paper::Answer;
-use paper::Stepped;
 use step::Judged;
 ghost use mathlib.Core.Path.{_≡_};
-ghost use Prim.Native.Nat.{suc, _≤_, _<_};
+ghost use Prim.Native.Nat.{_≤_};
 ghost use Rattle.paper.specs.Judge.{judged};
 ghost use Rattle.paper_kept.specs.KeptCalls.{kept, leftKept};
 ghost use Rattle.paper.specs.declared.Answer.the-variants.{Done};
 ghost use Rattle.laws.proofs.Cursor.{Cursor};
-ghost use Rattle.laws.proofs.Turns.{turnOf, turnsFrom};
+ghost use Rattle.laws.proofs.Turns.{turnsFrom};
 ghost use Rattle.step.specs.Asks.{Past};
-ghost use Rattle.changes.specs.Asks.{said, Leaves};
-
-// A step with its changes, which are looked for from a row on.
-fn turn(
-    table: &mut [u32],
-    p: &mut [i64],
-    a: &mut [i64],
-    factor: &mut [i64],
-    work: &mut [i64],
-    starts: &[u32],
-    temperatures: &mut [i64],
-    carried: &mut [i64],
-    long: usize,
-    at: usize,
-    count: u32,
-) -> Next
-    requires { ⌜ Past (now table) (now p) (now a) (now factor) (now starts) (now temperatures) (now carried) long × Cursor (now table) (suc count) (suc count) at × (count < 4294967295) ⌝ }
-    ensures { λ r. ⌜ (leftKept (said r) (kept (now (table .exit)) (now (p .exit)) (now (a .exit)) (now (factor .exit)) (now (work .exit)) (now (starts .entry)) (now (temperatures .exit)) (now (carried .exit))) ≡ turnOf count at (kept (now (table .entry)) (now (p .entry)) (now (a .entry)) (now (factor .entry)) (now (work .entry)) (now (starts .entry)) (now (temperatures .entry)) (now (carried .entry)))) × Leaves (now (table .entry)) (now (table .exit)) (suc count) r ⌝ }
-{
-    let made = changes::changes(
-        &mut table[..],
-        &mut p[..],
-        &mut a[..],
-        &mut factor[..],
-        &mut work[..],
-        starts,
-        at,
-        count + 1,
-    );
-    let Next::At(row) = made else {
-        return made;
-    };
-    let answer = step::judged_step(
-        &table[..],
-        &p[..],
-        &a[..],
-        &factor[..],
-        starts,
-        &mut temperatures[..],
-        &mut carried[..],
-        long,
-        true,
-    );
-    if let Stepped::Refused(why) = answer {
-        return Next::Refused(why);
-    }
-    Next::At(row)
-}
 
 // k of them, as far as none is refused.
 fn turns(
@@ -80,7 +31,7 @@ fn turns(
     let mut at = first;
     let mut count: u32 = 0;
     while count < k {
-        match turn(
+        match turn::turn(
             &mut table[..],
             &mut p[..],
             &mut a[..],

@@ -17,7 +17,7 @@ use Rattle.paper.specs.declared.Answer.{Answer}
 use Rattle.paper.specs.declared.Answer.the-variants.{Done, Refused}
 use Rattle.paper.specs.declared.Refusal.{Refusal}
 use Rattle.starts.specs.Lent.{wide, Turned}
-use Rattle.packed.proofs.Spots.{wide-zeros}
+use Rattle.adding.proofs.Spots.{wide-zeros}
 use Rattle.work.specs.Asks.{Factored}
 
 -- A' of a matrix that is a slice's

@@ -17,7 +17,7 @@ use Rattle.laws.proofs.Places.{addSquare}
 use Rattle.starts.specs.Lent.{wide, Turned}
 use Rattle.triangle.specs.Forms.{numbers}
 use Rattle.part.specs.declared.Corners.{Corners}
-use Rattle.packed.specs.Asks.{Takes}
+use Rattle.adding.specs.Asks.{Takes}
 
 -- what was made, or else this
 abbrev pub made : {X : Type 0} → Outcome X → X → X

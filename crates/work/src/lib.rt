@@ -22,7 +22,7 @@ pub fn prepare(table: &[u32], work: &mut [i64], starts: &[u32])
     ensures { λ _. ⌜ Turned (now (starts .entry)) (now (work .entry)) (now (work .exit)) (lower (nodes (now (table .entry))) (cleared (fixed (now (table .entry))) (matrices.A (now (table .entry))))) ⌝ }
 {
     packed::assemble_a(table, &mut work[..], starts);
-    packed::clear_fixed(table, &mut work[..], starts);
+    clearing::clear_fixed(table, &mut work[..], starts);
 }
 
 // The factor from row m on; zeros where it is refused.
@@ -56,8 +56,8 @@ fn change(table: &[u32], a: &[i64], work: &mut [i64], starts: &[u32], c: Corners
     ensures { λ _. ⌜ Turned (now (starts .entry)) (now (work .entry)) (now (work .exit)) (addedFixed (now (table .entry)) (added (wide (now (starts .entry)) (now (a .entry))) c q)) ⌝ }
 {
     whole::slices::copy(a, &mut work[..]);
-    packed::add_square(&mut work[..], starts, c, q);
-    packed::clear_fixed(table, &mut work[..], starts);
+    adding::add_square(&mut work[..], starts, c, q);
+    clearing::clear_fixed(table, &mut work[..], starts);
 }
 
 // The same below the rows of the factor above row m, which stay.

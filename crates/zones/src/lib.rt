@@ -2,8 +2,8 @@
 use paper::Answer;
 use paper::Refusal;
 use paper::Stepped;
-use paper::Ticks;
 use step::Judged;
+use ticks::Ticks;
 ghost use mathlib.Core.Path.{_≡_};
 ghost use mathlib.Core.Bool.{true};
 ghost use mathlib.Core.List.{[]};
@@ -89,7 +89,7 @@ fn followed(
     ensures { λ e. ⌜ zonesEnding e (now (temperatures .exit)) (now (carried .exit)) (now (summary .exit)) ≡ zonesEnd (nodes (now (table .entry))) (now (counts .entry)) (now (members .entry)) (now (edges .entry)) (now (summary .entry)) (now (temperatures .entry)) (now (carried .entry)) (exitEnding (stepCall (lent (now (table .entry)) (wideOf (now (table .entry)) (now (p .entry))) (wideOf (now (table .entry)) (now (a .entry))) (wideOf (now (table .entry)) (now (factor .entry))) [] (now (temperatures .entry)) (now (carried .entry))))) ⌝ }
 {
     let n = old.len();
-    let verdict = bands::judge(counts, members, edges, n);
+    let verdict = zones_judged::judge(counts, members, edges, n);
     let e = step::judged_step(
         table,
         p,
@@ -220,7 +220,7 @@ pub fn step(
 ) -> Stepped
     ensures { λ e. ⌜ leftZoned e (zoned (kept (now (table .entry)) (now (p .entry)) (now (a .entry)) (now (factor .entry)) [] (now (starts .entry)) (now (temperatures .exit)) (now (carried .exit))) (now (summary .exit))) ≡ zonesStep (zoned (kept (now (table .entry)) (now (p .entry)) (now (a .entry)) (now (factor .entry)) [] (now (starts .entry)) (now (temperatures .entry)) (now (carried .entry))) (now (summary .entry))) (now (counts .entry)) (now (members .entry)) (now (edges .entry)) ⌝ }
 {
-    if !bands::room_for(counts, members, &summary[..]) {
+    if !zones_judged::room_for(counts, members, &summary[..]) {
         return short(table);
     }
     match step::judge(table, p, a, factor, starts, &temperatures[..], &carried[..]) {

@@ -7,7 +7,7 @@ use Prim.Native.Nat.{_+_, _-_, _*_, _≤_}
 use native.Mathlib.Omega.{arith}
 use borrow.Rule.Slice.PartMut.{mid-len}
 use lib.ListN.{length}
-use Rattle.bands.proofs.Turns.{zone-in}
+use Rattle.laws.proofs.Zones.{zone-in}
 use Rattle.bands.proofs.Refreshing.{Refreshing, refresh-start, row-in, refresh-asks, refresh-on, refresh-end}
 
 abbrev Inv-loop : tie.InvT-loop

@@ -6,7 +6,7 @@ use mathlib.Core.List.{List}
 use Prim.Native.Nat.{ℕ, _+_, _-_}
 use native.Mathlib.Omega.{arith}
 use Rattle.paper.specs.Cards as paper
-use Rattle.cards.proofs.Rows.{lent}
+use Rattle.laws.proofs.Rows.{lent}
 use Rattle.cards.proofs.NewCard.{answers-none, answers-past, answers-kept, answers-same}
 
 returns : tie.Need-returns

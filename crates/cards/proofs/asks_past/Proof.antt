@@ -10,7 +10,7 @@ use Rattle.paper.specs.Cards.{before, rowAt}
 use Rattle.paper.specs.Judge.{asks}
 use Rattle.paper.specs.declared.About.{About}
 use Rattle.paper.specs.declared.Kind.{Kind}
-use Rattle.cards.proofs.OneCard.{change-C, plain-C, changes-stand}
+use Rattle.cards.proofs.Asking.{change-C, plain-C, changes-stand}
 
 about-requires : tie.Need-about-requires
 about-requires c κs = search needs

@@ -5,7 +5,7 @@ use mathlib.Core.Path.{_≡_, sym, ap, _∙_}
 use Rattle.paper.specs.Cards.{rowAt}
 use Rattle.paper.specs.declared.About.{About}
 use Rattle.paper.specs.declared.Kind.the-variants.{E, F, R}
-use Rattle.cards.proofs.OneCard.{asks-by, asks-none, source-asks}
+use Rattle.cards.proofs.Asking.{asks-by, asks-none, source-asks}
 
 about-requires : tie.Need-about-requires
 about-requires c κs = search needs

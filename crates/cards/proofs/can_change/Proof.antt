@@ -9,7 +9,7 @@ use lib.Dec.{eqb}
 use Rattle.paper.specs.Kinds.{about}
 use Rattle.paper.specs.Cards.{rowAt}
 use Rattle.paper.specs.declared.About.{About}
-use Rattle.cards.proofs.OneCard.{change-not, change-named}
+use Rattle.cards.proofs.Asking.{change-not, change-named}
 
 shared-slice-read-kind : tie.Need-shared-slice-read-kind
 shared-slice-read-kind c = search needs

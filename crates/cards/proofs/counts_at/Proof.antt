@@ -8,7 +8,7 @@ use native.Mathlib.Omega.{arith}
 use lib.ListN.{getD}
 use Rattle.paper.specs.Cards.{countsOf, letter, rows, rowAt}
 use Rattle.laws.proofs.Tables.{row-field}
-use Rattle.cards.proofs.Rows.{lent}
+use Rattle.laws.proofs.Rows.{lent}
 
 sub-at : tie.Need-sub-at
 sub-at c = search needs

@@ -6,8 +6,8 @@ use Prim.Native.Nat.{ℕ, _-_}
 use native.Mathlib.Omega.{arith}
 use lib.Dec.{eqb}
 use Rattle.paper.specs.Cards.{rowAt}
-use Rattle.cards.proofs.OneCard.{full-early, full-late}
-use Rattle.cards.proofs.Rows.{first-at}
+use Rattle.cards.proofs.Asking.{full-early, full-late}
+use Rattle.laws.proofs.Rows.{first-at}
 
 returns : tie.Need-returns
 returns c = full-early (rowAt (c .before .before .args .t .now)) (c .before .before .args .i) (c .before .before .args .a) (c .if1 .taken)

@@ -5,7 +5,7 @@ use mathlib.Core.Path.{_≡_, sym, ap, _∙_}
 use native.Mathlib.Omega.{arith}
 use lib.Dec.{eqb}
 use Rattle.paper.specs.Cards.{rowAt}
-use Rattle.cards.proofs.OneCard.{level-not, level-is}
+use Rattle.cards.proofs.Asking.{level-not, level-is}
 
 shared-slice-read-number-at : tie.Need-shared-slice-read-number-at
 shared-slice-read-number-at c = search needs

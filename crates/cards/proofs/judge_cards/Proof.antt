@@ -11,7 +11,7 @@ use Rattle.paper.specs.Judge.{judgeFrom}
 use Rattle.paper.specs.declared.About.{About}
 use Rattle.laws.proofs.Judging.{judge-on, judge-here, judge-end}
 use Rattle.laws.proofs.Past.{Turn, first-turn, next-turn}
-use Rattle.cards.proofs.Rows.{lent, letter-at}
+use Rattle.laws.proofs.Rows.{lent, letter-at}
 
 abbrev Inv-loop : tie.InvT-loop
 Inv-loop counts t rows i₀ group₀ key₀ i group key = (i ≤ rows) × (judgeFrom counts (rowAt t) rows 0 0 0 ≡ judgeFrom counts (rowAt t) (rows - i) i group key) × Turn counts (rowAt t) i group key

@@ -12,7 +12,7 @@ use Rattle.paper.specs.declared.About.{About}
 use Rattle.paper.specs.declared.Kind.{Kind}
 use Rattle.laws.proofs.Judged.{stands-told, one-told}
 use Rattle.laws.proofs.Judging.{alone-refused, asked-not, asked-done}
-use Rattle.cards.proofs.Rows.{lent, lent-card}
+use Rattle.laws.proofs.Rows.{lent, lent-card}
 
 mul-at : tie.Need-mul-at
 mul-at c = search needs

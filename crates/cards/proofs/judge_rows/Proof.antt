@@ -9,7 +9,7 @@ use Rattle.paper.specs.Cards.{rowAt}
 use Rattle.paper.specs.Judge.{trailer, judgeFrom}
 use Rattle.paper.specs.declared.Counts.{Counts}
 use Rattle.laws.proofs.Judging.{rows-trailer, rows-back, rows-cards}
-use Rattle.cards.proofs.Rows.{lent, at-row}
+use Rattle.laws.proofs.Rows.{lent, at-row}
 
 mul-at : tie.Need-mul-at
 mul-at c = search needs

@@ -11,7 +11,8 @@ use Rattle.paper.specs.Cards.{before, rowAt}
 use Rattle.paper.specs.declared.About.{About}
 use Rattle.paper.specs.declared.Counts.{Counts}
 use Rattle.paper.specs.declared.Kind.the-variants.{E}
-use Rattle.cards.proofs.OneCard.{some-before, of-triangle}
+use Rattle.kinds.proofs.Sections.{some-before}
+use Rattle.cards.proofs.Asking.{of-triangle}
 
 counted : (z : Counts) (s : ℕ) {b : ℕ} {a : About} → b ≡ before z s → a ≡ about E → s ≡ a .section → b ≡ 1 + z .nodes + z .materials
 unfolding about

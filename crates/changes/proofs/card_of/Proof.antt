@@ -8,7 +8,7 @@ use Rattle.paper.specs.Judge.{cardNamed}
 use Rattle.paper.specs.declared.Counts.{Counts}
 use Rattle.laws.proofs.Judged.{deck}
 use Rattle.laws.proofs.Targets.{named-told}
-use Rattle.cards.specs.Asks.{Naming}
+use Rattle.naming.specs.Asks.{Naming}
 
 field-requires : tie.Need-field-requires
 field-requires c κs = let d = deck (c .before .args .table .now) (c .before .pre .judge) in omega (arith, d .whole, c .before .pre .inside)

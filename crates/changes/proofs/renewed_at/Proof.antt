@@ -3,7 +3,7 @@ use Rattle.changes.proofs.renewed_at.Statement.{statement}
 use Rattle.changes.proofs.renewed_at.Tie as tie
 use mathlib.Core.Path.{_∙_}
 use Rattle.paper_changes.specs.Changes.{renewed}
-use Rattle.cards.proofs.Rows.{lent}
+use Rattle.laws.proofs.Rows.{lent}
 
 mul-from : tie.Need-mul-from
 mul-from c = search needs

@@ -7,7 +7,7 @@ use native.Mathlib.Omega.{arith}
 use Rattle.whole.proofs.First.{Looking, look-start, look-here, look-on, look-end}
 use Rattle.paper.specs.Cards.{rowAt}
 use Rattle.paper_records.specs.Records.{isMade}
-use Rattle.cards.proofs.Rows.{first-at}
+use Rattle.laws.proofs.Rows.{first-at}
 
 abbrev Inv-loop : tie.InvT-loop
 Inv-loop t rows i₀ i = Looking (λ row. isMade (rowAt t row)) rows i

@@ -9,7 +9,7 @@ use Rattle.whole.proofs.First.{Looking, look-start, look-here, look-on, look-en
 use Rattle.paper.specs.Kinds.{about, kindOf}
 use Rattle.paper.specs.Cards.{rowAt}
 use Rattle.paper.specs.declared.Kind.the-variants.{T}
-use Rattle.cards.proofs.Rows.{first-at}
+use Rattle.laws.proofs.Rows.{first-at}
 use Rattle.import.proofs.Rows.{late, place-found, place-all}
 
 abbrev Inv-loop : tie.InvT-loop

@@ -12,7 +12,7 @@ use Rattle.whole.proofs.Lists.{put-length, put-beyond}
 use Rattle.paper.specs.Cards.{rowAt}
 use Rattle.paper.specs.Calls.{joined}
 use Rattle.paper_records.specs.Records.{secondRow}
-use Rattle.deck.proofs.InRows.{rows-more, rows-end}
+use Rattle.laws.proofs.InRows.{rows-more, rows-end}
 
 abbrev Inv-loop : tie.InvT-loop
 Inv-loop counts s t bytes rows out₀ i₀ out i = (i ≤ rows) × (length out ≡ length out₀) × (take (i * 6) out ++ joined (secondRow counts (rowAt t) bytes) (rows - i) i ≡ joined (secondRow counts (rowAt t) bytes) rows 0) × (drop (rows * 6) out ≡ drop (rows * 6) out₀)

@@ -8,8 +8,8 @@ use Rattle.whole.specs.Squares.{at}
 use Rattle.starts.specs.Lent.{wide}
 use Rattle.triangle.specs.Forms.{numbers}
 use Rattle.laws.proofs.Places.{addSquare}
-use Rattle.packed.specs.Asks.{Takes}
-use Rattle.packed.proofs.Spots.{turned-as}
+use Rattle.adding.specs.Asks.{Takes}
+use Rattle.adding.proofs.Spots.{turned-as}
 use Rattle.change.proofs.Forming.{row-room}
 
 stored-requires : tie.Need-stored-requires

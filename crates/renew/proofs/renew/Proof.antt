@@ -2,7 +2,7 @@ use borrow.Author.Needs.{needs}
 use Rattle.renew.proofs.renew.Statement.{statement}
 use Rattle.renew.proofs.renew.Tie as tie
 use native.Mathlib.Omega.{arith}
-use Rattle.packed.proofs.Spots.{long-few}
+use Rattle.adding.proofs.Spots.{long-few}
 use Rattle.renew.proofs.Renewing.{least-asks, inside, refactors, factor-refused, at-within, accepts, all-renewed}
 
 corners-of-requires : tie.Need-corners-of-requires

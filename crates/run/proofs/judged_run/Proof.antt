@@ -7,7 +7,7 @@ use Rattle.paper_kept.specs.KeptCalls.{kept}
 use Rattle.laws.proofs.Cursor.{cursor-next}
 use Rattle.laws.proofs.Turns.{run-first-refused, run-opened}
 use Rattle.changes.specs.Asks.{said}
-use Rattle.turns.proofs.Turning.{leaves-at}
+use Rattle.turn.proofs.Turning.{leaves-at}
 
 first-change-requires : tie.Need-first-change-requires
 first-change-requires c κs = search needs

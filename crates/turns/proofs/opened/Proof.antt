@@ -7,8 +7,8 @@ use Rattle.paper_kept.specs.KeptCalls.{kept}
 use Rattle.laws.proofs.Turns.{opens-refused}
 use Rattle.step.specs.Asks.{opens}
 use Rattle.step.proofs.Judging.{told-refused, past}
-use Rattle.turns.proofs.Past.{any-work}
-use Rattle.turns.proofs.Turning.{first-turn}
+use Rattle.turn.proofs.Past.{any-work}
+use Rattle.turn.proofs.Turning.{first-turn}
 
 judge-requires : tie.Need-judge-requires
 judge-requires c κs = search needs

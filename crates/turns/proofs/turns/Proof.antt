@@ -8,8 +8,8 @@ use lib.ListN.{length}
 use Rattle.paper_kept.specs.KeptCalls.{kept}
 use Rattle.laws.proofs.Turns.{Turned, turns-start, turns-end}
 use Rattle.step.specs.Asks.{Past}
-use Rattle.turns.proofs.Past.{past-still}
-use Rattle.turns.proofs.Turning.{leaves-at, not-turned, turned-on}
+use Rattle.turn.proofs.Past.{past-still}
+use Rattle.turn.proofs.Turning.{leaves-at, not-turned, turned-on}
 
 abbrev Inv-loop : tie.InvT-loop
 Inv-loop table₀ p₀ a₀ factor₀ work₀ starts temperatures₀ carried₀ long first k at₀ count₀ table p a factor work temperatures carried at count =

@@ -7,7 +7,7 @@ use lib.IntN.{ℤ}
 use lib.ListN.{length}
 use Rattle.starts.specs.Lent.{Starts, wide}
 use Rattle.triangle.specs.Forms.{numbers}
-use Rattle.packed.specs.Asks.{Takes}
+use Rattle.adding.specs.Asks.{Takes}
 use Rattle.work.specs.Asks.{added, addedFixed}
 
 copy-requires : tie.Need-copy-requires
