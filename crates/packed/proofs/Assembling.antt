@@ -26,7 +26,6 @@ use Rattle.laws.proofs.Tables.{row-field}
 use Rattle.laws.proofs.Spans.{Inside, inside-each, part-corners, body-inner, in-loads}
 use Rattle.laws.proofs.Square.{part-sound}
 use Rattle.laws.proofs.Elements.{sound, part-distinct}
-use Rattle.laws.proofs.Weights.{part-P, part-A}
 use Rattle.laws.proofs.Places.{cornerRow, addSquare, squareP, squareA, added-P, added-A}
 use Rattle.laws.proofs.Coupled.{corners-in}
 use Rattle.starts.specs.Lent.{wide, Turned}
@@ -38,7 +37,7 @@ use Rattle.part.specs.declared.Corners.{Corners}
 use Rattle.part.specs.declared.Does.{Does}
 use Rattle.part.proofs.Parts.{As, as-kind, card-at}
 use Rattle.adding.specs.Asks.{Keeps, Takes}
-use Rattle.packed.specs.Asks.{Sound, Suits, Walked, addsTo, has}
+use Rattle.packed.specs.Asks.{Sound, Suits, Walked}
 use Rattle.adding.proofs.Spots.{wide-zeros, turned-as}
 use Rattle.packed.proofs.Squares.{takes, gives}
 
@@ -76,32 +75,33 @@ idle-A x k e f i j =
     nil true false k c f p q r = rw (p, q, r)
     nil false s k c f p q r = refl
 
--- what neither conducts nor films adds to neither, what only films not to P
-idle-by : (all : Bool) (t card : List ℕ) (it : Does) (x : Part) → As t card it x → has all it ≡ false → (i j : ℕ) → addsTo all x i j ≡ pos 0
-idle-by true t card it x h q =
-    let (c, f) = neither (it .conducts) (it .films) q in
-    idle-A x (λ a b. h .conductance a b ∙ rw c) (h .capacity ∙ rw c) (h .film ∙ rw f)
-  where
-    neither : (c f : Bool) → (c || true && f) ≡ false → (c ≡ false) × (f ≡ false)
-    neither true f q = never (sym q)
-    neither false f q = (refl, q)
-idle-by false t card it x h q = idle-P x (h .capacity ∙ rw (first (it .conducts) (it .films) q))
-  where
-    first : (c f : Bool) → (c || false && f) ≡ false → c ≡ false
-    first true f q = never (sym q)
-    first false f q = refl
+-- what does not conduct adds nothing to P, and to A only what it films
+idle-by-P : {t card : List ℕ} (it : Does) (x : Part) → As t card it x → it .conducts ≡ false → (i j : ℕ) → addsP x i j ≡ pos 0
+idle-by-P it x h q = idle-P x (h .capacity ∙ rw q)
 
-pub idle-row : (all : Bool) (t : List ℕ) (row : ℕ) → has all (doesBy (kindIn t row)) ≡ false → (i j : ℕ) → addsTo all (partAt t row) i j ≡ pos 0
-idle-row all t row = idle-by all t (rowAt t row) (doesBy (kindIn t row)) (partAt t row) (as-kind t (rowAt t row) (kindIn t row))
+idle-by-A : {t card : List ℕ} (it : Does) (x : Part) → As t card it x → it .conducts ≡ false → it .films ≡ false → (i j : ℕ) → addsA x i j ≡ pos 0
+idle-by-A it x h q f = idle-A x (λ a b. h .conductance a b ∙ rw q) (h .capacity ∙ rw q) (h .film ∙ rw f)
 
--- what has a square stirs
-pub has-stirs : (all : Bool) (t : List ℕ) (row : ℕ) → has all (doesBy (kindIn t row)) ≡ true → partAt t row .stirs ≡ true
-has-stirs all t row q = as-kind t (rowAt t row) (kindIn t row) .stirs ∙ go all (doesBy (kindIn t row) .conducts) (doesBy (kindIn t row) .films) q
-  where
-    go : (all c f : Bool) → (c || all && f) ≡ true → (c || f) ≡ true
-    go all true f q = refl
-    go true false f q = q
-    go false false f q = never q
+module _ (t : List ℕ) (row : ℕ) where
+  own : As t (rowAt t row) (doesBy (kindIn t row)) (partAt t row)
+  own = as-kind t (rowAt t row) (kindIn t row)
+
+  pub idle-row-P : doesBy (kindIn t row) .conducts ≡ false → (i j : ℕ) → addsP (partAt t row) i j ≡ pos 0
+  idle-row-P = idle-by-P (doesBy (kindIn t row)) (partAt t row) own
+
+  pub idle-row-A : doesBy (kindIn t row) .conducts ≡ false → doesBy (kindIn t row) .films ≡ false → (i j : ℕ) → addsA (partAt t row) i j ≡ pos 0
+  idle-row-A = idle-by-A (doesBy (kindIn t row)) (partAt t row) own
+
+  -- what conducts or films stirs
+  pub conducts-stirs : doesBy (kindIn t row) .conducts ≡ true → partAt t row .stirs ≡ true
+  conducts-stirs q = own .stirs ∙ ap (λ (c : Bool). c || doesBy (kindIn t row) .films) q
+
+  pub films-stirs : doesBy (kindIn t row) .films ≡ true → partAt t row .stirs ≡ true
+  films-stirs q = own .stirs ∙ ap (λ (f : Bool). doesBy (kindIn t row) .conducts || f) q ∙ either (doesBy (kindIn t row) .conducts)
+    where
+      either : (c : Bool) → (c || true) ≡ true
+      either true = refl
+      either false = refl
 
 -- ---- a card that stirs: it stands before Z, and if it conducts it is an element of some area
 
@@ -217,11 +217,6 @@ walk-more n row adds {st} {ks₀} {ks} {ls} e g = record {
       g .is
       ∙ lower-ext n _ _ (λ i j a b. (λ d. (ap (λ (l : List ℤ). entry l i j) (e .is) ∙ lower-at n i j (λ i j. sum row (λ r. adds r i j)) a b) d +ℤ adds row i j) ∙ sym (sum-more row (λ r. adds r i j)));
 }
-
--- how large it is
-pub walk-size : (all : Bool) (t : List ℕ) (s : Sound t) (row i j : ℕ) → row ≤ rows t → natAbs (sum row (λ r. addsTo all (partAt t r) i j)) ≤ 2 ^ 33
-walk-size true t s row i j h = part-A t (s .deck) (s .passed) row i j h
-walk-size false t s row i j h = part-P t (s .deck) (s .passed) row i j h
 
 -- what a turn asks
 pub walk-card : (t : List ℕ) (adds : ℕ → ℕ → ℕ → ℤ) (row : ℕ) {st : List ℕ} {ks₀ ks : List ℤ} → Sound t → Suits t st (length ks₀) → row < rows t → Turned st ks₀ ks (partly (nodes t) adds row) → ((i j : ℕ) → natAbs (sum row (λ r. adds r i j)) ≤ 2 ^ 33)

@@ -1,19 +1,15 @@
 -- What the functions ask of decks and kept rows.
 use mathlib.Core.Path.{_≡_}
-use mathlib.Core.Bool.{Bool, true, false, _&&_, _||_}
 use mathlib.Core.List.{List}
 use Prim.Native.Nat.{ℕ, _<_, _^_}
 use lib.IntN.{ℤ}
 use lib.ListN.{length}
 use Rattle.whole.specs.Packed.{Bounded}
 use Rattle.paper.specs.Cards.{rows, nodes, elements}
-use Rattle.paper.specs.Parts.{Part}
-use Rattle.paper.specs.Matrices.{addsP, addsA}
 use Rattle.paper.specs.Building.{elementsFrom}
 use Rattle.paper.specs.declared.Answer.the-variants.{Done}
 use Rattle.laws.proofs.Decks.{Deck}
 use Rattle.starts.specs.Lent.{Starts, wide, Covers}
-use Rattle.part.specs.declared.Does.{Does}
 
 -- a judged deck whose elements pass 5 and 6
 pub record Sound (t : List ℕ) : Type 0 where
@@ -32,11 +28,3 @@ pub record Walked (t : List ℕ) (row : ℕ) (st : List ℕ) (ks : List ℤ) : T
   pub inside : row < rows t
   pub suits : Suits t st (length ks)
   pub small : Bounded (2 ^ 58) (wide st ks)
-
--- what a part adds to A, or to P; and whether a kind that does so has a square there
-abbrev pub addsTo : Bool → Part → ℕ → ℕ → ℤ
-addsTo true = addsA
-addsTo false = addsP
-
-abbrev pub has : Bool → Does → Bool
-has all it = it .conducts || all && it .films

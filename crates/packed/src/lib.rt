@@ -1,28 +1,29 @@
 // A matrix without its leading zeros: A and P assembled. Slices here are of the matrix length, and `starts` has a start for each row.
 ghost use mathlib.Core.Path.{_≡_};
+ghost use mathlib.Core.Bool.{false};
 ghost use lib.IntN.{_+ℤ_};
 ghost use lib.ListN.{length};
 ghost use Rattle.whole.specs.Packed.{entry, lower};
-ghost use Rattle.paper.specs.Kinds.{kindOf};
 ghost use Rattle.paper.specs.Cards.{nodes};
 ghost use Rattle.paper.specs.Parts.{partAt};
 ghost use Rattle.paper.specs.Matrices as matrices;
+ghost use Rattle.laws.proofs.Decks.{kindIn};
 ghost use Rattle.starts.specs.Lent.{wide, Turned};
 ghost use Rattle.part.specs.Forms.{doesBy};
-ghost use Rattle.packed.specs.Asks.{Sound, Suits, Walked, has};
+ghost use Rattle.packed.specs.Asks.{Sound, Suits, Walked};
 
-// Whether a card of this letter has a square in A, or in P.
-fn adds(letter: u32, all: bool) -> bool
-    ensures { λ r. ⌜ r ≡ has all (doesBy (kindOf letter)) ⌝ }
+// What the card in a row adds to A where it does not conduct: the square of a film, which is of one number.
+fn add_film(table: &[u32], row: usize, xs: &mut [i64], starts: &[u32])
+    requires { ⌜ Walked (now table) row (now starts) (now xs) × (doesBy (kindIn (now table) row) .conducts ≡ false) ⌝ }
+    ensures { λ _. ⌜ Turned (now (starts .entry)) (now (xs .entry)) (now (xs .exit)) (lower (nodes (now (table .entry))) (λ i j. entry (wide (now (starts .entry)) (now (xs .entry))) i j +ℤ matrices.addsA (partAt (now (table .entry)) row) i j)) ⌝ }
 {
-    let it = part::by_letter(letter);
-    if it.conducts {
-        return true;
+    let card = element::card_at(table, row);
+    let it = part::by_letter(card[0]);
+    if !it.films {
+        return;
     }
-    if all {
-        return it.films;
-    }
-    false
+    let c = part::corners_of(table, card);
+    adding::add_square(xs, starts, c, square::mass(part::film(table, card)));
 }
 
 // What the card in a row adds to A.
@@ -30,16 +31,14 @@ fn add_to_a(table: &[u32], row: usize, xs: &mut [i64], starts: &[u32])
     requires { ⌜ Walked (now table) row (now starts) (now xs) ⌝ }
     ensures { λ _. ⌜ Turned (now (starts .entry)) (now (xs .entry)) (now (xs .exit)) (lower (nodes (now (table .entry))) (λ i j. entry (wide (now (starts .entry)) (now (xs .entry))) i j +ℤ matrices.addsA (partAt (now (table .entry)) row) i j)) ⌝ }
 {
-    if !adds(element::field(table, row, 0), true) {
+    let card = element::card_at(table, row);
+    let it = part::by_letter(card[0]);
+    if !it.conducts {
+        add_film(table, row, xs, starts);
         return;
     }
-    let c = part::corners_of(table, element::card_at(table, row));
-    adding::add_square(
-        xs,
-        starts,
-        c,
-        part::square_a(table, element::card_at(table, row)),
-    );
+    let c = part::corners_of(table, card);
+    adding::add_square(xs, starts, c, part::square_a(table, card));
 }
 
 // What it adds to P and to A, worked out once for both.
@@ -48,17 +47,16 @@ fn add_card(table: &[u32], row: usize, p: &mut [i64], a: &mut [i64], starts: &[u
     ensures { λ _. ⌜ Turned (now (starts .entry)) (now (p .entry)) (now (p .exit)) (lower (nodes (now (table .entry))) (λ i j. entry (wide (now (starts .entry)) (now (p .entry))) i j +ℤ matrices.addsP (partAt (now (table .entry)) row) i j)) ⌝ }
     ensures { λ _. ⌜ Turned (now (starts .entry)) (now (a .entry)) (now (a .exit)) (lower (nodes (now (table .entry))) (λ i j. entry (wide (now (starts .entry)) (now (a .entry))) i j +ℤ matrices.addsA (partAt (now (table .entry)) row) i j)) ⌝ }
 {
-    let letter = element::field(table, row, 0);
-    if !adds(letter, true) {
+    let card = element::card_at(table, row);
+    let it = part::by_letter(card[0]);
+    if !it.conducts {
+        add_film(table, row, a, starts);
         return;
     }
-    let c = part::corners_of(table, element::card_at(table, row));
+    let c = part::corners_of(table, card);
     let mut stored: u64 = 0;
-    let q = part::terms(table, element::card_at(table, row), &mut stored);
+    let q = part::terms(table, card, &mut stored);
     adding::add_square(a, starts, c, q);
-    if !adds(letter, false) {
-        return;
-    }
     adding::add_square(p, starts, c, square::mass(stored));
 }
 

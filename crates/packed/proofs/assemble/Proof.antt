@@ -3,20 +3,20 @@ use borrow.Author.Needs.{needs}
 use Rattle.packed.proofs.assemble.Statement.{statement}
 use Rattle.packed.proofs.assemble.Tie as tie
 use mathlib.Core.Path.{sym, ap, subst, _∙_}
-use mathlib.Core.Bool.{true, false}
 use Prim.Native.Nat.{_-_, _≤_}
 use native.Mathlib.Omega.{arith}
 use lib.ListN.{length}
 use Rattle.paper.specs.Cards.{rows, nodes}
-use Rattle.paper.specs.Matrices.{P, A}
+use Rattle.paper.specs.Matrices.{P, A, addsP, addsA}
 use Rattle.paper.specs.Parts.{partAt}
+use Rattle.laws.proofs.Weights.{part-P, part-A}
 use Rattle.starts.specs.Lent.{Turned}
-use Rattle.packed.specs.Asks.{Suits, addsTo}
-use Rattle.packed.proofs.Assembling.{partly, walk-none, walk-more, walk-size, walk-card}
+use Rattle.packed.specs.Asks.{Suits}
+use Rattle.packed.proofs.Assembling.{partly, walk-none, walk-more, walk-card}
 
 abbrev Inv-loop : tie.InvT-loop
 Inv-loop table p₀ a₀ starts row₀ p a row =
-    (row ≤ rows table) × Turned starts p₀ p (partly (nodes table) (λ r. addsTo false (partAt table r)) row) × Turned starts a₀ a (partly (nodes table) (λ r. addsTo true (partAt table r)) row)
+    (row ≤ rows table) × Turned starts p₀ p (partly (nodes table) (λ r. addsP (partAt table r)) row) × Turned starts a₀ a (partly (nodes table) (λ r. addsA (partAt table r)) row)
 
 abbrev μ-loop : tie.MeasureT-loop
 μ-loop table p₀ a₀ starts row₀ p a row = rows table - row
@@ -31,8 +31,8 @@ loop-holds : tie.Need-loop-holds Inv-loop μ-loop
 loop-holds c =
     let t = c .before .before .before .before .before .before .before .before .args .table .now in (
       omega arith,
-      walk-none (nodes t) (length (c .before .before .before .before .before .before .before .before .args .p .now)) (λ r. addsTo false (partAt t r)) (c .before .before .before .before .before .before .before .before .args .starts .now) (c .before .before .before .before .fill .last .0) (c .before .before .before .before .before .before .before .before .pre .1 .rows) (c .before .before .before .before .fill .ensures),
-      walk-none (nodes t) (length (c .before .before .before .before .before .before .before .before .args .a .now)) (λ r. addsTo true (partAt t r)) (c .before .before .before .before .before .before .before .before .args .starts .now) (c .before .fill2 .last .0) (c .before .before .before .before .before .before .before .before .pre .2 .rows) (c .before .fill2 .ensures),
+      walk-none (nodes t) (length (c .before .before .before .before .before .before .before .before .args .p .now)) (λ r. addsP (partAt t r)) (c .before .before .before .before .before .before .before .before .args .starts .now) (c .before .before .before .before .fill .last .0) (c .before .before .before .before .before .before .before .before .pre .1 .rows) (c .before .before .before .before .fill .ensures),
+      walk-none (nodes t) (length (c .before .before .before .before .before .before .before .before .args .a .now)) (λ r. addsA (partAt t r)) (c .before .before .before .before .before .before .before .before .args .starts .now) (c .before .fill2 .last .0) (c .before .before .before .before .before .before .before .before .pre .2 .rows) (c .before .fill2 .ensures),
     )
 
 mul-loop : tie.Need-mul-loop Inv-loop μ-loop
@@ -41,8 +41,8 @@ mul-loop c = omega (arith, c .loop .inv .0, c .before .before .before .before .b
 add-card-requires : tie.Need-add-card-requires Inv-loop μ-loop
 add-card-requires c κs =
     let t = c .before .before .before .before .before .before .before .before .before .before .before .before .args .table .now in (
-      walk-card t (λ r. addsTo false (partAt t r)) (c .before .before .before .loop .row) (c .before .before .before .before .before .before .before .before .before .before .before .before .pre .0) (subst (Suits t (c .before .before .before .before .before .before .before .before .before .before .before .before .args .starts .now)) (sym (c .before .before .before .before .before .before .before .before .fill .kept .0)) (c .before .before .before .before .before .before .before .before .before .before .before .before .pre .1)) (omega (arith, c .before .before .before .before .before .before .before .before .before .before .before .before .pre .0 .deck .whole)) (c .before .before .before .loop .inv .1) (λ i j. walk-size false t (c .before .before .before .before .before .before .before .before .before .before .before .before .pre .0) (c .before .before .before .loop .row) i j (c .before .before .before .loop .inv .0)),
-      walk-card t (λ r. addsTo true (partAt t r)) (c .before .before .before .loop .row) (c .before .before .before .before .before .before .before .before .before .before .before .before .pre .0) (subst (Suits t (c .before .before .before .before .before .before .before .before .before .before .before .before .args .starts .now)) (sym (c .before .before .before .before .before .fill2 .kept .0)) (c .before .before .before .before .before .before .before .before .before .before .before .before .pre .2)) (omega (arith, c .before .before .before .before .before .before .before .before .before .before .before .before .pre .0 .deck .whole)) (c .before .before .before .loop .inv .2) (λ i j. walk-size true t (c .before .before .before .before .before .before .before .before .before .before .before .before .pre .0) (c .before .before .before .loop .row) i j (c .before .before .before .loop .inv .0)),
+      walk-card t (λ r. addsP (partAt t r)) (c .before .before .before .loop .row) (c .before .before .before .before .before .before .before .before .before .before .before .before .pre .0) (subst (Suits t (c .before .before .before .before .before .before .before .before .before .before .before .before .args .starts .now)) (sym (c .before .before .before .before .before .before .before .before .fill .kept .0)) (c .before .before .before .before .before .before .before .before .before .before .before .before .pre .1)) (omega (arith, c .before .before .before .before .before .before .before .before .before .before .before .before .pre .0 .deck .whole)) (c .before .before .before .loop .inv .1) (λ i j. part-P t (c .before .before .before .before .before .before .before .before .before .before .before .before .pre .0 .deck) (c .before .before .before .before .before .before .before .before .before .before .before .before .pre .0 .passed) (c .before .before .before .loop .row) i j (c .before .before .before .loop .inv .0)),
+      walk-card t (λ r. addsA (partAt t r)) (c .before .before .before .loop .row) (c .before .before .before .before .before .before .before .before .before .before .before .before .pre .0) (subst (Suits t (c .before .before .before .before .before .before .before .before .before .before .before .before .args .starts .now)) (sym (c .before .before .before .before .before .fill2 .kept .0)) (c .before .before .before .before .before .before .before .before .before .before .before .before .pre .2)) (omega (arith, c .before .before .before .before .before .before .before .before .before .before .before .before .pre .0 .deck .whole)) (c .before .before .before .loop .inv .2) (λ i j. part-A t (c .before .before .before .before .before .before .before .before .before .before .before .before .pre .0 .deck) (c .before .before .before .before .before .before .before .before .before .before .before .before .pre .0 .passed) (c .before .before .before .loop .row) i j (c .before .before .before .loop .inv .0)),
     )
 
 add-row : tie.Need-add-row Inv-loop μ-loop
@@ -55,8 +55,8 @@ loop-again : tie.Need-loop-again Inv-loop μ-loop
 loop-again c =
     let t = c .before .before .before .before .before .before .before .before .before .before .before .before .before .before .before .args .table .now in (
       omega (arith, c .before .before .before .before .before .before .before .before .before .before .before .before .before .before .before .pre .0 .deck .whole),
-      walk-more (nodes t) (c .before .before .before .before .before .before .loop .row) (λ r. addsTo false (partAt t r)) (c .before .before .before .before .before .before .loop .inv .1) (c .before .before .add-card .ensures .0),
-      walk-more (nodes t) (c .before .before .before .before .before .before .loop .row) (λ r. addsTo true (partAt t r)) (c .before .before .before .before .before .before .loop .inv .2) (c .before .before .add-card .ensures .1),
+      walk-more (nodes t) (c .before .before .before .before .before .before .loop .row) (λ r. addsP (partAt t r)) (c .before .before .before .before .before .before .loop .inv .1) (c .before .before .add-card .ensures .0),
+      walk-more (nodes t) (c .before .before .before .before .before .before .loop .row) (λ r. addsA (partAt t r)) (c .before .before .before .before .before .before .loop .inv .2) (c .before .before .add-card .ensures .1),
     )
 
 same-length : tie.Need-same-length Inv-loop μ-loop
@@ -69,8 +69,8 @@ returns : tie.Need-returns Inv-loop μ-loop
 unfolding P A
 returns c =
     let t = c .before .before .before .before .before .before .before .before .before .before .args .table .now in (
-      record { long = c .before .loop .inv .1 .long ∙ c .before .before .before .before .before .before .fill .kept .0; is = c .before .loop .inv .1 .is ∙ ap (partly (nodes t) (λ r. addsTo false (partAt t r))) (omega (arith, c .before .loop .inv .0, c .before .before .before .before .before .before .before .before .before .before .pre .0 .deck .whole)) },
-      record { long = c .before .loop .inv .2 .long ∙ c .before .before .before .fill2 .kept .0; is = c .before .loop .inv .2 .is ∙ ap (partly (nodes t) (λ r. addsTo true (partAt t r))) (omega (arith, c .before .loop .inv .0, c .before .before .before .before .before .before .before .before .before .before .pre .0 .deck .whole)) },
+      record { long = c .before .loop .inv .1 .long ∙ c .before .before .before .before .before .before .fill .kept .0; is = c .before .loop .inv .1 .is ∙ ap (partly (nodes t) (λ r. addsP (partAt t r))) (omega (arith, c .before .loop .inv .0, c .before .before .before .before .before .before .before .before .before .before .pre .0 .deck .whole)) },
+      record { long = c .before .loop .inv .2 .long ∙ c .before .before .before .fill2 .kept .0; is = c .before .loop .inv .2 .is ∙ ap (partly (nodes t) (λ r. addsA (partAt t r))) (omega (arith, c .before .loop .inv .0, c .before .before .before .before .before .before .before .before .before .before .pre .0 .deck .whole)) },
     )
 
 pub assemble-spec : {M : Type 1} → statement M
