@@ -35,7 +35,7 @@ pub fn by_own(
     ensures { λ r. ⌜ leftKept r (kept (now (table .entry)) (now (p .exit)) (now (a .exit)) (now (factor .exit)) (now (work .exit)) (now (starts .exit)) [] []) ≡ keptBuild (kept (now (table .entry)) (now (p .entry)) (now (a .entry)) (now (factor .entry)) (now (work .entry)) (now (starts .entry)) [] []) ⌝ }
 {
     let n = own.len();
-    let long = starts::write(table, &mut own[..]);
+    let long = starts::of_deck(table, &mut own[..]);
     let room = long <= work.len();
     if !lent::enough(&p[..], &a[..], &factor[..], &starts[..], room, long, n) {
         return Answer::Refused(Refusal::Short);

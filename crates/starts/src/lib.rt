@@ -220,7 +220,7 @@ fn astray(firsts: &[u8], starts: &[u32]) -> Found
 
 // ---- of an accepted deck; `all` is room for its first columns
 
-fn write_by(table: &[u32], all: &mut [u8], starts: &mut [u32]) -> usize
+fn of_deck_by(table: &[u32], all: &mut [u8], starts: &mut [u32]) -> usize
     requires { ⌜ Deck (now table) × (length (now all) ≡ nodes (now table)) × (length (now starts) ≡ nodes (now table)) ⌝ }
     ensures { λ r. ⌜ Laid r (firstOf (now (table .entry))) (nodes (now (table .entry))) (now (starts .exit)) ⌝ }
 {
@@ -229,13 +229,13 @@ fn write_by(table: &[u32], all: &mut [u8], starts: &mut [u32]) -> usize
 }
 
 // Writes the row starts, and gives the matrix length.
-pub fn write(table: &[u32], starts: &mut [u32]) -> usize
+pub fn of_deck(table: &[u32], starts: &mut [u32]) -> usize
     requires { ⌜ Deck (now table) × (length (now starts) ≡ nodes (now table)) ⌝ }
     ensures { λ r. ⌜ Laid r (firstOf (now (table .entry))) (nodes (now (table .entry))) (now (starts .exit)) ⌝ }
 {
     let mut all = [0u8; 96];
     let n = starts.len();
-    write_by(table, &mut all[0..n], &mut starts[..])
+    of_deck_by(table, &mut all[0..n], &mut starts[..])
 }
 
 fn find_by(table: &[u32], all: &mut [u8], starts: &[u32]) -> Found

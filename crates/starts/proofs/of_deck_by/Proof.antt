@@ -1,7 +1,7 @@
 -- The deck's first columns, laid out.
 use borrow.Author.Needs.{needs}
-use Rattle.starts.proofs.write_by.Statement.{statement}
-use Rattle.starts.proofs.write_by.Tie as tie
+use Rattle.starts.proofs.of_deck_by.Statement.{statement}
+use Rattle.starts.proofs.of_deck_by.Tie as tie
 use mathlib.Core.Path.{_∙_, sym}
 use Rattle.starts.proofs.Laws.{as-firsts, laid-of}
 
@@ -20,5 +20,5 @@ same-length-2 c = search needs
 returns : tie.Need-returns
 returns c = laid-of (c .before .before .before .before .before .before .before .before .before .before .before .before .args .table .now) (c .before .before .before .before .before .before .before .firsts .ensures) (c .before .before .lay .ensures)
 
-pub write-by-spec : {M : Type 1} → statement M
-write-by-spec = tie.close (tie.spec firsts-requires lay-requires same-length same-length-2 returns)
+pub of-deck-by-spec : {M : Type 1} → statement M
+of-deck-by-spec = tie.close (tie.spec firsts-requires lay-requires same-length same-length-2 returns)
