@@ -1,5 +1,7 @@
 // The stepping program: reads a deck from standard input, builds, starts every node at D's start temperature with nothing carried,
 // does D's steps with their changes and prints the temperatures. A refusal prints `R number place` alone.
+#![tactic(auto)]
+
 use libc::{STDIN_FILENO, STDOUT_FILENO};
 use paper::{Answer, Ran, Refusal};
 use ticks::Ticks;

@@ -1,5 +1,7 @@
 // Reads records of the bench tool and the deck after them from standard input, and writes the deck that has them as cards. A refusal
 // prints `R number place` alone. The records are that deck's notes: the reader passes them over.
+#![tactic(auto)]
+
 use libc::{STDIN_FILENO, STDOUT_FILENO};
 
 // A refusal out of a packed answer.

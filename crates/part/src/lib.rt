@@ -1,4 +1,6 @@
 // What a card adds to the model, of its six numbers. A new kind of card is a line in `by_kind`, and the code of its own part.
+#![tactic(auto)]
+
 ghost use Rattle.std.specs.Prelude.{◌≡◌, List, ℕ, ◌+◌, ◌*◌, ◌-◌, ◌^◌, ◌≤◌, ◌<◌, min, length, get_or};
 ghost use Rattle.whole.specs.Squares.{Holds};
 ghost use Rattle.paper.specs.Kinds.{kind_of};
@@ -10,14 +12,14 @@ ghost use Rattle.part.specs.Asks.{Card, Solid, Full};
 use paper::{Kind, Node};
 
 // The corners of a card's part: the first so many of these.
-#[derive(Drop)]
+#[derive(Clone, Copy)]
 pub struct Corners {
     pub count: usize,
     pub nodes: [Node; 4],
 }
 
 // How many corners a kind's fields name, whether it has those of the element that it names, and what it does over them. Two are an edge.
-#[derive(Drop)]
+#[derive(Clone, Copy)]
 pub struct Does {
     pub corners: usize,
     pub named: bool,

@@ -1,4 +1,6 @@
 // A record of the bench tool: its values from their IEEE 754 bits to whole numbers, and its card. No other crate has floats.
+#![tactic(auto)]
+
 ghost use Rattle.std.specs.Prelude.{◌≡◌, true, not, ℕ, ◌+◌, ◌*◌, ◌^◌, ◌<◌, ◌≤◌, min, T, length};
 ghost use Rattle.std.specs.Float.{binary32};
 ghost use Rattle.std.specs.Float.Ieee.{to_bits, is_nan};
@@ -10,7 +12,7 @@ ghost use Rattle.paper_records.specs.Records.{half_at, word_at, heat_card, film_
 ghost use Rattle.records.specs.Decoding.{single, told, told_of, card_of, outcome};
 
 // A record's values: heat in W; a film in W/(m² K) beside its ambient in kelvins; a fixed node in kelvins.
-#[derive(Drop)]
+#[derive(Clone, Copy)]
 pub enum Record {
     Heat(f32),
     Film(f32, f32),
@@ -18,7 +20,7 @@ pub enum Record {
 }
 
 // What 12 bytes read as: a record, or refusal 16 or 15.
-#[derive(Drop)]
+#[derive(Clone, Copy)]
 pub enum Decoded {
     Got(Record),
     Garbled,

@@ -1,4 +1,6 @@
 // Reads a deck from standard input and writes it back, without its notes: the same bytes from D to Z. A refusal prints `R number place` alone.
+#![tactic(auto)]
+
 ghost use Rattle.std.specs.Prelude.{◌*◌, ◌≤◌, length};
 
 use libc::{STDIN_FILENO, STDOUT_FILENO};
