@@ -1,0 +1,2 @@
+-- Laws of what is counted from 1.
+pub mod Counted

@@ -1,0 +1,2 @@
+-- Sizes of a part that was read.
+pub mod Sizes

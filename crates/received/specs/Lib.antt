@@ -1,0 +1,2 @@
+-- What is received of an input.
+pub mod Deck

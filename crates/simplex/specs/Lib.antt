@@ -1,0 +1,3 @@
+-- What the structs of the code stand for, and what functions ask.
+pub mod Asks
+pub mod Forms
