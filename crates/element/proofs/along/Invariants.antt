@@ -7,4 +7,4 @@ use Rattle.simplex.specs.Forms.{numbers}
 use Rattle.element.proofs.along.Given as goal
 
 abbrev pub invariant-loop-a : goal.invariant-loop-a
-invariant-loop-a g l = (length l.fields ≡ g.row.N) × ((b : ℕ) → b < l.a → get_or l.fields b 0 ≡ field l.table (get_or (numbers l.nodes) b 0) l.k)
+invariant-loop-a g l = (length l.fields ≡ g.row.N) × ((b : ℕ) → b < l.a → get_or l.fields b 0 ≡ field l.deck.table.now (get_or (numbers l.nodes) b 0) l.k)
